@@ -1,0 +1,92 @@
+// The answer lines: what reading a table gives, as one line of text, and what the lent edge arrays hold.
+
+use crate::table::{Edge, Model, Refusal};
+
+/// What reading a table gives.
+pub type Answer = Result<Model, Refusal>;
+
+/// The digest of a sequence of numbers.
+struct Digest {
+    value: u64,
+}
+
+impl Digest {
+    fn new() -> Digest {
+        Digest { value: 0 }
+    }
+
+    fn add(&mut self, number: u64) {
+        self.value = (self.value * 257 + number + 1) % 4_294_967_291;
+    }
+
+    fn count(&mut self, count: usize) {
+        self.add(count as u64);
+    }
+}
+
+/// The answer without the lent arrays. Edges from number `room` on stay out of the digest.
+pub fn line(answer: &Answer, room: usize) -> String {
+    match answer {
+        Err(refusal) => format!("refused {} place {}", refusal.number, refusal.place),
+        Ok(model) => format!(
+            "model {} {} {} atoms {} edges {} digest {}",
+            model.clocks,
+            model.labels.len(),
+            model.initial,
+            model.invariants.len(),
+            model.edges.len(),
+            model_digest(model, room)
+        ),
+    }
+}
+
+fn model_digest(model: &Model, room: usize) -> u64 {
+    let mut digest = Digest::new();
+    for &label in &model.labels {
+        digest.add(label.into());
+    }
+    for atom in &model.invariants {
+        for number in [atom.location, atom.clock, atom.comparison, atom.constant] {
+            digest.add(number.into());
+        }
+    }
+    for edge in model.edges.iter().take(room) {
+        for number in edge_numbers(edge) {
+            digest.add(number);
+        }
+        digest.count(edge.guards.len());
+        for guard in &edge.guards {
+            for number in [guard.clock, guard.comparison, guard.constant] {
+                digest.add(number.into());
+            }
+        }
+        digest.count(edge.branches.len());
+        for branch in &edge.branches {
+            digest.add(branch.weight.into());
+            digest.add(branch.target.into());
+            digest.add(branch.mask.into());
+        }
+    }
+    digest.value
+}
+
+/// What the four lent arrays say of an edge: place, source, action, denominator.
+fn edge_numbers(edge: &Edge) -> [u64; 4] {
+    [edge.place as u64, edge.source.into(), edge.action.into(), edge.denominator.into()]
+}
+
+/// The digest of the four lent arrays of `room` numbers each after the call.
+pub fn lent_digest(answer: &Answer, room: usize, fill: u8) -> u64 {
+    let mut digest = Digest::new();
+    for array in 0..4 {
+        for element in 0..room {
+            let before = u64::from(fill) + 256 * array as u64 + 1024 * element as u64;
+            let after = match answer {
+                Ok(model) => model.edges.get(element).map_or(before, |edge| edge_numbers(edge)[array]),
+                Err(_) => before,
+            };
+            digest.add(after);
+        }
+    }
+    digest.value
+}

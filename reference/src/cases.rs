@@ -1,0 +1,177 @@
+// The collection of stored cases for the test program: which there are, how they are written, what
+// they expect, and the checks that the collection makes on itself.
+
+use crate::answer::{self, Answer};
+use crate::borders;
+use crate::damage;
+use crate::generate;
+use crate::meetings;
+use crate::records::Records;
+use crate::rng::Rng;
+use crate::table::{self, Model, Refusal};
+use crate::vectors;
+use std::collections::HashSet;
+use std::fs;
+
+/// The number of the call that reads a table.
+const CALL_READ_TABLE: u8 = 1;
+/// The most edges that the lent arrays have room for.
+const LARGEST_ROOM: usize = 160;
+/// The longest table of a case, in bytes.
+const LONGEST: usize = 17_000;
+/// What the written cases may take, in bytes.
+const BUDGET: usize = 2_500_000;
+/// The fewest cases.
+const FEWEST: usize = 2_500;
+
+pub struct Cases {
+    /// The source of chance of the group at hand.
+    pub rng: Rng,
+    /// The tables added so far; a table comes twice only to be read with another room.
+    seen: HashSet<Vec<u8>>,
+    count: usize,
+    input: Vec<u8>,
+    output: String,
+    /// How often each refusal was given; acceptance stands at 0.
+    tally: [usize; 14],
+}
+
+impl Cases {
+    fn new() -> Cases {
+        Cases {
+            rng: Rng::for_group(0),
+            seen: HashSet::new(),
+            count: 0,
+            input: Vec::new(),
+            output: String::new(),
+            tally: [0; 14],
+        }
+    }
+
+    /// Starts a group of cases, with its own source of chance.
+    pub fn begin_group(&mut self, group: u64) {
+        self.rng = Rng::for_group(group);
+    }
+
+    /// Adds a table whose answer is not foretold, with some room for edges, unless it is there already.
+    pub fn add(&mut self, table: &[u8]) {
+        if self.seen.contains(table) {
+            return;
+        }
+        let answer = table::read(table);
+        let edges = match &answer {
+            Ok(model) => model.edges.len(),
+            Err(_) => self.rng.below(8),
+        };
+        let room = self.some_room(edges);
+        self.put(table, answer, room);
+    }
+
+    /// Adds a table that must be refused so.
+    pub fn refused(&mut self, table: &[u8], number: u32, place: usize) {
+        self.foretold(table, Some(Refusal { number, place }));
+    }
+
+    /// Adds a table that must be refused so, or accepted.
+    pub fn foretold(&mut self, table: &[u8], refusal: Option<Refusal>) {
+        let found = table::read(table).err();
+        assert_eq!(found, refusal, "the table {} has another answer than foretold", in_hex(table));
+        self.add(table);
+    }
+
+    /// Adds the table of a valid model, which the reader must give back as it was.
+    pub fn accepted(&mut self, model: &Model) {
+        let room = self.some_room(model.edges.len());
+        self.accepted_with_room(model, room);
+    }
+
+    /// Adds the table of a valid model with this room for edges.
+    pub fn accepted_with_room(&mut self, model: &Model, room: usize) {
+        let table = Records::of(model).bytes();
+        let answer = table::read(&table);
+        assert_eq!(answer.as_ref(), Ok(model), "the table {} is not read as written", in_hex(&table));
+        self.put(&table, answer, room);
+    }
+
+    /// A room for edges: mostly 128, else one of the borders, at times any.
+    fn some_room(&mut self, edges: usize) -> usize {
+        match self.rng.below(20) {
+            0..=9 => 128,
+            10 => 0,
+            11 => 1,
+            12 | 13 => edges,
+            14 | 15 => edges.saturating_sub(1),
+            16 | 17 => edges + 1,
+            18 => LARGEST_ROOM,
+            _ => self.rng.between(0, LARGEST_ROOM),
+        }
+    }
+
+    fn put(&mut self, table: &[u8], answer: Answer, room: usize) {
+        assert!(table.len() <= LONGEST, "a table of {} bytes is too long for a case", table.len());
+        assert!(room <= LARGEST_ROOM, "a room of {room} is too large for a case");
+        let fill = if self.rng.chance(1, 4) { self.rng.pick(&[0, 1, 165, 255]) } else { self.rng.byte() };
+        self.seen.insert(table.to_vec());
+        let mut head = [0; 16];
+        head[0] = CALL_READ_TABLE;
+        head[1] = fill;
+        head[2..4].copy_from_slice(&(room as u16).to_le_bytes());
+        head[4..8].copy_from_slice(&(table.len() as u32).to_le_bytes());
+        self.input.extend_from_slice(&head);
+        self.input.extend_from_slice(table);
+        let lent = answer::lent_digest(&answer, room, fill);
+        self.output.push_str(&format!("{} lent {lent}\n", answer::line(&answer, room)));
+        self.tally[answer.map_or_else(|refusal| refusal.number as usize, |_| 0)] += 1;
+        self.count += 1;
+    }
+
+    /// The collection must be large and varied enough, and not too large.
+    fn check(&self) {
+        assert!(self.count >= FEWEST, "only {} cases", self.count);
+        assert!(self.input.len() + 4 < BUDGET, "{} bytes of cases", self.input.len() + 4);
+        assert!(self.tally[0] >= 400, "only {} accepted tables", self.tally[0]);
+        assert!(self.tally[1] >= 4, "refusal 1 occurs {} times", self.tally[1]);
+        for (number, &times) in self.tally.iter().enumerate().skip(2) {
+            assert!(times >= 20, "refusal {number} occurs {times} times");
+        }
+    }
+
+    fn summary(&self) -> String {
+        let mut text =
+            format!("cases {}, bytes {}, accepted {}", self.count, self.input.len() + 4, self.tally[0]);
+        for (number, times) in self.tally.iter().enumerate().skip(1) {
+            text.push_str(&format!(", refusal {number}: {times}"));
+        }
+        text
+    }
+}
+
+fn in_hex(table: &[u8]) -> String {
+    table.iter().map(|byte| format!("{byte:02x}")).collect()
+}
+
+/// Makes all cases and writes them to the two files. The summary goes to standard error.
+pub fn write(vectors_folder: &str, input_file: &str, output_file: &str) -> Result<(), String> {
+    let mut cases = Cases::new();
+    generate::add_cases(&mut cases);
+    borders::add_cases(&mut cases);
+    meetings::add_cases(&mut cases);
+    damage::add_cases(&mut cases);
+    add_vectors(&mut cases, vectors_folder)?;
+    cases.check();
+    let mut input = (cases.count as u32).to_le_bytes().to_vec();
+    input.extend_from_slice(&cases.input);
+    fs::write(input_file, input).map_err(|error| format!("{input_file}: {error}"))?;
+    fs::write(output_file, &cases.output).map_err(|error| format!("{output_file}: {error}"))?;
+    eprintln!("{}", cases.summary());
+    Ok(())
+}
+
+/// Every distinct table of the outside vectors, held to the vector's answer.
+fn add_vectors(cases: &mut Cases, folder: &str) -> Result<(), String> {
+    cases.begin_group(9);
+    for vector in vectors::load(folder)? {
+        cases.foretold(&vector.table, vector.refusal);
+    }
+    Ok(())
+}
