@@ -1,0 +1,42 @@
+use mathlib.Core.Path.{sym, _∙_, ap}
+use native.Mathlib.Omega.{arith}
+use Prim.Native.Nat.{ℕ}
+use Rattle.table.specs.Format.{twoBytes}
+use Rattle.table.specs.Records.{bodyAt}
+use Rattle.table.specs.Access.{branchAt, itemFrom, noBody}
+use Rattle.table.specs.Walks.{item-part}
+use Rattle.table.specs.Reads.{branch-read}
+use Rattle.table.specs.declared.model.Branch.{Branch}
+use Rattle.table.specs.declared.records.Body.{Body}
+use borrow.Author.Needs.{needs}
+use Rattle.table.proofs.access.branch_at.Statement.{statement}
+use Rattle.table.proofs.access.branch_at.Tie as tie
+use Rattle.table.proofs.access.branch_at.Reads as reads
+use Rattle.table.proofs.access.branch_at.Lts as lts
+use Rattle.table.proofs.access.branches_from.Reads as branches-from-reads
+use Rattle.table.proofs.access.item_at.Reads as item-at-reads
+use Rattle.table.proofs.format.two_bytes.Reads as two-bytes-reads
+
+-- src/access.rt:140:31
+branches-from-requires : tie.Need-branches-from-requires
+branches-from-requires c κs = search needs
+
+-- src/access.rt:140:9
+item-at-requires : tie.Need-item-at-requires
+item-at-requires c κs = search needs
+
+-- src/access.rt:142:17
+two-bytes-requires : tie.Need-two-bytes-requires
+two-bytes-requires c κs = search needs
+
+-- src/access.rt:136:1
+returns : tie.Need-returns
+unfolding branchAt bodyAt
+returns c = let part : Body → Branch = λ b. record { weight = twoBytes (b .a) (b .b); target = b .c; mask = b .d } in
+    let given = ap (λ (w : ℕ). record { weight = w; target = (c .before .item-at) .result .c; mask = (c .before .item-at) .result .d }) ((c .two-bytes) .ensures .0) ∙ ap part ((c .before .item-at) .ensures)
+    ∙ ap (λ (first : ℕ). part (itemFrom 6 noBody bodyAt ((c .before .before .before .before .args) .table .now) first ((c .before .before .before .before .args) .i))) ((c .before .before .branches-from) .ensures) ∙ item-part part ((c .before .before .before .before .args) .table .now) _ 6 ((c .before .before .before .before .args) .i) in
+    (given, λ m e reads. given ∙ branch-read ((c .before .before .before .before .args) .table .now) m (λ i. omega (arith, (c .before .before .before .shared-slice-known) .given i)) ((c .before .before .before .before .args) .place) e reads ((c .before .before .before .before .args) .i))
+
+pub branch-at-spec : {M : Type 1} → statement M
+branch-at-spec =
+    tie.close (tie.spec branches-from-requires item-at-requires two-bytes-requires returns)

@@ -1,0 +1,28 @@
+use mathlib.Core.Path.{sym, _∙_, ap}
+use native.Mathlib.Omega.{arith}
+use Rattle.table.specs.Access.{passed, branchCount}
+use Rattle.table.specs.Reads.{branch-count-read}
+use borrow.Author.Needs.{needs}
+use Rattle.table.proofs.access.branch_count.Statement.{statement}
+use Rattle.table.proofs.access.branch_count.Tie as tie
+use Rattle.table.proofs.access.branch_count.Reads as reads
+use Rattle.table.proofs.access.branch_count.Lts as lts
+use Rattle.table.proofs.access.branches_from.Reads as branches-from-reads
+use Rattle.table.proofs.access.walk.Reads as walk-reads
+
+-- src/access.rt:153:25
+branches-from-requires : tie.Need-branches-from-requires
+branches-from-requires c κs = search needs
+
+-- src/access.rt:153:9
+walk-requires : tie.Need-walk-requires
+walk-requires c κs = search needs
+
+-- src/access.rt:149:1
+returns : tie.Need-returns
+unfolding branchCount
+returns c = let given = (c .walk) .ensures .1 ∙ ap (passed 6 8 ((c .before .before .before .args) .table .now)) ((c .before .branches-from) .ensures) in
+    (given, λ m e reads. given ∙ branch-count-read ((c .before .before .before .args) .table .now) m (λ i. omega (arith, (c .before .before .shared-slice-known) .given i)) ((c .before .before .before .args) .place) e reads)
+
+pub branch-count-spec : {M : Type 1} → statement M
+branch-count-spec = tie.close (tie.spec branches-from-requires walk-requires returns)

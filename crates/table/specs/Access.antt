@@ -1,0 +1,125 @@
+-- What the accessors give, of any bytes: definitions that walk from record to record. Of a table that was read they are
+-- the items of its model, and a value of zeros where there is no such item (a choice of ours; laws in `AccessLaws`).
+use Prim.Native.Nat.{ℕ, zero, suc, _+_}
+use mathlib.Core.Bool.{cond}
+use mathlib.Core.List.{List, [], _∷_}
+use lib.Dec.{eqb}
+use lib.ListN.{getD}
+use Rattle.table.specs.Format.{bodyLength, twoBytes, maxGuards, maxBranches}
+use Rattle.table.specs.Model.{Edge}
+use Rattle.table.specs.Records.{kindAt}
+use Rattle.table.specs.declared.model.Invariant.{Invariant}
+use Rattle.table.specs.declared.model.Guard.{Guard}
+use Rattle.table.specs.declared.model.Branch.{Branch}
+use Rattle.table.specs.declared.model.EdgeRow.{EdgeRow}
+use Rattle.table.specs.declared.model.Shape.{Shape}
+use Rattle.table.specs.declared.records.Body.{Body}
+
+abbrev pub noInvariant : Invariant
+noInvariant = record { location = 0; clock = 0; comparison = 0; constant = 0 }
+
+abbrev pub noGuard : Guard
+noGuard = record { clock = 0; comparison = 0; constant = 0 }
+
+abbrev pub noBranch : Branch
+noBranch = record { weight = 0; target = 0; mask = 0 }
+
+abbrev pub noRow : EdgeRow
+noRow = record { place = 0; source = 0; action = 0; denominator = 0 }
+
+abbrev pub noEdge : Edge
+noEdge = record { place = 0; source = 0; action = 0; denominator = 0; guards = []; branches = [] }
+
+abbrev pub noBody : Body
+noBody = record { a = 0; b = 0; c = 0; d = 0 }
+
+-- The place after at most `most` records of one kind that stand one after the other from `at` on.
+unfoldable pub walkTo : ℕ → ℕ → List ℕ → ℕ → ℕ
+walkTo kind zero table at = at
+walkTo kind (suc most) table at =
+    cond (eqb (kindAt table at) kind) (walkTo kind most table (at + 1 + bodyLength kind)) at
+
+-- How many records that walk passes.
+unfoldable pub passed : ℕ → ℕ → List ℕ → ℕ → ℕ
+passed kind zero table at = 0
+passed kind (suc most) table at =
+    cond (eqb (kindAt table at) kind) (suc (passed kind most table (at + 1 + bodyLength kind))) 0
+
+-- The record of a kind at a place, read by `read`, or `nothing` where another record or none stands there.
+abbrev pub itemOr : {A : Type 0} → ℕ → A → (List ℕ → ℕ → A) → List ℕ → ℕ → A
+itemOr kind nothing read table at = cond (eqb (kindAt table at) kind) (read table at) nothing
+
+abbrev pub readLabel : List ℕ → ℕ → ℕ
+readLabel table at = getD table (at + 1) 0
+
+abbrev pub readInvariant : List ℕ → ℕ → Invariant
+readInvariant table at =
+    record {
+      location = getD table (at + 1) 0;
+      clock = getD table (at + 2) 0;
+      comparison = getD table (at + 3) 0;
+      constant = getD table (at + 4) 0;
+    }
+
+abbrev pub readGuard : List ℕ → ℕ → Guard
+readGuard table at =
+    record { clock = getD table (at + 1) 0; comparison = getD table (at + 2) 0; constant = getD table (at + 3) 0 }
+
+abbrev pub readBranch : List ℕ → ℕ → Branch
+readBranch table at =
+    record {
+      weight = twoBytes (getD table (at + 1) 0) (getD table (at + 2) 0);
+      target = getD table (at + 3) 0;
+      mask = getD table (at + 4) 0;
+    }
+
+abbrev pub readRow : List ℕ → ℕ → EdgeRow
+readRow table at =
+    record {
+      place = at;
+      source = getD table (at + 1) 0;
+      action = getD table (at + 2) 0;
+      denominator = twoBytes (getD table (at + 3) 0) (getD table (at + 4) 0);
+    }
+
+-- Item i of those of a kind that stand from `first` on.
+abbrev pub itemFrom : {A : Type 0} → ℕ → A → (List ℕ → ℕ → A) → List ℕ → ℕ → ℕ → A
+itemFrom kind nothing read table first i = itemOr kind nothing read table (walkTo kind i table first)
+
+unfoldable pub labelAt : List ℕ → Shape → ℕ → ℕ
+labelAt table shape i = itemFrom 2 0 readLabel table (shape .«first_location») i
+
+unfoldable pub invariantAt : List ℕ → Shape → ℕ → Invariant
+invariantAt table shape i = itemFrom 3 noInvariant readInvariant table (shape .«first_invariant») i
+
+-- Where the guard atoms and the branches of the edge at a place begin, and the record after them.
+unfoldable pub guardsFrom : List ℕ → ℕ → ℕ
+guardsFrom table place = walkTo 4 1 table place
+
+unfoldable pub branchesFrom : List ℕ → ℕ → ℕ
+branchesFrom table place = walkTo 5 maxGuards table (guardsFrom table place)
+
+unfoldable pub nextEdge : List ℕ → ℕ → ℕ
+nextEdge table place = walkTo 6 maxBranches table (branchesFrom table place)
+
+unfoldable pub guardAt : List ℕ → ℕ → ℕ → Guard
+guardAt table place i = itemFrom 5 noGuard readGuard table (guardsFrom table place) i
+
+unfoldable pub guardCount : List ℕ → ℕ → ℕ
+guardCount table place = passed 5 maxGuards table (guardsFrom table place)
+
+unfoldable pub branchAt : List ℕ → ℕ → ℕ → Branch
+branchAt table place i = itemFrom 6 noBranch readBranch table (branchesFrom table place) i
+
+unfoldable pub branchCount : List ℕ → ℕ → ℕ
+branchCount table place = passed 6 maxBranches table (branchesFrom table place)
+
+-- At most `count` edges that stand one after the other from `at` on.
+unfoldable pub rowsFrom : List ℕ → ℕ → ℕ → List EdgeRow
+rowsFrom table zero at = []
+rowsFrom table (suc count) at =
+    cond (eqb (kindAt table at) 4) (readRow table at ∷ rowsFrom table count (nextEdge table at)) []
+
+-- The edge of a model as the arrays hold it.
+abbrev pub rowOf : Edge → EdgeRow
+rowOf e = record { place = e .place; source = e .source; action = e .action; denominator = e .denominator }

@@ -1,0 +1,31 @@
+-- The model that a table describes: all that an accepted table says, and nothing of how it was read.
+-- The atoms and branches are the structs of the code: Invariant (location, clock, comparison, constant),
+-- Guard (clock, comparison, constant), Branch (weight, target, mask).
+use Prim.Native.Nat.{ℕ, _+_}
+use mathlib.Core.List.{List, [], _∷_}
+use Rattle.table.specs.declared.model.Invariant.{Invariant}
+use Rattle.table.specs.declared.model.Guard.{Guard}
+use Rattle.table.specs.declared.model.Branch.{Branch}
+
+-- An edge: `place` is where its record begins, `denominator` is document 01's W.
+pub record Edge : Type 0 where
+  pub place : ℕ
+  pub source : ℕ
+  pub action : ℕ
+  pub denominator : ℕ
+  pub guards : List Guard
+  pub branches : List Branch
+
+-- "Locations, clocks and edges are numbered from 0": label l of the list is that of location l, edge e of the list is edge e.
+pub record Model : Type 0 where
+  pub clocks : ℕ
+  pub locations : ℕ
+  pub initial : ℕ
+  pub labels : List ℕ
+  pub invariants : List Invariant
+  pub edges : List Edge
+
+-- The sum of the weights of branches.
+abbrev pub total : List Branch → ℕ
+total [] = 0
+total (b ∷ l) = b .weight + total l

@@ -1,0 +1,271 @@
+-- Refusals 2 to 13 (document 01, "Refusal list"): each record's conditions are rows (number, place, condition) in
+-- document 01's order, and the first row that holds decides. Refusal 1, of the whole table, stands in `Reading`.
+use Prim.Native.Nat.{ℕ, _+_, _^_, _/_}
+use mathlib.Core.Bool.{Bool, cond, not}
+use mathlib.Core.List.{List, [], _∷_}
+use lib.Dec.{eqb, leb, ltb}
+use lib.ListN.{length}
+use Rattle.table.specs.Format.{bodyLength, maxClocks, maxLocations, maxConstant, maxDenominator, maxInvariants, maxEdges, maxGuards, maxBranches, lastBound, lastComparison}
+use Rattle.table.specs.Records.{Record, header, location, invariant, edge, guard, branch, end, kindAt, recordAt, past}
+use Rattle.table.specs.declared.model.Invariant.{Invariant}
+use Rattle.table.specs.declared.model.Guard.{Guard}
+use Rattle.table.specs.declared.model.Branch.{Branch}
+use Rattle.table.specs.declared.records.Progress.{Progress}
+use Rattle.table.specs.declared.records.Step.{Step}
+use Rattle.table.specs.declared.records.Step.the-variants.{Refused, Next, End}
+
+-- A refusal of document 01: its number, its place, and whether its condition holds.
+pub record Row : Type 0 where
+  pub number : ℕ
+  pub place : ℕ
+  pub holds : Bool
+
+abbrev pub row : ℕ → ℕ → Bool → Row
+row n p b = record { number = n; place = p; holds = b }
+
+-- The first row that holds decides; where none does, the record leads to `next`.
+abbrev pub decide : List Row → Step → Step
+decide [] next = next
+decide (r ∷ rows) next = cond (r .holds) (Refused (r .number) (r .place)) (decide rows next)
+
+-- "Order: header, as many locations as it says, invariant atoms, edges, end. An edge is followed by its guard atoms,
+-- then its branches." The stage says how far that is: which record was read last, and whether locations are missing.
+abbrev pub atStart : ℕ
+atStart = 0
+
+-- Locations are missing: the next record is one.
+abbrev pub inLocations : ℕ
+inLocations = 1
+
+-- All locations are there, and no edge is.
+abbrev pub inInvariants : ℕ
+inInvariants = 2
+
+-- The last edge has no branch yet.
+abbrev pub inGuards : ℕ
+inGuards = 3
+
+abbrev pub inBranches : ℕ
+inBranches = 4
+
+-- A clock that does not exist has its bit set: some bit from n on.
+abbrev pub bitBeyond : ℕ → ℕ → Bool
+bitBeyond n mask = ltb 0 (mask / 2 ^ n)
+
+-- "The edge now finished, by the next edge or the end, has weights that do not sum to W." Before the first edge both are 0.
+abbrev pub unbalanced : Progress → Bool
+unbalanced p = not (eqb (p .weights) (p .denominator))
+
+-- The rows of each record. `p` is what was read before it, and it begins at `at`.
+
+abbrev pub headerRows : Progress → ℕ → ℕ → ℕ → ℕ → List Row
+headerRows p at clocks locations initial =
+    row 5 at (ltb atStart (p .stage))
+    ∷ row 6 at (ltb maxClocks clocks)
+    ∷ row 6 at (ltb locations 1)
+    ∷ row 6 at (ltb maxLocations locations)
+    ∷ row 6 at (leb locations initial)
+    ∷ []
+
+abbrev pub locationRows : Progress → ℕ → List Row
+locationRows p at = row 5 at (not (eqb (p .stage) inLocations)) ∷ []
+
+abbrev pub invariantRows : Progress → ℕ → Invariant → List Row
+invariantRows p at a =
+    row 5 at (not (eqb (p .stage) inInvariants))
+    ∷ row 7 at (leb (p .locations) (a .location))
+    ∷ row 7 at (leb (p .clocks) (a .clock))
+    ∷ row 8 at (ltb lastBound (a .comparison))
+    ∷ row 9 at (ltb maxConstant (a .constant))
+    ∷ row 11 at (leb maxInvariants (p .invariants))
+    ∷ []
+
+abbrev pub edgeRows : Progress → ℕ → ℕ → ℕ → List Row
+edgeRows p at source denominator =
+    row 5 at (ltb (p .stage) inInvariants)
+    ∷ row 7 at (leb (p .locations) source)
+    ∷ row 10 at (eqb denominator 0)
+    ∷ row 10 at (ltb maxDenominator denominator)
+    ∷ row 11 at (leb maxEdges (p .edges))
+    ∷ row 12 (p .place) (unbalanced p)
+    ∷ []
+
+abbrev pub guardRows : Progress → ℕ → Guard → List Row
+guardRows p at g =
+    row 5 at (not (eqb (p .stage) inGuards))
+    ∷ row 7 at (leb (p .clocks) (g .clock))
+    ∷ row 8 at (ltb lastComparison (g .comparison))
+    ∷ row 9 at (ltb maxConstant (g .constant))
+    ∷ row 11 at (leb maxGuards (p .guards))
+    ∷ []
+
+abbrev pub branchRows : Progress → ℕ → Branch → List Row
+branchRows p at b =
+    row 5 at (ltb (p .stage) inGuards)
+    ∷ row 7 at (leb (p .locations) (b .target))
+    ∷ row 7 at (bitBeyond (p .clocks) (b .mask))
+    ∷ row 10 at (eqb (b .weight) 0)
+    ∷ row 11 at (leb maxBranches (p .branches))
+    ∷ []
+
+-- `size` is the table's length.
+abbrev pub endRows : Progress → ℕ → ℕ → List Row
+endRows p at size =
+    row 5 at (ltb (p .stage) inInvariants)
+    ∷ row 12 (p .place) (unbalanced p)
+    ∷ row 13 (at + 1) (ltb (at + 1) size)
+    ∷ []
+
+unfoldable pub rowsOf : Progress → ℕ → ℕ → Record → List Row
+rowsOf p at size (header n l i) = headerRows p at n l i
+rowsOf p at size (location x) = locationRows p at
+rowsOf p at size (invariant a) = invariantRows p at a
+rowsOf p at size (edge s a w) = edgeRows p at s w
+rowsOf p at size (guard g) = guardRows p at g
+rowsOf p at size (branch b) = branchRows p at b
+rowsOf p at size end = endRows p at size
+
+-- What is remembered after each record that is not refused.
+
+abbrev pub start : Progress
+start =
+    record {
+      stage = atStart;
+      clocks = 0;
+      locations = 0;
+      initial = 0;
+      labels = 0;
+      invariants = 0;
+      edges = 0;
+      place = 0;
+      denominator = 0;
+      guards = 0;
+      branches = 0;
+      weights = 0;
+    }
+
+abbrev pub afterHeader : ℕ → ℕ → ℕ → Progress
+afterHeader n l i =
+    record {
+      stage = inLocations;
+      clocks = n;
+      locations = l;
+      initial = i;
+      labels = 0;
+      invariants = 0;
+      edges = 0;
+      place = 0;
+      denominator = 0;
+      guards = 0;
+      branches = 0;
+      weights = 0;
+    }
+
+abbrev pub afterLocation : Progress → Progress
+afterLocation p =
+    record {
+      stage = cond (leb (p .locations) (p .labels + 1)) inInvariants inLocations;
+      clocks = p .clocks;
+      locations = p .locations;
+      initial = p .initial;
+      labels = p .labels + 1;
+      invariants = p .invariants;
+      edges = p .edges;
+      place = p .place;
+      denominator = p .denominator;
+      guards = p .guards;
+      branches = p .branches;
+      weights = p .weights;
+    }
+
+abbrev pub afterInvariant : Progress → Progress
+afterInvariant p =
+    record {
+      stage = p .stage;
+      clocks = p .clocks;
+      locations = p .locations;
+      initial = p .initial;
+      labels = p .labels;
+      invariants = p .invariants + 1;
+      edges = p .edges;
+      place = p .place;
+      denominator = p .denominator;
+      guards = p .guards;
+      branches = p .branches;
+      weights = p .weights;
+    }
+
+abbrev pub afterEdge : Progress → ℕ → ℕ → Progress
+afterEdge p at w =
+    record {
+      stage = inGuards;
+      clocks = p .clocks;
+      locations = p .locations;
+      initial = p .initial;
+      labels = p .labels;
+      invariants = p .invariants;
+      edges = p .edges + 1;
+      place = at;
+      denominator = w;
+      guards = 0;
+      branches = 0;
+      weights = 0;
+    }
+
+abbrev pub afterGuard : Progress → Progress
+afterGuard p =
+    record {
+      stage = p .stage;
+      clocks = p .clocks;
+      locations = p .locations;
+      initial = p .initial;
+      labels = p .labels;
+      invariants = p .invariants;
+      edges = p .edges;
+      place = p .place;
+      denominator = p .denominator;
+      guards = p .guards + 1;
+      branches = p .branches;
+      weights = p .weights;
+    }
+
+abbrev pub afterBranch : Progress → ℕ → Progress
+afterBranch p w =
+    record {
+      stage = inBranches;
+      clocks = p .clocks;
+      locations = p .locations;
+      initial = p .initial;
+      labels = p .labels;
+      invariants = p .invariants;
+      edges = p .edges;
+      place = p .place;
+      denominator = p .denominator;
+      guards = p .guards;
+      branches = p .branches + 1;
+      weights = p .weights + w;
+    }
+
+unfoldable pub nextOf : Progress → ℕ → Record → Step
+nextOf p at (header n l i) = Next (afterHeader n l i)
+nextOf p at (location x) = Next (afterLocation p)
+nextOf p at (invariant a) = Next (afterInvariant p)
+nextOf p at (edge s a w) = Next (afterEdge p at w)
+nextOf p at (guard g) = Next (afterGuard p)
+nextOf p at (branch b) = Next (afterBranch p (b .weight))
+nextOf p at end = End
+
+-- The rows that come before a record's own: is there one, is its kind known, is it whole?
+abbrev pub outerRows : List ℕ → ℕ → List Row
+outerRows table at =
+    row 2 at (leb (length table) at)
+    ∷ row 3 at (ltb (kindAt table at) 1)
+    ∷ row 3 at (ltb 7 (kindAt table at))
+    ∷ row 4 at (ltb (length table) (past table at))
+    ∷ []
+
+-- What the record at a place leads to.
+unfoldable pub stepAt : List ℕ → Progress → ℕ → Step
+stepAt table p at =
+    decide (outerRows table at)
+    (decide (rowsOf p at (length table) (recordAt table at)) (nextOf p at (recordAt table at)))

@@ -1,0 +1,351 @@
+// What the reader remembers, and what each record does: the first row of its refusals that holds decides.
+ghost use Prim.Native.Nat.{ℕ, _+_, _<_, _≤_};
+ghost use mathlib.Core.Path.{_≡_};
+ghost use lib.Dec.{leb, ltb};
+ghost use Rattle.table.specs.Format.{lastBound, lastComparison};
+ghost use Rattle.table.specs.Refusals.{bitBeyond, decide, headerRows, locationRows, invariantRows, edgeRows, guardRows, branchRows, endRows, afterHeader, afterLocation, afterInvariant, afterEdge, afterGuard, afterBranch};
+use crate::model::Branch;
+use crate::model::Guard;
+use crate::model::Invariant;
+
+// The stages of the order: which record was read last, and whether locations are missing.
+const AT_START: u8 = 0;
+
+const IN_LOCATIONS: u8 = 1;
+
+const IN_INVARIANTS: u8 = 2;
+
+const IN_GUARDS: u8 = 3;
+
+const IN_BRANCHES: u8 = 4;
+
+// The four bytes after a record's kind, 0 past the table's end.
+pub struct Body {
+    pub a: u8,
+    pub b: u8,
+    pub c: u8,
+    pub d: u8,
+}
+
+// What was read so far. `stage` says which records may follow; `edges` counts the edges begun, and the last
+// five fields are of the last of them.
+pub struct Progress {
+    pub stage: u8,
+    pub clocks: u8,
+    pub locations: u8,
+    pub initial: u8,
+    pub labels: usize,
+    pub invariants: usize,
+    pub edges: usize,
+    pub place: usize,
+    pub denominator: usize,
+    pub guards: usize,
+    pub branches: usize,
+    pub weights: usize,
+}
+
+// What a record leads to.
+pub enum Step {
+    Refused { number: u8, place: usize },
+    Next(Progress),
+    End,
+}
+
+// Is this a comparison of an invariant atom?
+pub fn is_bound(comparison: u8) -> bool
+    ensures { λ r. ⌜ r ≡ leb comparison lastBound ⌝ }
+{
+    match comparison {
+        0 | 1 => true,
+        _ => false,
+    }
+}
+
+// Is this a comparison of a guard atom?
+pub fn is_comparison(comparison: u8) -> bool
+    ensures { λ r. ⌜ r ≡ leb comparison lastComparison ⌝ }
+{
+    match comparison {
+        0 | 1 | 2 | 3 | 4 => true,
+        _ => false,
+    }
+}
+
+// Does a mask name a clock that does not exist?
+pub fn names_no_clock(mask: u8, clocks: u8) -> bool
+    ensures { λ r. ⌜ r ≡ bitBeyond clocks mask ⌝ }
+{
+    if clocks < 8 {
+        0 < mask >> clocks
+    } else {
+        false
+    }
+}
+
+pub fn read_header(p: Progress, at: usize, clocks: u8, locations: u8, initial: u8) -> Step
+    ensures { λ r. ⌜ r ≡ decide (headerRows p at clocks locations initial) (Step.Next (afterHeader clocks locations initial)) ⌝ }
+{
+    if AT_START < p.stage {
+        return Step::Refused {
+            number: 5,
+            place: at,
+        };
+    }
+    if 4 < clocks {
+        return Step::Refused {
+            number: 6,
+            place: at,
+        };
+    }
+    if locations < 1 {
+        return Step::Refused {
+            number: 6,
+            place: at,
+        };
+    }
+    if 64 < locations {
+        return Step::Refused {
+            number: 6,
+            place: at,
+        };
+    }
+    if locations <= initial {
+        return Step::Refused {
+            number: 6,
+            place: at,
+        };
+    }
+    Step::Next(Progress {
+        stage: IN_LOCATIONS,
+        clocks: clocks,
+        locations: locations,
+        initial: initial,
+        labels: 0,
+        invariants: 0,
+        edges: 0,
+        place: 0,
+        denominator: 0,
+        guards: 0,
+        branches: 0,
+        weights: 0,
+    })
+}
+
+pub fn read_location(p: Progress, at: usize) -> Step
+    requires { ⌜ p .labels < 65536 ⌝ }
+    ensures { λ r. ⌜ r ≡ decide (locationRows p at) (Step.Next (afterLocation p)) ⌝ }
+{
+    if p.stage != IN_LOCATIONS {
+        return Step::Refused {
+            number: 5,
+            place: at,
+        };
+    }
+    let mut next = p;
+    next.labels = p.labels + 1;
+    if (p.locations as usize) <= next.labels {
+        next.stage = IN_INVARIANTS;
+        return Step::Next(next);
+    }
+    next.stage = IN_LOCATIONS;
+    Step::Next(next)
+}
+
+pub fn read_invariant(p: Progress, at: usize, a: Invariant) -> Step
+    ensures { λ r. ⌜ r ≡ decide (invariantRows p at a) (Step.Next (afterInvariant p)) ⌝ }
+{
+    if p.stage != IN_INVARIANTS {
+        return Step::Refused {
+            number: 5,
+            place: at,
+        };
+    }
+    if p.locations <= a.location {
+        return Step::Refused {
+            number: 7,
+            place: at,
+        };
+    }
+    if p.clocks <= a.clock {
+        return Step::Refused {
+            number: 7,
+            place: at,
+        };
+    }
+    if !is_bound(a.comparison) {
+        return Step::Refused {
+            number: 8,
+            place: at,
+        };
+    }
+    if 15 < a.constant {
+        return Step::Refused {
+            number: 9,
+            place: at,
+        };
+    }
+    if 128 <= p.invariants {
+        return Step::Refused {
+            number: 11,
+            place: at,
+        };
+    }
+    let mut next = p;
+    next.invariants = p.invariants + 1;
+    Step::Next(next)
+}
+
+pub fn read_edge(p: Progress, at: usize, source: u8, denominator: usize) -> Step
+    ensures { λ r. ⌜ r ≡ decide (edgeRows p at source denominator) (Step.Next (afterEdge p at denominator)) ⌝ }
+{
+    if p.stage < IN_INVARIANTS {
+        return Step::Refused {
+            number: 5,
+            place: at,
+        };
+    }
+    if p.locations <= source {
+        return Step::Refused {
+            number: 7,
+            place: at,
+        };
+    }
+    if denominator == 0 {
+        return Step::Refused {
+            number: 10,
+            place: at,
+        };
+    }
+    if 60000 < denominator {
+        return Step::Refused {
+            number: 10,
+            place: at,
+        };
+    }
+    if 128 <= p.edges {
+        return Step::Refused {
+            number: 11,
+            place: at,
+        };
+    }
+    if p.weights != p.denominator {
+        return Step::Refused {
+            number: 12,
+            place: p.place,
+        };
+    }
+    let mut next = p;
+    next.stage = IN_GUARDS;
+    next.edges = p.edges + 1;
+    next.place = at;
+    next.denominator = denominator;
+    next.guards = 0;
+    next.branches = 0;
+    next.weights = 0;
+    Step::Next(next)
+}
+
+pub fn read_guard(p: Progress, at: usize, g: Guard) -> Step
+    ensures { λ r. ⌜ r ≡ decide (guardRows p at g) (Step.Next (afterGuard p)) ⌝ }
+{
+    if p.stage != IN_GUARDS {
+        return Step::Refused {
+            number: 5,
+            place: at,
+        };
+    }
+    if p.clocks <= g.clock {
+        return Step::Refused {
+            number: 7,
+            place: at,
+        };
+    }
+    if !is_comparison(g.comparison) {
+        return Step::Refused {
+            number: 8,
+            place: at,
+        };
+    }
+    if 15 < g.constant {
+        return Step::Refused {
+            number: 9,
+            place: at,
+        };
+    }
+    if 8 <= p.guards {
+        return Step::Refused {
+            number: 11,
+            place: at,
+        };
+    }
+    let mut next = p;
+    next.guards = p.guards + 1;
+    Step::Next(next)
+}
+
+pub fn read_branch(p: Progress, at: usize, b: Branch) -> Step
+    requires { ⌜ p .weights + b .weight < 4294967296 ⌝ }
+    ensures { λ r. ⌜ r ≡ decide (branchRows p at b) (Step.Next (afterBranch p (b .weight))) ⌝ }
+{
+    if p.stage < IN_GUARDS {
+        return Step::Refused {
+            number: 5,
+            place: at,
+        };
+    }
+    if p.locations <= b.target {
+        return Step::Refused {
+            number: 7,
+            place: at,
+        };
+    }
+    if names_no_clock(b.mask, p.clocks) {
+        return Step::Refused {
+            number: 7,
+            place: at,
+        };
+    }
+    if b.weight == 0 {
+        return Step::Refused {
+            number: 10,
+            place: at,
+        };
+    }
+    if 8 <= p.branches {
+        return Step::Refused {
+            number: 11,
+            place: at,
+        };
+    }
+    let mut next = p;
+    next.stage = IN_BRANCHES;
+    next.branches = p.branches + 1;
+    next.weights = p.weights + b.weight;
+    Step::Next(next)
+}
+
+// The end record. `size` is the table's length.
+pub fn read_end(p: Progress, at: usize, size: usize) -> Step
+    requires { ⌜ at < 65536 ⌝ }
+    ensures { λ r. ⌜ r ≡ decide (endRows p at size) Step.End ⌝ }
+{
+    if p.stage < IN_INVARIANTS {
+        return Step::Refused {
+            number: 5,
+            place: at,
+        };
+    }
+    if p.weights != p.denominator {
+        return Step::Refused {
+            number: 12,
+            place: p.place,
+        };
+    }
+    if at + 1 < size {
+        return Step::Refused {
+            number: 13,
+            place: at + 1,
+        };
+    }
+    Step::End
+}
