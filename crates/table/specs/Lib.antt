@@ -19,7 +19,9 @@ pub mod Access
 pub mod Accepted
 pub mod Turns
 pub mod Walks
+pub mod Masks
 pub mod AccessLaws
 pub mod AcceptedLaws
 pub mod Reads
 pub mod Edges
+pub mod Points

@@ -1,7 +1,9 @@
 -- The model that a table describes: all that an accepted table says, and nothing of how it was read.
 -- The atoms and branches are the structs of the code: Invariant (location, clock, comparison, constant),
 -- Guard (clock, comparison, constant), Branch (weight, target, mask).
-use Prim.Native.Nat.{ℕ, _+_}
+use Prim.Native.Nat.{ℕ, _+_, _/_, _%_, _^_}
+use mathlib.Core.Bool.{Bool}
+use lib.Dec.{eqb}
 use mathlib.Core.List.{List, [], _∷_}
 use Rattle.table.specs.declared.model.Invariant.{Invariant}
 use Rattle.table.specs.declared.model.Guard.{Guard}
@@ -24,6 +26,10 @@ pub record Model : Type 0 where
   pub labels : List ℕ
   pub invariants : List Invariant
   pub edges : List Edge
+
+-- "In a mask bit 0 is clock 0, and a set bit resets that clock."
+unfoldable pub resetIn : ℕ → ℕ → Bool
+resetIn mask clock = eqb (mask / 2 ^ clock % 2) 1
 
 -- The sum of the weights of branches.
 abbrev pub total : List Branch → ℕ

@@ -1,7 +1,7 @@
 -- Reading a table, record by record, and its answer (document 01, "The model table" and refusals 1 to 13).
-use Prim.Native.Nat.{ℕ, zero, suc, _+_}
+use Prim.Native.Nat.{ℕ, zero, suc}
 use mathlib.Core.Bool.{cond}
-use mathlib.Core.List.{List, [], _∷_, map}
+use mathlib.Core.List.{List, [], _∷_}
 use lib.Dec.{ltb}
 use lib.ListN.{length}
 use Rattle.table.specs.Format.{maxBytes}
@@ -56,78 +56,46 @@ pub record Parts : Type 0 where
   pub branches : List Branch
   pub edges : List Edge
 
-abbrev pub noParts : Parts
-noParts =
-    record { clocks = 0; locations = 0; initial = 0; labels = []; invariants = []; guards = []; branches = []; edges = [] }
-
-unfoldable pub add : ℕ → Record → Parts → Parts
-add at (header n l i) g =
+abbrev pub parts : ℕ → ℕ → ℕ → List ℕ → List Invariant → List Guard → List Branch → List Edge → Parts
+parts n l i labels invariants guards branches edges =
     record {
       clocks = n;
       locations = l;
       initial = i;
-      labels = g .labels;
-      invariants = g .invariants;
+      labels = labels;
+      invariants = invariants;
+      guards = guards;
+      branches = branches;
+      edges = edges;
+    }
+
+abbrev pub noParts : Parts
+noParts = parts 0 0 0 [] [] [] [] []
+
+-- An edge takes the guard atoms and branches that were gathered behind it.
+abbrev pub edgeWith : ℕ → ℕ → ℕ → ℕ → Parts → Edge
+edgeWith at s a w g =
+    record {
+      place = at;
+      source = s;
+      action = a;
+      denominator = w;
       guards = g .guards;
       branches = g .branches;
-      edges = g .edges;
     }
+
+unfoldable pub add : ℕ → Record → Parts → Parts
+add at (header n l i) g = parts n l i (g .labels) (g .invariants) (g .guards) (g .branches) (g .edges)
 add at (location x) g =
-    record {
-      clocks = g .clocks;
-      locations = g .locations;
-      initial = g .initial;
-      labels = x ∷ g .labels;
-      invariants = g .invariants;
-      guards = g .guards;
-      branches = g .branches;
-      edges = g .edges;
-    }
+    parts (g .clocks) (g .locations) (g .initial) (x ∷ g .labels) (g .invariants) (g .guards) (g .branches) (g .edges)
 add at (invariant a) g =
-    record {
-      clocks = g .clocks;
-      locations = g .locations;
-      initial = g .initial;
-      labels = g .labels;
-      invariants = a ∷ g .invariants;
-      guards = g .guards;
-      branches = g .branches;
-      edges = g .edges;
-    }
+    parts (g .clocks) (g .locations) (g .initial) (g .labels) (a ∷ g .invariants) (g .guards) (g .branches) (g .edges)
 add at (edge s a w) g =
-    record {
-      clocks = g .clocks;
-      locations = g .locations;
-      initial = g .initial;
-      labels = g .labels;
-      invariants = g .invariants;
-      guards = [];
-      branches = [];
-      edges =
-          record { place = at; source = s; action = a; denominator = w; guards = g .guards; branches = g .branches } ∷ g .edges;
-    }
+    parts (g .clocks) (g .locations) (g .initial) (g .labels) (g .invariants) [] [] (edgeWith at s a w g ∷ g .edges)
 add at (guard x) g =
-    record {
-      clocks = g .clocks;
-      locations = g .locations;
-      initial = g .initial;
-      labels = g .labels;
-      invariants = g .invariants;
-      guards = x ∷ g .guards;
-      branches = g .branches;
-      edges = g .edges;
-    }
+    parts (g .clocks) (g .locations) (g .initial) (g .labels) (g .invariants) (x ∷ g .guards) (g .branches) (g .edges)
 add at (branch b) g =
-    record {
-      clocks = g .clocks;
-      locations = g .locations;
-      initial = g .initial;
-      labels = g .labels;
-      invariants = g .invariants;
-      guards = g .guards;
-      branches = b ∷ g .branches;
-      edges = g .edges;
-    }
+    parts (g .clocks) (g .locations) (g .initial) (g .labels) (g .invariants) (g .guards) (b ∷ g .branches) (g .edges)
 add at end g = g
 
 unfoldable pub gather : List Item → Parts

@@ -5,7 +5,7 @@ use mathlib.Core.Bool.{Bool, cond, not}
 use mathlib.Core.List.{List, [], _∷_}
 use lib.Dec.{eqb, leb, ltb}
 use lib.ListN.{length}
-use Rattle.table.specs.Format.{bodyLength, maxClocks, maxLocations, maxConstant, maxDenominator, maxInvariants, maxEdges, maxGuards, maxBranches, lastBound, lastComparison}
+use Rattle.table.specs.Format.{maxClocks, maxLocations, maxConstant, maxDenominator, maxInvariants, maxEdges, maxGuards, maxBranches, lastBound, lastComparison}
 use Rattle.table.specs.Records.{Record, header, location, invariant, edge, guard, branch, end, kindAt, recordAt, past}
 use Rattle.table.specs.declared.model.Invariant.{Invariant}
 use Rattle.table.specs.declared.model.Guard.{Guard}
@@ -125,29 +125,13 @@ rowsOf p at size (guard g) = guardRows p at g
 rowsOf p at size (branch b) = branchRows p at b
 rowsOf p at size end = endRows p at size
 
--- What is remembered after each record that is not refused.
+-- What is remembered. A header begins anew; locations and invariant atoms leave all that is known of edges as it is; edges,
+-- guard atoms and branches leave all that was read before them.
 
-abbrev pub start : Progress
-start =
+abbrev pub fresh : ℕ → ℕ → ℕ → ℕ → Progress
+fresh stage n l i =
     record {
-      stage = atStart;
-      clocks = 0;
-      locations = 0;
-      initial = 0;
-      labels = 0;
-      invariants = 0;
-      edges = 0;
-      place = 0;
-      denominator = 0;
-      guards = 0;
-      branches = 0;
-      weights = 0;
-    }
-
-abbrev pub afterHeader : ℕ → ℕ → ℕ → Progress
-afterHeader n l i =
-    record {
-      stage = inLocations;
+      stage = stage;
       clocks = n;
       locations = l;
       initial = i;
@@ -161,15 +145,15 @@ afterHeader n l i =
       weights = 0;
     }
 
-abbrev pub afterLocation : Progress → Progress
-afterLocation p =
+abbrev pub withCounts : Progress → (stage labels invariants : ℕ) → Progress
+withCounts p stage labels invariants =
     record {
-      stage = cond (leb (p .locations) (p .labels + 1)) inInvariants inLocations;
+      stage = stage;
       clocks = p .clocks;
       locations = p .locations;
       initial = p .initial;
-      labels = p .labels + 1;
-      invariants = p .invariants;
+      labels = labels;
+      invariants = invariants;
       edges = p .edges;
       place = p .place;
       denominator = p .denominator;
@@ -177,74 +161,46 @@ afterLocation p =
       branches = p .branches;
       weights = p .weights;
     }
+
+abbrev pub withEdge : Progress → (stage edges place denominator guards branches weights : ℕ) → Progress
+withEdge p stage edges place denominator guards branches weights =
+    record {
+      stage = stage;
+      clocks = p .clocks;
+      locations = p .locations;
+      initial = p .initial;
+      labels = p .labels;
+      invariants = p .invariants;
+      edges = edges;
+      place = place;
+      denominator = denominator;
+      guards = guards;
+      branches = branches;
+      weights = weights;
+    }
+
+-- Before the first record, and after each record that is not refused.
+
+abbrev pub start : Progress
+start = fresh atStart 0 0 0
+
+abbrev pub afterHeader : ℕ → ℕ → ℕ → Progress
+afterHeader n l i = fresh inLocations n l i
+
+abbrev pub afterLocation : Progress → Progress
+afterLocation p = withCounts p (cond (leb (p .locations) (p .labels + 1)) inInvariants inLocations) (p .labels + 1) (p .invariants)
 
 abbrev pub afterInvariant : Progress → Progress
-afterInvariant p =
-    record {
-      stage = p .stage;
-      clocks = p .clocks;
-      locations = p .locations;
-      initial = p .initial;
-      labels = p .labels;
-      invariants = p .invariants + 1;
-      edges = p .edges;
-      place = p .place;
-      denominator = p .denominator;
-      guards = p .guards;
-      branches = p .branches;
-      weights = p .weights;
-    }
+afterInvariant p = withCounts p (p .stage) (p .labels) (p .invariants + 1)
 
 abbrev pub afterEdge : Progress → ℕ → ℕ → Progress
-afterEdge p at w =
-    record {
-      stage = inGuards;
-      clocks = p .clocks;
-      locations = p .locations;
-      initial = p .initial;
-      labels = p .labels;
-      invariants = p .invariants;
-      edges = p .edges + 1;
-      place = at;
-      denominator = w;
-      guards = 0;
-      branches = 0;
-      weights = 0;
-    }
+afterEdge p at w = withEdge p inGuards (p .edges + 1) at w 0 0 0
 
 abbrev pub afterGuard : Progress → Progress
-afterGuard p =
-    record {
-      stage = p .stage;
-      clocks = p .clocks;
-      locations = p .locations;
-      initial = p .initial;
-      labels = p .labels;
-      invariants = p .invariants;
-      edges = p .edges;
-      place = p .place;
-      denominator = p .denominator;
-      guards = p .guards + 1;
-      branches = p .branches;
-      weights = p .weights;
-    }
+afterGuard p = withEdge p (p .stage) (p .edges) (p .place) (p .denominator) (p .guards + 1) (p .branches) (p .weights)
 
 abbrev pub afterBranch : Progress → ℕ → Progress
-afterBranch p w =
-    record {
-      stage = inBranches;
-      clocks = p .clocks;
-      locations = p .locations;
-      initial = p .initial;
-      labels = p .labels;
-      invariants = p .invariants;
-      edges = p .edges;
-      place = p .place;
-      denominator = p .denominator;
-      guards = p .guards;
-      branches = p .branches + 1;
-      weights = p .weights + w;
-    }
+afterBranch p w = withEdge p inBranches (p .edges) (p .place) (p .denominator) (p .guards) (p .branches + 1) (p .weights + w)
 
 unfoldable pub nextOf : Progress → ℕ → Record → Step
 nextOf p at (header n l i) = Next (afterHeader n l i)

@@ -6,7 +6,7 @@ ghost use mathlib.Core.Path.{_≡_};
 ghost use lib.ListN.{length, getD};
 ghost use Rattle.table.specs.Records.{bodyAt};
 ghost use Rattle.table.specs.Access.{walkTo, passed, itemFrom, noBody, labelAt, invariantAt, guardsFrom, branchesFrom, nextEdge, guardAt, guardCount, branchAt, branchCount, noInvariant, noGuard, noBranch};
-ghost use Rattle.table.specs.Model.{Model};
+ghost use Rattle.table.specs.Model.{Model, resetIn};
 ghost use Rattle.table.specs.Reads.{Reads, ReadsEdge, edgeOf};
 use crate::format::body_length;
 use crate::format::byte_at;
@@ -151,4 +151,16 @@ pub fn branch_count(table: &[u8], place: usize) -> usize
 {
     let w = walk(table, branches_from(table, place), 6, 8);
     w.passed
+}
+
+// Does a mask reset a clock?
+pub fn resets(mask: u8, clock: u8) -> bool
+    ensures { λ r. ⌜ r ≡ resetIn mask clock ⌝ }
+{
+    if clock < 8 {
+        let bit = (mask >> clock) & 1;
+        bit == 1
+    } else {
+        false
+    }
 }

@@ -12,6 +12,7 @@ pub use access::guard_at;
 pub use access::guard_count;
 pub use access::invariant_at;
 pub use access::label_at;
+pub use access::resets;
 pub use edges::edge_at;
 pub use edges::list_edges;
 pub use model::Branch;
