@@ -11,11 +11,9 @@ use mathlib.Core.Logic.{_⊎_, inl, inr}
 use lib.ListN.{set, getD}
 use lib.Seq.{sets}
 use borrow.Author.Tests.{eq-eqb, ne-eqb}
-use Rattle.table.specs.Model.{Model}
 use Rattle.table.specs.Records.{kindAt}
 use Rattle.table.specs.Access.{readRow, nextEdge, rowsFrom}
 use Rattle.table.specs.declared.model.EdgeRow.{EdgeRow}
-use Rattle.table.specs.declared.model.Shape.{Shape}
 
 -- Edge i of the arrays.
 abbrev pub rowIn : List ℕ → List ℕ → List ℕ → List ℕ → ℕ → EdgeRow

@@ -1,12 +1,12 @@
 -- The model that a table was read as, and the items that the accessors then give: what the layer above goes by.
 use Prim.Native.Nat.{ℕ}
-use mathlib.Core.Path.{_≡_, sym, _∙_, ap, subst}
+use mathlib.Core.Path.{_≡_, _∙_, ap}
 use mathlib.Core.List.{List, map}
 use lib.ListN.{length, getD}
 use Rattle.table.specs.Model.{Edge, Model}
 use Rattle.table.specs.Reading.{readTable, accepted}
-use Rattle.table.specs.Written.{Bytes, tableOf, shapeOf}
-use Rattle.table.specs.Access.{noInvariant, noGuard, noBranch, noRow, noEdge, labelAt, invariantAt, guardAt, guardCount, branchAt, branchCount, rowsFrom, rowOf}
+use Rattle.table.specs.Written.{Bytes, shapeOf}
+use Rattle.table.specs.Access.{noInvariant, noGuard, noBranch, noEdge, labelAt, invariantAt, guardAt, guardCount, branchAt, branchCount, rowsFrom, rowOf}
 use Rattle.table.specs.AcceptedLaws.{sound, table-written, places}
 use Rattle.table.specs.AccessLaws.{label-is, invariant-is, rows-are, EdgeParts, edge-parts-are}
 use Rattle.table.specs.declared.model.Shape.{Shape}

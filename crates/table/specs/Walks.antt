@@ -1,17 +1,16 @@
 -- Laws for the loop that walks over records of one kind, and for reading the record that it comes to.
 use Prim.Native.Nat.{ℕ, zero, suc, _+_, _-_, _≤_, _<_}
 use native.Mathlib.Omega.{arith}
-use native.Mathlib.Numerals.{add-one}
-use native.Mathlib.Nat.{sub-zero, zero-add, add-zero}
+use native.Mathlib.Nat.{sub-zero, zero-add}
 use mathlib.Core.Path.{_≡_, refl, sym, _∙_, ap}
 use mathlib.Core.Bool.{Bool, true, false, cond}
 use mathlib.Core.List.{List, [], _∷_}
 use lib.Dec.{eqb}
-use lib.ListN.{length, getD, List·getD-eq-default}
+use lib.ListN.{length}
 use borrow.Author.Tests.{eq-eqb, ne-eqb}
 use Rattle.table.specs.Format.{bodyLength}
 use Rattle.table.specs.Records.{kindAt, bodyAt}
-use Rattle.table.specs.Access.{walkTo, passed, itemOr, itemFrom, noBody}
+use Rattle.table.specs.Access.{walkTo, passed, itemFrom, noBody}
 use Rattle.table.specs.declared.records.Body.{Body}
 
 -- A byte that is not 0 stands within the table.

@@ -1,4 +1,5 @@
-use mathlib.Core.Path.{sym, _∙_, ap}
+-- `branch_at` meets its contract: the branch is a part of the item that `item_at` gives. Assumes nothing.
+use mathlib.Core.Path.{_∙_, ap}
 use native.Mathlib.Omega.{arith}
 use Prim.Native.Nat.{ℕ}
 use Rattle.table.specs.Format.{twoBytes}
@@ -12,24 +13,16 @@ use borrow.Author.Needs.{needs}
 use Rattle.table.proofs.access.branch_at.Statement.{statement}
 use Rattle.table.proofs.access.branch_at.Tie as tie
 use Rattle.table.proofs.access.branch_at.Reads as reads
-use Rattle.table.proofs.access.branch_at.Lts as lts
-use Rattle.table.proofs.access.branches_from.Reads as branches-from-reads
-use Rattle.table.proofs.access.item_at.Reads as item-at-reads
-use Rattle.table.proofs.format.two_bytes.Reads as two-bytes-reads
 
--- src/access.rt:140:31
 branches-from-requires : tie.Need-branches-from-requires
 branches-from-requires c κs = search needs
 
--- src/access.rt:140:9
 item-at-requires : tie.Need-item-at-requires
 item-at-requires c κs = search needs
 
--- src/access.rt:142:17
 two-bytes-requires : tie.Need-two-bytes-requires
 two-bytes-requires c κs = search needs
 
--- src/access.rt:136:1
 returns : tie.Need-returns
 unfolding branchAt bodyAt
 returns c = let part : Body → Branch = λ b. record { weight = twoBytes (b .a) (b .b); target = b .c; mask = b .d } in

@@ -1,4 +1,5 @@
-use mathlib.Core.Path.{sym, _∙_, ap}
+-- `branch_count` meets its contract: it is what `walk` gives. Assumes nothing.
+use mathlib.Core.Path.{_∙_, ap}
 use native.Mathlib.Omega.{arith}
 use Rattle.table.specs.Access.{passed, branchCount}
 use Rattle.table.specs.Reads.{branch-count-read}
@@ -6,19 +7,13 @@ use borrow.Author.Needs.{needs}
 use Rattle.table.proofs.access.branch_count.Statement.{statement}
 use Rattle.table.proofs.access.branch_count.Tie as tie
 use Rattle.table.proofs.access.branch_count.Reads as reads
-use Rattle.table.proofs.access.branch_count.Lts as lts
-use Rattle.table.proofs.access.branches_from.Reads as branches-from-reads
-use Rattle.table.proofs.access.walk.Reads as walk-reads
 
--- src/access.rt:153:25
 branches-from-requires : tie.Need-branches-from-requires
 branches-from-requires c κs = search needs
 
--- src/access.rt:153:9
 walk-requires : tie.Need-walk-requires
 walk-requires c κs = search needs
 
--- src/access.rt:149:1
 returns : tie.Need-returns
 unfolding branchCount
 returns c = let given = (c .walk) .ensures .1 ∙ ap (passed 6 8 ((c .before .before .before .args) .table .now)) ((c .before .branches-from) .ensures) in

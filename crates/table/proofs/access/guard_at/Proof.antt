@@ -1,4 +1,5 @@
-use mathlib.Core.Path.{sym, _∙_, ap}
+-- `guard_at` meets its contract: the guard atom is a part of the item that `item_at` gives. Assumes nothing.
+use mathlib.Core.Path.{_∙_, ap}
 use native.Mathlib.Omega.{arith}
 use Prim.Native.Nat.{ℕ}
 use Rattle.table.specs.Records.{bodyAt}
@@ -11,19 +12,13 @@ use borrow.Author.Needs.{needs}
 use Rattle.table.proofs.access.guard_at.Statement.{statement}
 use Rattle.table.proofs.access.guard_at.Tie as tie
 use Rattle.table.proofs.access.guard_at.Reads as reads
-use Rattle.table.proofs.access.guard_at.Lts as lts
-use Rattle.table.proofs.access.guards_from.Reads as guards-from-reads
-use Rattle.table.proofs.access.item_at.Reads as item-at-reads
 
--- src/access.rt:118:31
 guards-from-requires : tie.Need-guards-from-requires
 guards-from-requires c κs = search needs
 
--- src/access.rt:118:9
 item-at-requires : tie.Need-item-at-requires
 item-at-requires c κs = search needs
 
--- src/access.rt:114:1
 returns : tie.Need-returns
 unfolding guardAt bodyAt
 returns c = let atom : Body → Guard = λ b. record { clock = b .a; comparison = b .b; constant = b .c } in

@@ -1,4 +1,5 @@
-use mathlib.Core.Path.{sym, _∙_, ap}
+-- `guard_count` meets its contract: it is what `walk` gives. Assumes nothing.
+use mathlib.Core.Path.{_∙_, ap}
 use native.Mathlib.Omega.{arith}
 use Rattle.table.specs.Access.{passed, guardCount}
 use Rattle.table.specs.Reads.{guard-count-read}
@@ -6,19 +7,13 @@ use borrow.Author.Needs.{needs}
 use Rattle.table.proofs.access.guard_count.Statement.{statement}
 use Rattle.table.proofs.access.guard_count.Tie as tie
 use Rattle.table.proofs.access.guard_count.Reads as reads
-use Rattle.table.proofs.access.guard_count.Lts as lts
-use Rattle.table.proofs.access.guards_from.Reads as guards-from-reads
-use Rattle.table.proofs.access.walk.Reads as walk-reads
 
--- src/access.rt:131:25
 guards-from-requires : tie.Need-guards-from-requires
 guards-from-requires c κs = search needs
 
--- src/access.rt:131:9
 walk-requires : tie.Need-walk-requires
 walk-requires c κs = search needs
 
--- src/access.rt:127:1
 returns : tie.Need-returns
 unfolding guardCount
 returns c = let given = (c .walk) .ensures .1 ∙ ap (passed 5 8 ((c .before .before .before .args) .table .now)) ((c .before .guards-from) .ensures) in

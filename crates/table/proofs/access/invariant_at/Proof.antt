@@ -1,4 +1,5 @@
-use mathlib.Core.Path.{sym, _∙_, ap}
+-- `invariant_at` meets its contract: the invariant atom is a part of the item that `item_at` gives. Assumes nothing.
+use mathlib.Core.Path.{_∙_, ap}
 use native.Mathlib.Omega.{arith}
 use Rattle.table.specs.Records.{bodyAt}
 use Rattle.table.specs.Access.{invariantAt}
@@ -10,14 +11,10 @@ use borrow.Author.Needs.{needs}
 use Rattle.table.proofs.access.invariant_at.Statement.{statement}
 use Rattle.table.proofs.access.invariant_at.Tie as tie
 use Rattle.table.proofs.access.invariant_at.Reads as reads
-use Rattle.table.proofs.access.invariant_at.Lts as lts
-use Rattle.table.proofs.access.item_at.Reads as item-at-reads
 
--- src/access.rt:80:9
 item-at-requires : tie.Need-item-at-requires
 item-at-requires c κs = search needs
 
--- src/access.rt:75:1
 returns : tie.Need-returns
 unfolding invariantAt bodyAt
 returns c = let atom : Body → Invariant = λ b. record { location = b .a; clock = b .b; comparison = b .c; constant = b .d } in

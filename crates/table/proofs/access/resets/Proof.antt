@@ -1,3 +1,4 @@
+-- `resets` meets its contract: a shift and a mask pick the bit, and a byte has none from 8 on. Assumes nothing.
 use Prim.Native.Nat.{ℕ, _/_, _^_}
 use mathlib.Core.Path.{sym, ap}
 use lib.Bits.{and-mask}
@@ -7,19 +8,14 @@ use Rattle.table.specs.Masks.{no-reset}
 use borrow.Author.Needs.{needs}
 use Rattle.table.proofs.access.resets.Statement.{statement}
 use Rattle.table.proofs.access.resets.Tie as tie
-use Rattle.table.proofs.access.resets.Reads as reads
-use Rattle.table.proofs.access.resets.Lts as lts
 
--- src/access.rt:161:20
 shr-bit : tie.Need-shr-bit
 shr-bit c = search needs
 
--- src/access.rt:157:1
 returns : tie.Need-returns
 unfolding resetIn
 returns c = ap (λ (b : ℕ). eqb b 1) (and-mask ((c .before .args) .mask / 2 ^ ((c .before .args) .clock)) 1)
 
--- src/access.rt:157:1
 returns-2 : tie.Need-returns-2
 returns-2 c = sym (no-reset 8 ((c .before .fits) .mask .fits) ((c .if1) .left))
 

@@ -1,14 +1,12 @@
-use Prim.Native.Nat.{_-_, ℕ, _+_}
-use mathlib.Core.Path.{_≡_, sym, _∙_, ap}
+-- `walk` meets its contract. The loop's invariant: going on from here comes to where the whole walk comes to. The measure is how
+-- many records may still be passed. Assumes nothing.
+use Prim.Native.Nat.{_-_}
+use mathlib.Core.Path.{sym, _∙_}
 use native.Mathlib.Omega.{arith}
 use Rattle.table.specs.Walks.{Walking, walking-start, walking-on, walked-other, walked-all, inside}
 use borrow.Author.Needs.{needs}
 use Rattle.table.proofs.access.walk.Statement.{statement}
 use Rattle.table.proofs.access.walk.Tie as tie
-use Rattle.table.proofs.access.walk.Reads as reads
-use Rattle.table.proofs.access.walk.Lts as lts
-use Rattle.table.proofs.format.body_length.Reads as body-length-reads
-use Rattle.table.proofs.format.byte_at.Reads as byte-at-reads
 
 abbrev Inv-loop : tie.InvT-loop
 Inv-loop table first kind most body at₀ n₀ at n = Walking table first kind most at n
@@ -16,43 +14,33 @@ Inv-loop table first kind most body at₀ n₀ at n = Walking table first kind m
 abbrev μ-loop : tie.MeasureT-loop
 μ-loop table first kind most body at₀ n₀ at n = most - n
 
--- src/access.rt:30:9
 body-length-requires : tie.Need-body-length-requires Inv-loop μ-loop
 body-length-requires c κs = search needs
 
--- src/access.rt:33:5
 loop-holds : tie.Need-loop-holds Inv-loop μ-loop
 loop-holds c = walking-start ((c .before .before .args) .table .now) ((c .before .before .args) .first) ((c .before .before .args) .kind) ((c .before .before .args) .most)
 
--- src/access.rt:34:12
 byte-at-requires : tie.Need-byte-at-requires Inv-loop μ-loop
 byte-at-requires c κs = search needs
 
--- src/access.rt:35:13
 returns : tie.Need-returns Inv-loop μ-loop
 returns c = walked-other ((c .before .before .before .before .before .before .args) .table .now) ((c .before .before .before .before .before .before .args) .first) ((c .before .before .before .before .before .before .args) .kind) ((c .before .before .before .before .before .before .args) .most) ((c .before .before .before .loop) .at) ((c .before .before .before .loop) .n) ((c .before .before .before .loop) .inv) (λ e. (c .if1) .taken ((c .before .byte-at) .ensures ∙ e))
 
--- src/access.rt:37:14
 add-at : tie.Need-add-at Inv-loop μ-loop
 add-at c = omega (arith, inside ((c .before .before .before .before .before .before .args) .table .now) ((c .before .before .before .loop) .at) ((c .before .before .before .before .before .before .args) .kind) (sym ((c .before .byte-at) .ensures) ∙ (c .if1) .left) (c .before .before .before .before .before .before .pre))
 
--- src/access.rt:37:14
 add-at-2 : tie.Need-add-at-2 Inv-loop μ-loop
 add-at-2 c = omega (arith, inside ((c .before .before .before .before .before .before .args) .table .now) ((c .before .before .before .loop) .at) ((c .before .before .before .before .before .before .args) .kind) (sym ((c .before .byte-at) .ensures) ∙ (c .if1) .left) (c .before .before .before .before .before .before .pre), (c .before .before .before .before .body-length) .ensures .1)
 
--- src/access.rt:38:13
 add-n : tie.Need-add-n Inv-loop μ-loop
 add-n c = search needs
 
--- src/access.rt:33:5
 loop-less : tie.Need-loop-less Inv-loop μ-loop
 loop-less c = search needs
 
--- src/access.rt:33:5
 loop-again : tie.Need-loop-again Inv-loop μ-loop
 loop-again c = rw ((c .before .before .before .before .body-length) .ensures .0) (walking-on ((c .before .before .before .before .before .before .args) .table .now) ((c .before .before .before .before .before .before .args) .first) ((c .before .before .before .before .before .before .args) .kind) ((c .before .before .before .before .before .before .args) .most) ((c .before .before .before .loop) .at) ((c .before .before .before .loop) .n) ((c .before .before .before .loop) .inv) ((c .before .before .loop-test) .taken) (sym ((c .before .byte-at) .ensures) ∙ (c .if1) .left))
 
--- src/access.rt:26:1
 returns-2 : tie.Need-returns-2 Inv-loop μ-loop
 returns-2 c = walked-all ((c .before .before .before .before .args) .table .now) ((c .before .before .before .before .args) .first) ((c .before .before .before .before .args) .kind) ((c .before .before .before .before .args) .most) ((c .before .loop) .at) ((c .before .loop) .n) ((c .before .loop) .inv) ((c .loop-test) .left)
 

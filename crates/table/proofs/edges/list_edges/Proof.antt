@@ -1,5 +1,7 @@
+-- `list_edges` meets its contract. The loop's invariant: storing the rows from here on comes to what storing all rows comes to,
+-- and each array keeps its length. The measure is how many edges are left. Assumes nothing.
 use Prim.Native.Nat.{_-_}
-use mathlib.Core.Path.{_≡_, refl, sym, _∙_, ap}
+use mathlib.Core.Path.{_≡_, refl, sym, _∙_}
 use mathlib.Core.Logic.{inl, inr}
 use native.Mathlib.Omega.{arith}
 use lib.ListN.{length}
@@ -10,11 +12,6 @@ use borrow.Author.Needs.{needs}
 use Rattle.table.proofs.edges.list_edges.Statement.{statement}
 use Rattle.table.proofs.edges.list_edges.Tie as tie
 use Rattle.table.proofs.edges.list_edges.Reads as reads
-use Rattle.table.proofs.edges.list_edges.Lts as lts
-use Rattle.table.proofs.access.next_edge.Reads as next-edge-reads
-use Rattle.table.proofs.edges.put_row.Reads as put-row-reads
-use Rattle.table.proofs.edges.row_at.Reads as row-at-reads
-use Rattle.table.proofs.format.byte_at.Reads as byte-at-reads
 
 abbrev Inv-loop : tie.InvT-loop
 Inv-loop table places₀ sources₀ actions₀ denominators₀ count at₀ i₀ places sources actions denominators at i = Filling table count at₀ at i places₀ sources₀ actions₀ denominators₀ places sources actions denominators
@@ -23,56 +20,43 @@ Inv-loop table places₀ sources₀ actions₀ denominators₀ count at₀ i₀ 
 abbrev μ-loop : tie.MeasureT-loop
 μ-loop table places₀ sources₀ actions₀ denominators₀ count at₀ i₀ places sources actions denominators at i = count - i
 
--- src/edges.rt:84:5
 loop-holds : tie.Need-loop-holds Inv-loop μ-loop
 loop-holds c = (filling-start ((c .before .before .before .before .before .args) .table .now) ((c .before .before .before .before .before .args) .shape .edges) ((c .before .before .before .before .before .args) .shape .«first_edge») ((c .before .before .before .before .before .args) .places .now) ((c .before .before .before .before .before .args) .sources .now) ((c .before .before .before .before .before .args) .actions .now) ((c .before .before .before .before .before .args) .denominators .now), refl, refl, refl, refl)
 
--- src/edges.rt:85:12
 byte-at-requires : tie.Need-byte-at-requires Inv-loop μ-loop
 byte-at-requires c κs = search needs
 
--- src/edges.rt:86:13
 same-length : tie.Need-same-length Inv-loop μ-loop
 same-length c = (c .before .before .before .loop) .inv .1
 
--- src/edges.rt:86:13
 same-length-2 : tie.Need-same-length-2 Inv-loop μ-loop
 same-length-2 c = (c .before .before .before .loop) .inv .2
 
--- src/edges.rt:86:13
 same-length-3 : tie.Need-same-length-3 Inv-loop μ-loop
 same-length-3 c = (c .before .before .before .loop) .inv .3
 
--- src/edges.rt:86:13
 same-length-4 : tie.Need-same-length-4 Inv-loop μ-loop
 same-length-4 c = (c .before .before .before .loop) .inv .4
 
--- src/edges.rt:86:13
 returns : tie.Need-returns Inv-loop μ-loop
 returns c = let filled = filling-over ((c .before .before .before .before .before .before .before .before .before .args) .table .now) ((c .before .before .before .before .before .before .before .before .before .args) .shape .edges) ((c .before .before .before .before .before .before .before .before .before .args) .shape .«first_edge») ((c .before .before .before .loop) .at) ((c .before .before .before .loop) .i) ((c .before .before .before .before .before .before .before .before .before .args) .places .now) ((c .before .before .before .before .before .before .before .before .before .args) .sources .now) ((c .before .before .before .before .before .before .before .before .before .args) .actions .now) ((c .before .before .before .before .before .before .before .before .before .args) .denominators .now) ((c .before .before .before .loop) .places) ((c .before .before .before .loop) .sources) ((c .before .before .before .loop) .actions) ((c .before .before .before .loop) .denominators) (inr (λ e. (c .if1) .taken ((c .before .byte-at) .ensures ∙ e))) ((c .before .before .before .loop) .inv .0) in
     (filled, λ m reads. rw (rows-read ((c .before .before .before .before .before .before .before .before .before .args) .table .now) m (λ i. omega (arith, (c .before .before .before .before .before .before .before .before .shared-slice-known) .given i)) ((c .before .before .before .before .before .before .before .before .before .args) .shape) reads) at filled)
 
--- src/edges.rt:88:13
 row-at-requires : tie.Need-row-at-requires Inv-loop μ-loop
 row-at-requires c κs = inside ((c .before .before .before .before .before .before .before .before .before .args) .table .now) ((c .before .before .before .loop) .at) 4 (sym ((c .before .byte-at) .ensures) ∙ (c .if1) .left) (omega arith)
 
--- src/edges.rt:89:9
 put-row-requires : tie.Need-put-row-requires Inv-loop μ-loop
 put-row-requires c κs = tt
 
--- src/edges.rt:90:9
 next-edge-requires : tie.Need-next-edge-requires Inv-loop μ-loop
 next-edge-requires c κs = search needs
 
--- src/edges.rt:91:13
 add-i : tie.Need-add-i Inv-loop μ-loop
 add-i c = omega (arith, (c .before .before .before .before .before .before .before .before .before .before .before .before .before .before .before .before .before .loop-test) .taken, (c .before .before .before .before .before .before .before .before .before .before .before .before .before .before .before .before .before .before .before .before .before .before .before .before .good) .1 .0)
 
--- src/edges.rt:84:5
 loop-less : tie.Need-loop-less Inv-loop μ-loop
 loop-less c = omega (arith, (c .before .before .before .before .before .before .before .before .before .before .before .before .before .before .before .before .before .loop-test) .taken)
 
--- src/edges.rt:84:5
 loop-again : tie.Need-loop-again Inv-loop μ-loop
 loop-again c = rw ((c .next-edge) .ensures) (
   filling-on ((c .before .before .before .before .before .before .before .before .before .before .before .before .before .before .before .before .before .before .before .before .before .before .before .before .args) .table .now) ((c .before .before .before .before .before .before .before .before .before .before .before .before .before .before .before .before .before .before .before .before .before .before .before .before .args) .shape .edges) ((c .before .before .before .before .before .before .before .before .before .before .before .before .before .before .before .before .before .before .before .before .before .before .before .before .args) .shape .«first_edge») ((c .before .before .before .before .before .before .before .before .before .before .before .before .before .before .before .before .before .before .loop) .at) ((c .before .before .before .before .before .before .before .before .before .before .before .before .before .before .before .before .before .before .loop) .i) ((c .before .before .before .before .before .before .before .before .before .before .before .before .before .before .before .before .before .before .before .before .before .before .before .before .args) .places .now) ((c .before .before .before .before .before .before .before .before .before .before .before .before .before .before .before .before .before .before .before .before .before .before .before .before .args) .sources .now) ((c .before .before .before .before .before .before .before .before .before .before .before .before .before .before .before .before .before .before .before .before .before .before .before .before .args) .actions .now) ((c .before .before .before .before .before .before .before .before .before .before .before .before .before .before .before .before .before .before .before .before .before .before .before .before .args) .denominators .now) ((c .before .before .before .before .before .before .before .before .before .before .before .before .before .before .before .before .before .before .loop) .places) ((c .before .before .before .before .before .before .before .before .before .before .before .before .before .before .before .before .before .before .loop) .sources) ((c .before .before .before .before .before .before .before .before .before .before .before .before .before .before .before .before .before .before .loop) .actions) ((c .before .before .before .before .before .before .before .before .before .before .before .before .before .before .before .before .before .before .loop) .denominators) ((c .before .before .before .before .before .before .before .before .before .put-row) .last .1 .1 .0) ((c .before .before .before .before .before .before .before .before .before .put-row) .last .1 .1 .1 .0) ((c .before .before .before .before .before .before .before .before .before .put-row) .last .1 .1 .1 .1 .0) ((c .before .before .before .before .before .before .before .before .before .put-row) .last .1 .1 .1 .1 .1 .0)
@@ -83,23 +67,18 @@ loop-again c = rw ((c .next-edge) .ensures) (
   (c .before .before .before .before .before .before .before .before .before .put-row) .kept .1 .1 .1 .1 .1 .0 ∙ (c .before .before .before .before .before .before .before .before .before .before .before .before .before .before .before .before .before .before .loop) .inv .4,
 )
 
--- src/edges.rt:73:1
 same-length-5 : tie.Need-same-length-5 Inv-loop μ-loop
 same-length-5 c = (c .before .loop) .inv .1
 
--- src/edges.rt:73:1
 same-length-6 : tie.Need-same-length-6 Inv-loop μ-loop
 same-length-6 c = (c .before .loop) .inv .2
 
--- src/edges.rt:73:1
 same-length-7 : tie.Need-same-length-7 Inv-loop μ-loop
 same-length-7 c = (c .before .loop) .inv .3
 
--- src/edges.rt:73:1
 same-length-8 : tie.Need-same-length-8 Inv-loop μ-loop
 same-length-8 c = (c .before .loop) .inv .4
 
--- src/edges.rt:73:1
 returns-2 : tie.Need-returns-2 Inv-loop μ-loop
 returns-2 c = let filled = filling-over ((c .before .before .before .before .before .before .before .args) .table .now) ((c .before .before .before .before .before .before .before .args) .shape .edges) ((c .before .before .before .before .before .before .before .args) .shape .«first_edge») ((c .before .loop) .at) ((c .before .loop) .i) ((c .before .before .before .before .before .before .before .args) .places .now) ((c .before .before .before .before .before .before .before .args) .sources .now) ((c .before .before .before .before .before .before .before .args) .actions .now) ((c .before .before .before .before .before .before .before .args) .denominators .now) ((c .before .loop) .places) ((c .before .loop) .sources) ((c .before .loop) .actions) ((c .before .loop) .denominators) (inl ((c .loop-test) .left)) ((c .before .loop) .inv .0) in
     (filled, λ m reads. rw (rows-read ((c .before .before .before .before .before .before .before .args) .table .now) m (λ i. omega (arith, (c .before .before .before .before .before .before .shared-slice-known) .given i)) ((c .before .before .before .before .before .before .before .args) .shape) reads) at filled)

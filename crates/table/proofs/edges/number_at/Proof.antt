@@ -1,24 +1,19 @@
+-- `number_at` meets its contract: past the end both sides are 0. Assumes nothing.
 use mathlib.Core.Path.{sym}
 use lib.ListN.{List·getD-eq-default}
 use borrow.Author.Needs.{needs}
 use Rattle.table.proofs.edges.number_at.Statement.{statement}
 use Rattle.table.proofs.edges.number_at.Tie as tie
-use Rattle.table.proofs.edges.number_at.Reads as reads
-use Rattle.table.proofs.edges.number_at.Lts as lts
 
--- src/edges.rt:22:25
 mul-result : tie.Need-mul-result
 mul-result c = search needs
 
--- src/edges.rt:22:25
 shared-slice-read-result : tie.Need-shared-slice-read-result
 shared-slice-read-result c = search needs
 
--- src/edges.rt:19:1
 returns : tie.Need-returns
 returns c = search needs
 
--- src/edges.rt:19:1
 returns-2 : tie.Need-returns-2
 returns-2 c = sym (List·getD-eq-default ((c .before .args) .list .now) 0 ((c .if1) .left))
 

@@ -1,3 +1,4 @@
+-- `row_at` meets its contract: the parts of the record's body, the denominator of two bytes. Assumes nothing.
 use Prim.Native.Nat.{ℕ}
 use mathlib.Core.Path.{_∙_, ap}
 use Rattle.table.specs.Format.{twoBytes}
@@ -7,28 +8,19 @@ use Rattle.table.specs.declared.records.Body.{Body}
 use borrow.Author.Needs.{needs}
 use Rattle.table.proofs.edges.row_at.Statement.{statement}
 use Rattle.table.proofs.edges.row_at.Tie as tie
-use Rattle.table.proofs.edges.row_at.Reads as reads
-use Rattle.table.proofs.edges.row_at.Lts as lts
-use Rattle.table.proofs.format.two_bytes.Reads as two-bytes-reads
-use Rattle.table.proofs.reading.body_at.Reads as body-at-reads
 
--- src/edges.rt:42:9
 body-at-requires : tie.Need-body-at-requires
 body-at-requires c κs = search needs
 
--- src/edges.rt:45:17
 cast-t4 : tie.Need-cast-t4
 cast-t4 c = search needs
 
--- src/edges.rt:46:17
 cast-t5 : tie.Need-cast-t5
 cast-t5 c = search needs
 
--- src/edges.rt:47:22
 two-bytes-requires : tie.Need-two-bytes-requires
 two-bytes-requires c κs = search needs
 
--- src/edges.rt:38:1
 returns : tie.Need-returns
 unfolding bodyAt
 returns c = let row : Body → EdgeRow = λ b. record { place = (c .before .before .before .before .before .args) .at; source = b .a; action = b .b; denominator = twoBytes (b .c) (b .d) } in

@@ -1,44 +1,33 @@
+-- `body_at` meets its contract: four bytes, each as `byte_at` gives it. Assumes nothing.
 use Rattle.table.specs.Records.{bodyAt}
 use borrow.Author.Needs.{needs}
 use Rattle.table.proofs.reading.body_at.Statement.{statement}
 use Rattle.table.proofs.reading.body_at.Tie as tie
-use Rattle.table.proofs.reading.body_at.Reads as reads
-use Rattle.table.proofs.reading.body_at.Lts as lts
-use Rattle.table.proofs.format.byte_at.Reads as byte-at-reads
 
--- src/reading.rt:54:27
 add-byte-at : tie.Need-add-byte-at
 add-byte-at c = search needs
 
--- src/reading.rt:54:12
 byte-at-requires : tie.Need-byte-at-requires
 byte-at-requires c κs = search needs
 
--- src/reading.rt:55:27
 add-byte-at-2 : tie.Need-add-byte-at-2
 add-byte-at-2 c = search needs
 
--- src/reading.rt:55:12
 byte-at-requires-2 : tie.Need-byte-at-requires-2
 byte-at-requires-2 c κs = search needs
 
--- src/reading.rt:56:27
 add-byte-at-3 : tie.Need-add-byte-at-3
 add-byte-at-3 c = search needs
 
--- src/reading.rt:56:12
 byte-at-requires-3 : tie.Need-byte-at-requires-3
 byte-at-requires-3 c κs = search needs
 
--- src/reading.rt:57:27
 add-byte-at-4 : tie.Need-add-byte-at-4
 add-byte-at-4 c = search needs
 
--- src/reading.rt:57:12
 byte-at-requires-4 : tie.Need-byte-at-requires-4
 byte-at-requires-4 c κs = search needs
 
--- src/reading.rt:49:1
 returns : tie.Need-returns
 unfolding bodyAt
 returns c = cc

@@ -1,3 +1,5 @@
+-- `read` meets its contract. The loop's invariant: reading on from here gives what reading from the start gives. The measure is
+-- what is left of the table. Assumes nothing.
 use Prim.Native.Nat.{_-_}
 use mathlib.Core.Path.{sym, _∙_, ap}
 use lib.ListN.{length}
@@ -5,16 +7,9 @@ use native.Mathlib.Omega.{arith}
 use Rattle.table.specs.Accepted.{next-within}
 use Rattle.table.specs.Turns.{Underway, underway-start, underway-next, underway-refused, underway-end, read-long}
 use Rattle.table.specs.declared.model.Reading.the-variants.{Accepted}
-use Rattle.table.specs.declared.records.Step.the-variants as step
 use borrow.Author.Needs.{needs}
 use Rattle.table.proofs.reading.read.Statement.{statement}
 use Rattle.table.proofs.reading.read.Tie as tie
-use Rattle.table.proofs.reading.read.Reads as reads
-use Rattle.table.proofs.reading.read.Lts as lts
-use Rattle.table.proofs.reading.begin.Reads as begin-reads
-use Rattle.table.proofs.reading.pass.Reads as pass-reads
-use Rattle.table.proofs.reading.read_record.Reads as read-record-reads
-use Rattle.table.proofs.reading.shape_from.Reads as shape-from-reads
 
 abbrev Inv-loop : tie.InvT-loop
 Inv-loop table p₀ at₀ p at = Underway table p at
@@ -22,55 +17,42 @@ Inv-loop table p₀ at₀ p at = Underway table p at
 abbrev μ-loop : tie.MeasureT-loop
 μ-loop table p₀ at₀ p at = length table - at
 
--- src/reading.rt:158:9
 returns : tie.Need-returns Inv-loop μ-loop
 returns c = sym (read-long ((c .before .before .args) .table .now) ((c .if1) .taken))
 
--- src/reading.rt:160:9
 begin-requires : tie.Need-begin-requires Inv-loop μ-loop
 begin-requires c κs = search needs
 
--- src/reading.rt:162:5
 loop-holds : tie.Need-loop-holds Inv-loop μ-loop
 loop-holds c = rw ((c .begin) .ensures) (underway-start ((c .before .before .before .args) .table .now) (omega arith))
 
--- src/reading.rt:163:13
 read-record-requires : tie.Need-read-record-requires Inv-loop μ-loop
 read-record-requires c κs = (omega (arith, (c .loop) .inv .short, (c .loop) .inv .inside), (c .loop) .inv .ranged)
 
--- src/reading.rt:165:29
 enum-known-step : tie.Need-enum-known-step Inv-loop μ-loop
 enum-known-step c = (c .match) .keys1
 
--- src/reading.rt:166:17
 returns-2 : tie.Need-returns-2 Inv-loop μ-loop
 returns-2 c = underway-refused ((c .before .before .before .before .before .before .before .before .args) .table .now) ((c .before .before .before .before .loop) .p) ((c .before .before .before .before .loop) .at) _ _ ((c .before .before .before .before .loop) .inv) (sym ((c .before .before .before .read-record) .ensures) ∙ (c .before .step) .given .1)
 
--- src/reading.rt:172:42
 enum-told : tie.Need-enum-told Inv-loop μ-loop
 enum-told c = (c .match) .keys2
 
--- src/reading.rt:172:42
 shape-from-requires : tie.Need-shape-from-requires Inv-loop μ-loop
 shape-from-requires c κs = omega (arith, (c .before .before .before .loop) .inv .short, (c .before .before .before .loop) .inv .inside, (c .before .before .before .loop) .inv .ranged .invariants)
 
--- src/reading.rt:172:17
 returns-3 : tie.Need-returns-3 Inv-loop μ-loop
 returns-3 c = ap Accepted ((c .shape-from) .ensures) ∙ underway-end ((c .before .before .before .before .before .before .before .before .args) .table .now) ((c .before .before .before .before .loop) .p) ((c .before .before .before .before .loop) .at) ((c .before .before .before .before .loop) .inv) (sym ((c .before .before .before .read-record) .ensures) ∙ (c .before .enum-told) .given .1)
 
--- src/reading.rt:174:24
 enum-known-step-2 : tie.Need-enum-known-step-2 Inv-loop μ-loop
 enum-known-step-2 c = (c .match) .keys3
 
--- src/reading.rt:175:17
 pass-requires : tie.Need-pass-requires Inv-loop μ-loop
 pass-requires c κs = omega (arith, (c .before .before .before .before .loop) .inv .short, (c .before .before .before .before .loop) .inv .inside)
 
--- src/reading.rt:162:5
 loop-less : tie.Need-loop-less Inv-loop μ-loop
 loop-less c = let within = next-within ((c .before .before .before .before .before .before .before .before .before .args) .table .now) ((c .before .before .before .before .before .loop) .p) _ ((c .before .before .before .before .before .loop) .at) (sym ((c .before .before .before .before .read-record) .ensures) ∙ (c .before .before .step2) .given .1) in omega (arith, (c .pass) .ensures)
 
--- src/reading.rt:162:5
 loop-again : tie.Need-loop-again Inv-loop μ-loop
 loop-again c = rw ((c .pass) .ensures) (underway-next ((c .before .before .before .before .before .before .before .before .before .args) .table .now) ((c .before .before .before .before .before .loop) .p) _ ((c .before .before .before .before .before .loop) .at) (λ i. omega (arith, (c .before .before .before .before .before .before .before .before .shared-slice-known) .given i)) ((c .before .before .before .before .before .loop) .inv) (sym ((c .before .before .before .before .read-record) .ensures) ∙ (c .before .before .step2) .given .1))
 

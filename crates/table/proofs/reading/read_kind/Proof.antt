@@ -1,91 +1,66 @@
+-- `read_kind` meets its contract: each arm of its match is the record of that kind. Assumes nothing.
 use Prim.Native.Nat.{ℕ}
 use mathlib.Core.Path.{sym, _∙_, ap}
 use native.Mathlib.Omega.{arith}
-use Rattle.table.specs.Records.{Record, recordOf, end}
+use Rattle.table.specs.Records.{Record, recordOf}
 use Rattle.table.specs.Refusals.{decide, rowsOf, nextOf, edgeRows, branchRows, afterEdge, afterBranch}
 use Rattle.table.specs.declared.records.Step.the-variants.{Next}
 use Rattle.table.specs.Turns.{other-kind}
 use borrow.Author.Needs.{needs}
 use Rattle.table.proofs.reading.read_kind.Statement.{statement}
 use Rattle.table.proofs.reading.read_kind.Tie as tie
-use Rattle.table.proofs.reading.read_kind.Reads as reads
-use Rattle.table.proofs.reading.read_kind.Lts as lts
-use Rattle.table.proofs.format.two_bytes.Reads as two-bytes-reads
-use Rattle.table.proofs.records.read_branch.Reads as read-branch-reads
-use Rattle.table.proofs.records.read_edge.Reads as read-edge-reads
-use Rattle.table.proofs.records.read_end.Reads as read-end-reads
-use Rattle.table.proofs.records.read_guard.Reads as read-guard-reads
-use Rattle.table.proofs.records.read_header.Reads as read-header-reads
-use Rattle.table.proofs.records.read_invariant.Reads as read-invariant-reads
-use Rattle.table.proofs.records.read_location.Reads as read-location-reads
 
--- src/reading.rt:76:14
 read-header-requires : tie.Need-read-header-requires
 read-header-requires c κs = search needs
 
--- src/reading.rt:77:14
 read-location-requires : tie.Need-read-location-requires
 read-location-requires c κs = omega (arith, (c .before .pre))
 
--- src/reading.rt:78:14
 read-invariant-requires : tie.Need-read-invariant-requires
 read-invariant-requires c κs = search needs
 
--- src/reading.rt:88:39
 two-bytes-requires : tie.Need-two-bytes-requires
 two-bytes-requires c κs = search needs
 
--- src/reading.rt:88:14
 read-edge-requires : tie.Need-read-edge-requires
 read-edge-requires c κs = search needs
 
--- src/reading.rt:89:14
 read-guard-requires : tie.Need-read-guard-requires
 read-guard-requires c κs = search needs
 
--- src/reading.rt:102:25
 two-bytes-requires-2 : tie.Need-two-bytes-requires-2
 two-bytes-requires-2 c κs = search needs
 
--- src/reading.rt:98:14
 read-branch-requires : tie.Need-read-branch-requires
 read-branch-requires c κs = omega (arith, (c .before .before .pre), (c .two-bytes2) .ensures)
 
--- src/reading.rt:107:14
 read-end-requires : tie.Need-read-end-requires
 read-end-requires c κs = search needs
 
--- src/reading.rt:70:1
 returns : tie.Need-returns
 unfolding recordOf rowsOf nextOf
 returns c = (c .read-header) .ensures ∙ sym (ap (λ (k : ℕ). decide (rowsOf ((c .before .before .args) .p) ((c .before .before .args) .at) ((c .before .before .args) .size) (recordOf k ((c .before .before .args) .body))) (nextOf ((c .before .before .args) .p) ((c .before .before .args) .at) (recordOf k ((c .before .before .args) .body)))) ((c .before .match) .keys1))
 
--- src/reading.rt:70:1
 returns-2 : tie.Need-returns-2
 unfolding recordOf rowsOf nextOf
 returns-2 c = (c .read-location) .ensures ∙ sym (ap (λ (k : ℕ). decide (rowsOf ((c .before .before .args) .p) ((c .before .before .args) .at) ((c .before .before .args) .size) (recordOf k ((c .before .before .args) .body))) (nextOf ((c .before .before .args) .p) ((c .before .before .args) .at) (recordOf k ((c .before .before .args) .body)))) ((c .before .match) .keys2))
 
--- src/reading.rt:70:1
 returns-3 : tie.Need-returns-3
 unfolding recordOf rowsOf nextOf
 returns-3 c = (c .read-invariant) .ensures ∙ sym (ap (λ (k : ℕ). decide (rowsOf ((c .before .before .args) .p) ((c .before .before .args) .at) ((c .before .before .args) .size) (recordOf k ((c .before .before .args) .body))) (nextOf ((c .before .before .args) .p) ((c .before .before .args) .at) (recordOf k ((c .before .before .args) .body)))) ((c .before .match) .keys3))
 
--- src/reading.rt:70:1
 returns-4 : tie.Need-returns-4
 unfolding recordOf rowsOf nextOf
 returns-4 c = (c .read-edge) .ensures ∙ ap (λ (w : ℕ). decide (edgeRows ((c .before .before .before .args) .p) ((c .before .before .before .args) .at) ((c .before .before .before .args) .body .a) w) (Next (afterEdge ((c .before .before .before .args) .p) ((c .before .before .before .args) .at) w))) ((c .before .two-bytes) .ensures .0) ∙ sym (ap (λ (k : ℕ). decide (rowsOf ((c .before .before .before .args) .p) ((c .before .before .before .args) .at) ((c .before .before .before .args) .size) (recordOf k ((c .before .before .before .args) .body))) (nextOf ((c .before .before .before .args) .p) ((c .before .before .before .args) .at) (recordOf k ((c .before .before .before .args) .body)))) ((c .before .before .match) .keys4))
 
--- src/reading.rt:70:1
 returns-5 : tie.Need-returns-5
 unfolding recordOf rowsOf nextOf
 returns-5 c = (c .read-guard) .ensures ∙ sym (ap (λ (k : ℕ). decide (rowsOf ((c .before .before .args) .p) ((c .before .before .args) .at) ((c .before .before .args) .size) (recordOf k ((c .before .before .args) .body))) (nextOf ((c .before .before .args) .p) ((c .before .before .args) .at) (recordOf k ((c .before .before .args) .body)))) ((c .before .match) .keys5))
 
--- src/reading.rt:70:1
 returns-6 : tie.Need-returns-6
 unfolding recordOf rowsOf nextOf
 returns-6 c = (c .read-branch) .ensures ∙ ap (λ (w : ℕ). decide (branchRows ((c .before .before .before .args) .p) ((c .before .before .before .args) .at) (record { weight = w; target = (c .before .before .before .args) .body .c; mask = (c .before .before .before .args) .body .d })) (Next (afterBranch ((c .before .before .before .args) .p) w))) ((c .before .two-bytes2) .ensures .0) ∙ sym (ap (λ (k : ℕ). decide (rowsOf ((c .before .before .before .args) .p) ((c .before .before .before .args) .at) ((c .before .before .before .args) .size) (recordOf k ((c .before .before .before .args) .body))) (nextOf ((c .before .before .before .args) .p) ((c .before .before .before .args) .at) (recordOf k ((c .before .before .before .args) .body)))) ((c .before .before .match) .keys6))
 
--- src/reading.rt:70:1
 returns-7 : tie.Need-returns-7
 unfolding rowsOf nextOf
 returns-7 c = (c .read-end) .ensures ∙ sym (ap (λ (r : Record). decide (rowsOf ((c .before .before .args) .p) ((c .before .before .args) .at) ((c .before .before .args) .size) r) (nextOf ((c .before .before .args) .p) ((c .before .before .args) .at) r)) (other-kind ((c .before .before .args) .kind) ((c .before .before .args) .body)

@@ -1,17 +1,13 @@
+-- `is_bound` meets its contract: the arms of its match are the comparisons up to the last. Assumes nothing.
 use mathlib.Core.Path.{sym}
 use native.Mathlib.Omega.{arith}
 use borrow.Author.Tests.{le-leb, lt-leb}
-use borrow.Author.Needs.{needs}
 use Rattle.table.proofs.records.is_bound.Statement.{statement}
 use Rattle.table.proofs.records.is_bound.Tie as tie
-use Rattle.table.proofs.records.is_bound.Reads as reads
-use Rattle.table.proofs.records.is_bound.Lts as lts
 
--- src/records.rt:52:1
 returns : tie.Need-returns
 returns c = sym (le-leb ((c .before .args) .comparison) 1 (omega arith))
 
--- src/records.rt:52:1
 returns-2 : tie.Need-returns-2
 returns-2 c = sym (lt-leb ((c .before .args) .comparison) 1 (omega arith))
 

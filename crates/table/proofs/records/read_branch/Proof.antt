@@ -1,45 +1,34 @@
+-- `read_branch` meets its contract: the tests are the rows of the branch, in their order. Assumes nothing.
 use mathlib.Core.Path.{sym, _∙_}
-use borrow.Author.Tests.{lt-ltb, le-ltb, le-leb, lt-leb, eq-eqb, ne-eqb, leb-true, leb-false, not-true, not-false}
+use borrow.Author.Tests.{lt-ltb, le-ltb, le-leb, lt-leb, eq-eqb, ne-eqb}
 use borrow.Author.Needs.{needs}
 use Rattle.table.proofs.records.read_branch.Statement.{statement}
 use Rattle.table.proofs.records.read_branch.Tie as tie
-use Rattle.table.proofs.records.read_branch.Reads as reads
-use Rattle.table.proofs.records.read_branch.Lts as lts
-use Rattle.table.proofs.records.names_no_clock.Reads as names-no-clock-reads
 
--- src/records.rt:215:9
 returns : tie.Need-returns
 returns c = simp (lt-ltb _ _ ((c .if1) .taken))
 
--- src/records.rt:218:9
 returns-2 : tie.Need-returns-2
 returns-2 c = simp (le-ltb _ _ ((c .before .before .before .if1) .left), le-leb _ _ ((c .if2) .taken))
 
--- src/records.rt:220:8
 names-no-clock-requires : tie.Need-names-no-clock-requires
 names-no-clock-requires c κs = search needs
 
--- src/records.rt:221:9
 returns-3 : tie.Need-returns-3
 returns-3 c = simp (le-ltb _ _ ((c .before .before .before .before .before .if1) .left), lt-leb _ _ ((c .before .before .if2) .left), sym ((c .before .names-no-clock) .ensures) ∙ (c .if3) .taken)
 
--- src/records.rt:224:9
 returns-4 : tie.Need-returns-4
 returns-4 c = simp (le-ltb _ _ ((c .before .before .before .before .before .before .before .if1) .left), lt-leb _ _ ((c .before .before .before .before .if2) .left), sym ((c .before .before .before .names-no-clock) .ensures) ∙ (c .before .before .if3) .left, eq-eqb _ _ ((c .if4) .taken))
 
--- src/records.rt:227:9
 returns-5 : tie.Need-returns-5
 returns-5 c = simp (le-ltb _ _ ((c .before .before .before .before .before .before .before .before .before .if1) .left), lt-leb _ _ ((c .before .before .before .before .before .before .if2) .left), sym ((c .before .before .before .before .before .names-no-clock) .ensures) ∙ (c .before .before .before .before .if3) .left, ne-eqb _ _ ((c .before .before .if4) .left), le-leb _ _ ((c .if5) .taken))
 
--- src/records.rt:231:21
 add-next : tie.Need-add-next
 add-next c = search needs
 
--- src/records.rt:232:20
 add-next-2 : tie.Need-add-next-2
 add-next-2 c = search needs
 
--- src/records.rt:210:1
 returns-6 : tie.Need-returns-6
 returns-6 c = simp (le-ltb _ _ ((c .before .before .before .before .before .before .before .before .before .before .before .before .if1) .left), lt-leb _ _ ((c .before .before .before .before .before .before .before .before .before .if2) .left), sym ((c .before .before .before .before .before .before .before .before .names-no-clock) .ensures) ∙ (c .before .before .before .before .before .before .before .if3) .left, ne-eqb _ _ ((c .before .before .before .before .before .if4) .left), lt-leb _ _ ((c .before .before .before .if5) .left))
 

@@ -1,32 +1,24 @@
-use mathlib.Core.Path.{sym, _∙_}
-use borrow.Author.Tests.{lt-ltb, le-ltb, le-leb, lt-leb, eq-eqb, ne-eqb, leb-true, leb-false, not-true, not-false}
+-- `read_end` meets its contract: the tests are the rows of the end record, in their order. Assumes nothing.
+use borrow.Author.Tests.{lt-ltb, le-ltb, eq-eqb, ne-eqb}
 use borrow.Author.Needs.{needs}
 use Rattle.table.proofs.records.read_end.Statement.{statement}
 use Rattle.table.proofs.records.read_end.Tie as tie
-use Rattle.table.proofs.records.read_end.Reads as reads
-use Rattle.table.proofs.records.read_end.Lts as lts
 
--- src/records.rt:242:9
 returns : tie.Need-returns
 returns c = simp (lt-ltb _ _ ((c .if1) .taken))
 
--- src/records.rt:245:9
 returns-2 : tie.Need-returns-2
 returns-2 c = simp (le-ltb _ _ ((c .before .before .if1) .left), ne-eqb _ _ ((c .if2) .taken))
 
--- src/records.rt:247:8
 add-if3 : tie.Need-add-if3
 add-if3 c = search needs
 
--- src/records.rt:248:51
 add-t6 : tie.Need-add-t6
 add-t6 c = search needs
 
--- src/records.rt:248:9
 returns-3 : tie.Need-returns-3
 returns-3 c = simp (le-ltb _ _ ((c .before .before .before .if1) .left), eq-eqb _ _ ((c .before .if2) .left), lt-ltb _ _ ((c .if3) .taken))
 
--- src/records.rt:237:1
 returns-4 : tie.Need-returns-4
 returns-4 c = simp (le-ltb _ _ ((c .before .before .before .if1) .left), eq-eqb _ _ ((c .before .if2) .left), le-ltb _ _ ((c .if3) .left))
 

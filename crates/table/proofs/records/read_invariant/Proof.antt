@@ -1,45 +1,34 @@
+-- `read_invariant` meets its contract: the tests are the rows of the invariant atom, in their order. Assumes nothing.
 use mathlib.Core.Path.{sym, _∙_}
 use borrow.Author.Tests.{lt-ltb, le-ltb, le-leb, lt-leb, eq-eqb, ne-eqb, leb-true, leb-false, not-true, not-false}
 use borrow.Author.Needs.{needs}
 use Rattle.table.proofs.records.read_invariant.Statement.{statement}
 use Rattle.table.proofs.records.read_invariant.Tie as tie
-use Rattle.table.proofs.records.read_invariant.Reads as reads
-use Rattle.table.proofs.records.read_invariant.Lts as lts
-use Rattle.table.proofs.records.is_bound.Reads as is-bound-reads
 
--- src/records.rt:133:9
 returns : tie.Need-returns
 returns c = simp (ne-eqb _ _ ((c .if1) .taken))
 
--- src/records.rt:136:9
 returns-2 : tie.Need-returns-2
 returns-2 c = simp (eq-eqb _ _ ((c .before .before .before .if1) .left), le-leb _ _ ((c .if2) .taken))
 
--- src/records.rt:139:9
 returns-3 : tie.Need-returns-3
 returns-3 c = simp (eq-eqb _ _ ((c .before .before .before .before .before .before .if1) .left), lt-leb _ _ ((c .before .before .before .if2) .left), le-leb _ _ ((c .if3) .taken))
 
--- src/records.rt:141:9
 is-bound-requires : tie.Need-is-bound-requires
 is-bound-requires c κs = search needs
 
--- src/records.rt:142:9
 returns-4 : tie.Need-returns-4
 returns-4 c = simp (eq-eqb _ _ ((c .before .before .before .before .before .before .before .before .if1) .left), lt-leb _ _ ((c .before .before .before .before .before .if2) .left), lt-leb _ _ ((c .before .before .if3) .left), lt-ltb _ _ (leb-false ((c .before .before .before .before .before .before .before .before .before .before .args) .a .comparison) 1 (sym ((c .before .is-bound) .ensures) ∙ not-true ((c .before .is-bound) .result) ((c .if4) .taken))))
 
--- src/records.rt:145:9
 returns-5 : tie.Need-returns-5
 returns-5 c = simp (eq-eqb _ _ ((c .before .before .before .before .before .before .before .before .before .before .if1) .left), lt-leb _ _ ((c .before .before .before .before .before .before .before .if2) .left), lt-leb _ _ ((c .before .before .before .before .if3) .left), le-ltb _ _ (leb-true ((c .before .before .before .before .before .before .before .before .before .before .before .before .args) .a .comparison) 1 (sym ((c .before .before .before .is-bound) .ensures) ∙ not-false ((c .before .before .before .is-bound) .result) ((c .before .before .if4) .left))), lt-ltb _ _ ((c .if5) .taken))
 
--- src/records.rt:148:9
 returns-6 : tie.Need-returns-6
 returns-6 c = simp (eq-eqb _ _ ((c .before .before .before .before .before .before .before .before .before .before .before .before .if1) .left), lt-leb _ _ ((c .before .before .before .before .before .before .before .before .before .if2) .left), lt-leb _ _ ((c .before .before .before .before .before .before .if3) .left), le-ltb _ _ (leb-true ((c .before .before .before .before .before .before .before .before .before .before .before .before .before .before .args) .a .comparison) 1 (sym ((c .before .before .before .before .before .is-bound) .ensures) ∙ not-false ((c .before .before .before .before .before .is-bound) .result) ((c .before .before .before .before .if4) .left))), le-ltb _ _ ((c .before .before .if5) .left), le-leb _ _ ((c .if6) .taken))
 
--- src/records.rt:151:23
 add-next : tie.Need-add-next
 add-next c = search needs
 
--- src/records.rt:129:1
 returns-7 : tie.Need-returns-7
 returns-7 c = simp (eq-eqb _ _ ((c .before .before .before .before .before .before .before .before .before .before .before .before .before .if1) .left), lt-leb _ _ ((c .before .before .before .before .before .before .before .before .before .before .if2) .left), lt-leb _ _ ((c .before .before .before .before .before .before .before .if3) .left), le-ltb _ _ (leb-true ((c .before .before .before .before .before .before .before .before .before .before .before .before .before .before .before .args) .a .comparison) 1 (sym ((c .before .before .before .before .before .before .is-bound) .ensures) ∙ not-false ((c .before .before .before .before .before .before .is-bound) .result) ((c .before .before .before .before .before .if4) .left))), le-ltb _ _ ((c .before .before .before .if5) .left), lt-leb _ _ ((c .before .if6) .left))
 

@@ -1,0 +1,21 @@
+// A digest of a sequence of numbers: 0, and then for each number x the old digest times 257 plus x plus 1, modulo MODULUS.
+ghost use Prim.Native.Nat.{_<_};
+
+const MODULUS: u64 = 4294967291;
+
+// The digest with one number more.
+pub fn mix(digest: u64, x: usize) -> u64 {
+    let number = (x as u64) % 4294967296;
+    ((digest % MODULUS) * 257 + number + 1) % MODULUS
+}
+
+// The digest with all numbers of a list more.
+pub fn mix_list(digest: u64, list: &[usize]) -> u64 {
+    let mut now = digest;
+    let mut i = 0;
+    while i < list.len() {
+        now = mix(now, list[i]);
+        i = i + 1;
+    }
+    now
+}
