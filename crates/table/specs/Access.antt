@@ -1,13 +1,14 @@
--- What the accessors give, of any bytes: definitions that walk from record to record. Of a table that was read they are
--- the items of its model, and a value of zeros where there is no such item (a choice of ours; laws in `AccessLaws`).
+-- What the accessors give, of any bytes: definitions that walk from record to record. Of a table that was read, with its shape
+-- or the place of one of its edges, they are the items of its model (laws in `Reads`). What they give past the last item, an
+-- item of zeros, is a choice of ours, and so is what they give of other bytes and places; every choice gives the items of a
+-- model that was read.
 use Prim.Native.Nat.{ℕ, zero, suc, _+_}
 use mathlib.Core.Bool.{cond}
 use mathlib.Core.List.{List, [], _∷_}
 use lib.Dec.{eqb}
-use lib.ListN.{getD}
 use Rattle.table.specs.Format.{bodyLength, twoBytes, maxGuards, maxBranches}
 use Rattle.table.specs.Model.{Edge}
-use Rattle.table.specs.Records.{kindAt}
+use Rattle.table.specs.Records.{kindAt, bodyAt, invariantOf, guardOf, branchOf}
 use Rattle.table.specs.declared.model.Invariant.{Invariant}
 use Rattle.table.specs.declared.model.Guard.{Guard}
 use Rattle.table.specs.declared.model.Branch.{Branch}
@@ -50,49 +51,37 @@ abbrev pub itemOr : {A : Type 0} → ℕ → A → (List ℕ → ℕ → A) → 
 itemOr kind nothing read table at = cond (eqb (kindAt table at) kind) (read table at) nothing
 
 abbrev pub readLabel : List ℕ → ℕ → ℕ
-readLabel table at = getD table (at + 1) 0
+readLabel table at = bodyAt table at .a
 
 abbrev pub readInvariant : List ℕ → ℕ → Invariant
-readInvariant table at =
-    record {
-      location = getD table (at + 1) 0;
-      clock = getD table (at + 2) 0;
-      comparison = getD table (at + 3) 0;
-      constant = getD table (at + 4) 0;
-    }
+readInvariant table at = invariantOf (bodyAt table at)
 
 abbrev pub readGuard : List ℕ → ℕ → Guard
-readGuard table at =
-    record { clock = getD table (at + 1) 0; comparison = getD table (at + 2) 0; constant = getD table (at + 3) 0 }
+readGuard table at = guardOf (bodyAt table at)
 
 abbrev pub readBranch : List ℕ → ℕ → Branch
-readBranch table at =
-    record {
-      weight = twoBytes (getD table (at + 1) 0) (getD table (at + 2) 0);
-      target = getD table (at + 3) 0;
-      mask = getD table (at + 4) 0;
-    }
+readBranch table at = branchOf (bodyAt table at)
+
+-- An edge as the arrays hold it, of the place and the body of its record.
+abbrev pub rowWith : ℕ → Body → EdgeRow
+rowWith at b = record { place = at; source = b .a; action = b .b; denominator = twoBytes (b .c) (b .d) }
 
 abbrev pub readRow : List ℕ → ℕ → EdgeRow
-readRow table at =
-    record {
-      place = at;
-      source = getD table (at + 1) 0;
-      action = getD table (at + 2) 0;
-      denominator = twoBytes (getD table (at + 3) 0) (getD table (at + 4) 0);
-    }
+readRow table at = rowWith at (bodyAt table at)
 
 -- Item i of those of a kind that stand from `first` on.
 abbrev pub itemFrom : {A : Type 0} → ℕ → A → (List ℕ → ℕ → A) → List ℕ → ℕ → ℕ → A
 itemFrom kind nothing read table first i = itemOr kind nothing read table (walkTo kind i table first)
 
+-- Kind 2, the locations.
 unfoldable pub labelAt : List ℕ → Shape → ℕ → ℕ
 labelAt table shape i = itemFrom 2 0 readLabel table (shape .«first_location») i
 
+-- Kind 3.
 unfoldable pub invariantAt : List ℕ → Shape → ℕ → Invariant
 invariantAt table shape i = itemFrom 3 noInvariant readInvariant table (shape .«first_invariant») i
 
--- Where the guard atoms and the branches of the edge at a place begin, and the record after them.
+-- Where the guard atoms (kind 5) and the branches (kind 6) of the edge (kind 4) at a place begin, and the record after them.
 unfoldable pub guardsFrom : List ℕ → ℕ → ℕ
 guardsFrom table place = walkTo 4 1 table place
 
@@ -114,7 +103,7 @@ branchAt table place i = itemFrom 6 noBranch readBranch table (branchesFrom tabl
 unfoldable pub branchCount : List ℕ → ℕ → ℕ
 branchCount table place = passed 6 maxBranches table (branchesFrom table place)
 
--- At most `count` edges that stand one after the other from `at` on.
+-- At most `count` edges that stand one after the other from `at` on, each with its guard atoms and branches.
 unfoldable pub rowsFrom : List ℕ → ℕ → ℕ → List EdgeRow
 rowsFrom table zero at = []
 rowsFrom table (suc count) at =

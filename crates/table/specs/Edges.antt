@@ -2,17 +2,17 @@
 -- that the laws for the loop that fills them.
 use Prim.Native.Nat.{ℕ, zero, suc, _+_, _-_, _≤_, _<_}
 use native.Mathlib.Omega.{arith}
-use native.Mathlib.Nat.{sub-zero}
+use native.Mathlib.Nat.{sub-zero, add-zero, add-suc, suc-add, zero-add}
 use native.Mathlib.Numerals.{add-one}
 use mathlib.Core.Path.{_≡_, refl, sym, _∙_, ap}
 use mathlib.Core.Bool.{cond}
 use mathlib.Core.List.{List, [], _∷_, map}
 use mathlib.Core.Logic.{_⊎_, inl, inr}
-use lib.ListN.{set, getD}
-use lib.Seq.{sets}
+use lib.ListN.{length, set, getD, length-set, length-map, List·getD-map}
+use lib.Seq.{sets, getD-set-same, getD-set-other}
 use borrow.Author.Tests.{eq-eqb, ne-eqb}
 use Rattle.table.specs.Records.{kindAt}
-use Rattle.table.specs.Access.{readRow, nextEdge, rowsFrom}
+use Rattle.table.specs.Access.{noRow, readRow, nextEdge, rowsFrom}
 use Rattle.table.specs.declared.model.EdgeRow.{EdgeRow}
 
 -- Edge i of the arrays.
@@ -33,6 +33,41 @@ pub record Filled (rows : List EdgeRow) (p s a d p′ s′ a′ d′ : List ℕ)
   pub sources : s′ ≡ sets s 0 (map (λ r. r .source) rows)
   pub actions : a′ ≡ sets a 0 (map (λ r. r .action) rows)
   pub denominators : d′ ≡ sets d 0 (map (λ r. r .denominator) rows)
+
+-- Where an array has room for a row, it holds it.
+
+sets-before : (vs now : List ℕ) (i j : ℕ) → j < i → getD (sets now i vs) j 0 ≡ getD now j 0
+sets-before [] now i j h = refl
+sets-before (v ∷ vs) now i j h = sets-before vs (set now i v) (suc i) j (omega arith) ∙ getD-set-other now i j v 0 (omega arith)
+
+sets-at : (vs now : List ℕ) (i j : ℕ) → j < length vs → i + j < length now → getD (sets now i vs) (i + j) 0 ≡ getD vs j 0
+sets-at [] now i j h room = absurd (omega arith)
+sets-at (v ∷ vs) now i zero h room =
+    rw (add-zero i) (sets-before vs (set now i v) (suc i) i (omega arith) ∙ getD-set-same now i v 0 (omega arith))
+sets-at (v ∷ vs) now i (suc j) h room =
+    ap (λ n. getD (sets (set now i v) (suc i) vs) n 0) (add-suc i j ∙ sym (suc-add i j))
+    ∙ sets-at vs (set now i v) (suc i) j (omega arith) (rw length-set (omega arith))
+
+-- Row e of what was stored, for e below the count of rows and within each array.
+pub row-filled : (rows : List EdgeRow) (p s a d p′ s′ a′ d′ : List ℕ) → Filled rows p s a d p′ s′ a′ d′
+    → (e : ℕ) → e < length rows → e < length p → e < length s → e < length a → e < length d
+    → rowIn p′ s′ a′ d′ e ≡ getD rows e noRow
+row-filled rows p s a d p′ s′ a′ d′ filled e h hp hs ha hd =
+    rw (
+      part (λ r. r .place) refl p p′ (filled .places) hp,
+      part (λ r. r .source) refl s s′ (filled .sources) hs,
+      part (λ r. r .action) refl a a′ (filled .actions) ha,
+      part (λ r. r .denominator) refl d d′ (filled .denominators) hd,
+    )
+  where
+    part : (f : EdgeRow → ℕ) → f noRow ≡ 0 → (old now : List ℕ) → now ≡ sets old 0 (map f rows) → e < length old
+        → getD now e 0 ≡ f (getD rows e noRow)
+    part f zeros old now stored room =
+        ap (λ l. getD l e 0) stored
+        ∙ ap (λ n. getD (sets old 0 (map f rows)) n 0) (sym (zero-add e))
+        ∙ sets-at (map f rows) old 0 e (rw length-map h) (rw zero-add room)
+        ∙ ap (λ z. getD (map f rows) e z) (sym zeros)
+        ∙ List·getD-map f rows e noRow
 
 module _ (table : List ℕ) (count first : ℕ) where
   -- Storing one part of each row, from row i at a place on, comes to what storing all rows comes to.

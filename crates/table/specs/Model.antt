@@ -1,4 +1,5 @@
--- The model that a table describes: all that an accepted table says, and nothing of how it was read.
+-- The model that a table describes: all that an accepted table says, and where each edge's record begins, which refusal 12
+-- and the accessors go by.
 -- The atoms and branches are the structs of the code: Invariant (location, clock, comparison, constant),
 -- Guard (clock, comparison, constant), Branch (weight, target, mask).
 use Prim.Native.Nat.{ℕ, _+_, _/_, _%_, _^_}
@@ -18,7 +19,8 @@ pub record Edge : Type 0 where
   pub guards : List Guard
   pub branches : List Branch
 
--- "Locations, clocks and edges are numbered from 0": label l of the list is that of location l, edge e of the list is edge e.
+-- `clocks` is document 01's n, and `locations` the header's count. "Locations, clocks and edges are numbered from 0": label l
+-- of the list is that of location l, edge e of the list is edge e.
 pub record Model : Type 0 where
   pub clocks : ℕ
   pub locations : ℕ

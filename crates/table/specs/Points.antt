@@ -1,6 +1,6 @@
--- Points on each border that document 01 marks ★, as one table: each row is a question to a definition that the contracts
--- cite, and its answer. `points-met` proves all rows. The example of "The printed model" is among them, so that what is
--- proved of accepted tables is proved of something.
+-- The points that document 01 marks ★, as far as they are about tables: each row is a question to a definition that the
+-- contracts cite, and its answer, and `points-met` proves all rows. The example of "The printed model" is among them, so that
+-- what is proved of accepted tables is proved of something.
 use Prim.Native.Nat.{ℕ}
 use mathlib.Core.Path.{_≡_, refl}
 use mathlib.Core.List.{List, [], _∷_}

@@ -23,8 +23,8 @@ pub record Item : Type 0 where
 unfoldable pub itemAt : List ℕ → ℕ → Item
 itemAt table at = record { place = at; content = recordAt table at }
 
--- Where the run over the records ends: refused by number and place, or at the end record, with what was remembered
--- there and all records in their order.
+-- Where the run over the records ends: refused by number and place, or at the end record, with all records in their order and
+-- what is remembered there (its counts, which the reader's code goes by).
 pub data Run : Type 0 where
   refused : (number place : ℕ) → Run
   ended : Progress → List Item → Run
@@ -40,7 +40,7 @@ go rest p i (Next q) = before i (rest q)
 go rest p i End = ended p (i ∷ [])
 
 -- "Records are read in order." Each record is at least one byte long, so that a fuel of one more than the bytes left is
--- enough, and any larger one gives the same (`run-enough`).
+-- enough, and any larger one gives the same (`run-enough`): the first clause is never reached from `runTable`.
 unfoldable pub run : ℕ → List ℕ → Progress → ℕ → Run
 run zero table p at = refused 2 at
 run (suc fuel) table p at = go (λ q. run fuel table q (past table at)) p (itemAt table at) (stepAt table p at)

@@ -1,22 +1,38 @@
 -- The model that a table was read as, and the items that the accessors then give: what the layer above goes by.
-use Prim.Native.Nat.{ℕ}
-use mathlib.Core.Path.{_≡_, _∙_, ap}
+use Prim.Native.Nat.{ℕ, _<_}
+use native.Mathlib.Omega.{arith}
+use mathlib.Core.Path.{_≡_, refl, _∙_, ap}
 use mathlib.Core.List.{List, map}
-use lib.ListN.{length, getD}
+use lib.ListN.{length, getD, length-map}
 use Rattle.table.specs.Model.{Edge, Model}
-use Rattle.table.specs.Reading.{readTable, accepted}
+use Rattle.table.specs.Reading.{Answer, refusal, accepted, readTable}
+use Rattle.table.specs.Answer.{readingOf}
+use Rattle.table.specs.Edges.{Filled, rowIn, row-filled}
 use Rattle.table.specs.Written.{Bytes, shapeOf}
 use Rattle.table.specs.Access.{noInvariant, noGuard, noBranch, noEdge, labelAt, invariantAt, guardAt, guardCount, branchAt, branchCount, rowsFrom, rowOf}
-use Rattle.table.specs.AcceptedLaws.{sound, table-written, places}
-use Rattle.table.specs.AccessLaws.{label-is, invariant-is, rows-are, EdgeParts, edge-parts-are}
+use Rattle.table.specs.Laws.Models.{sound, table-written, places}
+use Rattle.table.specs.Laws.Items.{label-is, invariant-is, rows-are, row-is, EdgeParts, edge-parts-are}
 use Rattle.table.specs.declared.model.Shape.{Shape}
+use Rattle.table.specs.declared.model.Reading.the-variants.{Accepted}
 
 -- The table is accepted with this model, and this is its shape.
 pub record Reads (table : List ℕ) (shape : Shape) (m : Model) : Type 0 where
   pub answer : readTable table ≡ accepted m
   pub shape-is : shape ≡ shapeOf m
 
--- Edge e of a model, with zeros and no atoms or branches past the last.
+-- So it is of each table that `read` accepts, with the shape that it gives; and there is one such model.
+pub reads-of : (table : List ℕ) (shape : Shape) → Accepted shape ≡ readingOf (readTable table) → (m : Model) × Reads table shape m
+unfolding readingOf
+reads-of table shape given = of (readTable table) refl given
+  where
+    of : (a : Answer) → readTable table ≡ a → Accepted shape ≡ readingOf a → (m : Model) × Reads table shape m
+    of (refusal n p) answer e = absurd (let z : _≡_ {A = ℕ} 0 1 = cc in omega arith)
+    of (accepted m) answer e = (m, record { answer = answer; shape-is = cc })
+
+pub reads-one : (table : List ℕ) (shape : Shape) (m k : Model) → Reads table shape m → Reads table shape k → m ≡ k
+reads-one table shape m k r q = cc (r .answer, q .answer)
+
+-- Edge e of a model; past the last, zeros with no atoms and no branches (a choice of ours).
 abbrev pub edgeOf : Model → ℕ → Edge
 edgeOf m e = getD (m .edges) e noEdge
 
@@ -33,10 +49,19 @@ module _ (table : List ℕ) (m : Model) (bytes : Bytes table) where
     pub invariant-read : (i : ℕ) → invariantAt table shape i ≡ getD (m .invariants) i noInvariant
     invariant-read i = rw (reads .shape-is) (invariant-is m table (table-written table m bytes (reads .answer)) i)
 
+    -- The edges by number, as `list_edges` stores them.
     pub rows-read : rowsFrom table (shape .edges) (shape .«first_edge») ≡ map rowOf (m .edges)
     rows-read =
         rw (reads .shape-is)
         (rows-are m table (table-written table m bytes (reads .answer)) (places table m (reads .answer)) (sound table m (reads .answer)))
+
+    -- "The edge list is read by number: source, action and denominator together": where arrays were filled with the edges,
+    -- row e of them is edge e of the model, as far as there are edges and room.
+    pub edge-read : (p s a d p′ s′ a′ d′ : List ℕ) → Filled (map rowOf (m .edges)) p s a d p′ s′ a′ d′
+        → (e : ℕ) → e < length (m .edges) → e < length p → e < length s → e < length a → e < length d
+        → rowIn p′ s′ a′ d′ e ≡ rowOf (edgeOf m e)
+    edge-read p s a d p′ s′ a′ d′ filled e h hp hs ha hd =
+        row-filled (map rowOf (m .edges)) p s a d p′ s′ a′ d′ filled e (rw length-map h) hp hs ha hd ∙ row-is (m .edges) e
 
   module _ (place e : ℕ) (reads : ReadsEdge table place m e) where
     parts : EdgeParts table (edgeOf m e)

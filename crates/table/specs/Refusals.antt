@@ -1,8 +1,13 @@
 -- Refusals 2 to 13 (document 01, "Refusal list"): each record's conditions are rows (number, place, condition) in
--- document 01's order, and the first row that holds decides. Refusal 1, of the whole table, stands in `Reading`.
+-- document 01's order, and the first row that holds decides. The numbers of a record's rows rise, so that this is "within it
+-- the lowest number" (`rows-rise`). Refusal 1, of the whole table, stands in `Reading`.
+--
+-- Readings that the rows rest on (docs/DECISIONS.md): a location too many is 5, never 11; an edge without branches is 12,
+-- since its weights sum to 0; 12 is met by the next edge or the end, after all that record's own lower numbers.
 use Prim.Native.Nat.{ℕ, _+_, _^_, _/_}
-use mathlib.Core.Bool.{Bool, cond, not}
-use mathlib.Core.List.{List, [], _∷_}
+use mathlib.Core.Path.{_≡_, refl}
+use mathlib.Core.Bool.{Bool, true, cond, not, _&&_}
+use mathlib.Core.List.{List, [], _∷_, _++_, map}
 use lib.Dec.{eqb, leb, ltb}
 use lib.ListN.{length}
 use Rattle.table.specs.Format.{maxClocks, maxLocations, maxConstant, maxDenominator, maxInvariants, maxEdges, maxGuards, maxBranches, lastBound, lastComparison}
@@ -29,34 +34,38 @@ decide [] next = next
 decide (r ∷ rows) next = cond (r .holds) (Refused (r .number) (r .place)) (decide rows next)
 
 -- "Order: header, as many locations as it says, invariant atoms, edges, end. An edge is followed by its guard atoms,
--- then its branches." The stage says how far that is: which record was read last, and whether locations are missing.
+-- then its branches." The stage says which records may follow.
+-- Nothing was read: only a header may follow.
 abbrev pub atStart : ℕ
 atStart = 0
 
--- Locations are missing: the next record is one.
+-- Locations are missing: only a location may follow.
 abbrev pub inLocations : ℕ
 inLocations = 1
 
--- All locations are there, and no edge is.
+-- All locations are there, and no edge is: an invariant atom, an edge or the end may follow.
 abbrev pub inInvariants : ℕ
 inInvariants = 2
 
--- The last edge has no branch yet.
+-- The last edge has no branch yet: a guard atom, a branch, an edge or the end may follow.
 abbrev pub inGuards : ℕ
 inGuards = 3
 
+-- The last edge has a branch: a branch, an edge or the end may follow.
 abbrev pub inBranches : ℕ
 inBranches = 4
 
 -- A clock that does not exist has its bit set: some bit from n on.
 abbrev pub bitBeyond : ℕ → ℕ → Bool
-bitBeyond n mask = ltb 0 (mask / 2 ^ n)
+bitBeyond mask n = ltb 0 (mask / 2 ^ n)
 
 -- "The edge now finished, by the next edge or the end, has weights that do not sum to W." Before the first edge both are 0.
 abbrev pub unbalanced : Progress → Bool
 unbalanced p = not (eqb (p .weights) (p .denominator))
 
--- The rows of each record. `p` is what was read before it, and it begins at `at`.
+-- The rows of each record. It begins at `at`, and `p` is what is remembered of the records before it: the stage; the header's
+-- numbers; how many locations (`labels`), invariant atoms and edges were read; and of the last edge its place, its denominator,
+-- how many guard atoms and branches it has, and the sum of their weights.
 
 abbrev pub headerRows : Progress → ℕ → ℕ → ℕ → ℕ → List Row
 headerRows p at clocks locations initial =
@@ -103,7 +112,7 @@ abbrev pub branchRows : Progress → ℕ → Branch → List Row
 branchRows p at b =
     row 5 at (ltb (p .stage) inGuards)
     ∷ row 7 at (leb (p .locations) (b .target))
-    ∷ row 7 at (bitBeyond (p .clocks) (b .mask))
+    ∷ row 7 at (bitBeyond (b .mask) (p .clocks))
     ∷ row 10 at (eqb (b .weight) 0)
     ∷ row 11 at (leb maxBranches (p .branches))
     ∷ []
@@ -126,7 +135,7 @@ rowsOf p at size (branch b) = branchRows p at b
 rowsOf p at size end = endRows p at size
 
 -- What is remembered. A header begins anew; locations and invariant atoms leave all that is known of edges as it is; edges,
--- guard atoms and branches leave all that was read before them.
+-- guard atoms and branches leave the header's numbers and the counts of locations and invariant atoms.
 
 abbrev pub fresh : ℕ → ℕ → ℕ → ℕ → Progress
 fresh stage n l i =
@@ -220,8 +229,28 @@ outerRows table at =
     ∷ row 4 at (ltb (length table) (past table at))
     ∷ []
 
+-- What a record leads to. `size` is the table's length.
+abbrev pub stepOf : Progress → ℕ → ℕ → Record → Step
+stepOf p at size r = decide (rowsOf p at size r) (nextOf p at r)
+
 -- What the record at a place leads to.
 unfoldable pub stepAt : List ℕ → Progress → ℕ → Step
-stepAt table p at =
-    decide (outerRows table at)
-    (decide (rowsOf p at (length table) (recordAt table at)) (nextOf p at (recordAt table at)))
+stepAt table p at = decide (outerRows table at) (stepOf p at (length table) (recordAt table at))
+
+-- Each number is at least the one before it.
+unfoldable pub rising : List ℕ → Bool
+rising [] = true
+rising (n ∷ []) = true
+rising (n ∷ m ∷ l) = leb n m && rising (m ∷ l)
+
+-- "Within it the lowest number": the rows of every record stand in the order of their numbers.
+pub rows-rise : (table : List ℕ) (p : Progress) (at size : ℕ) (r : Record)
+    → rising (map (λ x. x .number) (outerRows table at ++ rowsOf p at size r)) ≡ true
+unfolding rising rowsOf
+rows-rise table p at size (header n l i) = refl
+rows-rise table p at size (location x) = refl
+rows-rise table p at size (invariant a) = refl
+rows-rise table p at size (edge s a w) = refl
+rows-rise table p at size (guard g) = refl
+rows-rise table p at size (branch b) = refl
+rows-rise table p at size end = refl

@@ -51,3 +51,8 @@ pub record Sound (m : Model) : Type 0 where
   pub invariants : All (SoundInvariant (m .clocks) (m .locations)) (m .invariants)
   pub few-edges : length (m .edges) ≤ maxEdges
   pub edges : All (SoundEdge (m .clocks) (m .locations)) (m .edges)
+
+-- "Label (0 to 255)", "action (0 to 255)": so in every model that was read from bytes.
+pub record ByteSized (m : Model) : Type 0 where
+  pub labels : All (λ (x : ℕ). x < 256) (m .labels)
+  pub actions : All (λ (e : Edge). e .action < 256) (m .edges)

@@ -1,6 +1,6 @@
 // The parts of a model, read out of the table's bytes by walking from record to record. Every accessor is total: its first
-// clause says what it gives of any bytes, zeros where there is no such item; its second, that of a table that was read this
-// is the item of the model.
+// clause says what it gives of any bytes, by that walk; its second, that of a table that was read, with its shape or the place
+// of one of its edges, this is the item of the model, and an item of zeros past the last (a choice of ours).
 ghost use Prim.Native.Nat.{ℕ, _+_, _<_, _≤_};
 ghost use mathlib.Core.Path.{_≡_};
 ghost use lib.ListN.{length, getD};

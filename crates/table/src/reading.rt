@@ -3,10 +3,11 @@ ghost use Prim.Native.Nat.{_+_, _<_, _≤_};
 ghost use mathlib.Core.Path.{_≡_};
 ghost use lib.ListN.{length};
 ghost use Rattle.table.specs.Records.{bodyAt, recordOf, past};
-ghost use Rattle.table.specs.Refusals.{decide, rowsOf, nextOf, stepAt, start};
+ghost use Rattle.table.specs.Refusals.{stepOf, stepAt, start};
 ghost use Rattle.table.specs.Reading.{readTable};
-ghost use Rattle.table.specs.AcceptedLaws.{shapeFrom};
-ghost use Rattle.table.specs.Turns.{Ranged, readingOf};
+ghost use Rattle.table.specs.Laws.Models.{shapeFrom};
+ghost use Rattle.table.specs.Answer.{readingOf};
+ghost use Rattle.table.specs.Laws.Turns.{Ranged};
 use crate::format::body_length;
 use crate::format::byte_at;
 use crate::format::two_bytes;
@@ -71,7 +72,7 @@ fn pass(table: &[u8], at: usize) -> usize
 fn read_kind(p: Progress, at: usize, size: usize, kind: u8, body: Body) -> Step
     requires { ⌜ at < 65536 ⌝ }
     requires { ⌜ Ranged p at ⌝ }
-    ensures { λ r. ⌜ r ≡ decide (rowsOf p at size (recordOf kind body)) (nextOf p at (recordOf kind body)) ⌝ }
+    ensures { λ r. ⌜ r ≡ stepOf p at size (recordOf kind body) ⌝ }
 {
     match kind {
         1 => read_header(p, at, body.a, body.b, body.c),

@@ -8,7 +8,8 @@ use crate::model::Branch;
 use crate::model::Guard;
 use crate::model::Invariant;
 
-// The stages of the order: which record was read last, and whether locations are missing.
+// The stages of the order, which say what may follow: the header; a location; an invariant atom, an edge or the end; a guard atom
+// or what the last stage allows; a branch, an edge or the end.
 const AT_START: u8 = 0;
 
 const IN_LOCATIONS: u8 = 1;
@@ -73,7 +74,7 @@ pub fn is_comparison(comparison: u8) -> bool
 
 // Does a mask name a clock that does not exist?
 pub fn names_no_clock(mask: u8, clocks: u8) -> bool
-    ensures { λ r. ⌜ r ≡ bitBeyond clocks mask ⌝ }
+    ensures { λ r. ⌜ r ≡ bitBeyond mask clocks ⌝ }
 {
     if clocks < 8 {
         0 < mask >> clocks

@@ -9,7 +9,10 @@ slice-relend-prefix-bytes : tie.Need-slice-relend-prefix-bytes
 slice-relend-prefix-bytes c = search needs
 
 slice-aggregate-bytes : tie.Need-slice-aggregate-bytes
-slice-aggregate-bytes c = sym (length-take-le ((c .before .before .args) .size) ((c .before .before .args) .buffer .now) ((c .before .before .pre) .0))
+slice-aggregate-bytes c =
+    let args = c .before .before .args in
+    let pre = c .before .before .pre in
+    sym (length-take-le args.size args.buffer.now pre.0)
 
 read-full-requires : tie.Need-read-full-requires
 read-full-requires c κs = search needs

@@ -13,7 +13,9 @@ walk-requires c κs = search needs
 
 returns : tie.Need-returns
 unfolding branchesFrom
-returns c = (c .walk) .ensures .0 ∙ ap (walkTo 5 8 ((c .before .before .before .args) .table .now)) ((c .before .guards-from) .ensures)
+returns c =
+    let args = c .before .before .before .args in
+    c .walk .ensures .0 ∙ ap (walkTo 5 8 args.table.now) (c .before .guards-from .ensures)
 
 pub branches-from-spec : {M : Type 1} → statement M
 branches-from-spec = tie.close (tie.spec guards-from-requires walk-requires returns)

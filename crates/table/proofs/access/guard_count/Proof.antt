@@ -16,8 +16,14 @@ walk-requires c κs = search needs
 
 returns : tie.Need-returns
 unfolding guardCount
-returns c = let given = (c .walk) .ensures .1 ∙ ap (passed 5 8 ((c .before .before .before .args) .table .now)) ((c .before .guards-from) .ensures) in
-    (given, λ m e reads. given ∙ guard-count-read ((c .before .before .before .args) .table .now) m (λ i. omega (arith, (c .before .before .shared-slice-known) .given i)) ((c .before .before .before .args) .place) e reads)
+returns c =
+    let args = c .before .before .before .args in
+    let shared-slice-known = c .before .before .shared-slice-known in
+    let given = c .walk .ensures .1 ∙ ap (passed 5 8 args.table.now) (c .before .guards-from .ensures) in (
+      given,
+      λ m e reads. given
+          ∙ guard-count-read args.table.now m (λ i. omega (arith, shared-slice-known.given i)) args.place e reads,
+    )
 
 pub guard-count-spec : {M : Type 1} → statement M
 guard-count-spec = tie.close (tie.spec guards-from-requires walk-requires returns)

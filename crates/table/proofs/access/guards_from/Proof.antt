@@ -9,7 +9,7 @@ walk-requires c κs = search needs
 
 returns : tie.Need-returns
 unfolding guardsFrom
-returns c = (c .walk) .ensures .0
+returns c = c .walk .ensures .0
 
 pub guards-from-spec : {M : Type 1} → statement M
 guards-from-spec = tie.close (tie.spec walk-requires returns)

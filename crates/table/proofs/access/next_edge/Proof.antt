@@ -13,7 +13,9 @@ walk-requires c κs = search needs
 
 returns : tie.Need-returns
 unfolding nextEdge
-returns c = (c .walk) .ensures .0 ∙ ap (walkTo 6 8 ((c .before .before .before .args) .table .now)) ((c .before .branches-from) .ensures)
+returns c =
+    let args = c .before .before .before .args in
+    c .walk .ensures .0 ∙ ap (walkTo 6 8 args.table.now) (c .before .branches-from .ensures)
 
 pub next-edge-spec : {M : Type 1} → statement M
 next-edge-spec = tie.close (tie.spec branches-from-requires walk-requires returns)

@@ -5,7 +5,7 @@ use mathlib.Core.Path.{_≡_, refl, sym, _∙_}
 use mathlib.Core.Logic.{inl, inr}
 use native.Mathlib.Omega.{arith}
 use lib.ListN.{length}
-use Rattle.table.specs.Walks.{inside}
+use Rattle.table.specs.Laws.Walks.{inside}
 use Rattle.table.specs.Reads.{rows-read}
 use Rattle.table.specs.Edges.{Filling, filling-start, filling-on, filling-over}
 use borrow.Author.Needs.{needs}
@@ -21,29 +21,57 @@ abbrev μ-loop : tie.MeasureT-loop
 μ-loop table places₀ sources₀ actions₀ denominators₀ count at₀ i₀ places sources actions denominators at i = count - i
 
 loop-holds : tie.Need-loop-holds Inv-loop μ-loop
-loop-holds c = (filling-start ((c .before .before .before .before .before .args) .table .now) ((c .before .before .before .before .before .args) .shape .edges) ((c .before .before .before .before .before .args) .shape .«first_edge») ((c .before .before .before .before .before .args) .places .now) ((c .before .before .before .before .before .args) .sources .now) ((c .before .before .before .before .before .args) .actions .now) ((c .before .before .before .before .before .args) .denominators .now), refl, refl, refl, refl)
+loop-holds c =
+    let args = c .before .before .before .before .before .args in (
+      filling-start args.table.now args.shape.edges args.shape.«first_edge» args.places.now args.sources.now args.actions.now
+          args.denominators.now,
+      refl,
+      refl,
+      refl,
+      refl,
+    )
 
 byte-at-requires : tie.Need-byte-at-requires Inv-loop μ-loop
 byte-at-requires c κs = search needs
 
 same-length : tie.Need-same-length Inv-loop μ-loop
-same-length c = (c .before .before .before .loop) .inv .1
+same-length c =
+    let loop = c .before .before .before .loop in
+    loop.inv.1
 
 same-length-2 : tie.Need-same-length-2 Inv-loop μ-loop
-same-length-2 c = (c .before .before .before .loop) .inv .2
+same-length-2 c =
+    let loop = c .before .before .before .loop in
+    loop.inv.2
 
 same-length-3 : tie.Need-same-length-3 Inv-loop μ-loop
-same-length-3 c = (c .before .before .before .loop) .inv .3
+same-length-3 c =
+    let loop = c .before .before .before .loop in
+    loop.inv.3
 
 same-length-4 : tie.Need-same-length-4 Inv-loop μ-loop
-same-length-4 c = (c .before .before .before .loop) .inv .4
+same-length-4 c =
+    let loop = c .before .before .before .loop in
+    loop.inv.4
 
 returns : tie.Need-returns Inv-loop μ-loop
-returns c = let filled = filling-over ((c .before .before .before .before .before .before .before .before .before .args) .table .now) ((c .before .before .before .before .before .before .before .before .before .args) .shape .edges) ((c .before .before .before .before .before .before .before .before .before .args) .shape .«first_edge») ((c .before .before .before .loop) .at) ((c .before .before .before .loop) .i) ((c .before .before .before .before .before .before .before .before .before .args) .places .now) ((c .before .before .before .before .before .before .before .before .before .args) .sources .now) ((c .before .before .before .before .before .before .before .before .before .args) .actions .now) ((c .before .before .before .before .before .before .before .before .before .args) .denominators .now) ((c .before .before .before .loop) .places) ((c .before .before .before .loop) .sources) ((c .before .before .before .loop) .actions) ((c .before .before .before .loop) .denominators) (inr (λ e. (c .if1) .taken ((c .before .byte-at) .ensures ∙ e))) ((c .before .before .before .loop) .inv .0) in
-    (filled, λ m reads. rw (rows-read ((c .before .before .before .before .before .before .before .before .before .args) .table .now) m (λ i. omega (arith, (c .before .before .before .before .before .before .before .before .shared-slice-known) .given i)) ((c .before .before .before .before .before .before .before .before .before .args) .shape) reads) at filled)
+returns c =
+    let args = c .before .before .before .before .before .before .before .before .before .args in
+    let loop = c .before .before .before .loop in
+    let shared-slice-known = c .before .before .before .before .before .before .before .before .shared-slice-known in
+    let filled = filling-over args.table.now args.shape.edges args.shape.«first_edge» loop.at loop.i args.places.now
+    args.sources.now args.actions.now args.denominators.now loop.places loop.sources loop.actions loop.denominators
+    (inr (λ e. c .if1 .taken (c .before .byte-at .ensures ∙ e))) loop.inv.0 in (
+      filled,
+      λ m reads. rw (rows-read args.table.now m (λ i. omega (arith, shared-slice-known.given i)) args.shape reads) at
+          filled,
+    )
 
 row-at-requires : tie.Need-row-at-requires Inv-loop μ-loop
-row-at-requires c κs = inside ((c .before .before .before .before .before .before .before .before .before .args) .table .now) ((c .before .before .before .loop) .at) 4 (sym ((c .before .byte-at) .ensures) ∙ (c .if1) .left) (omega arith)
+row-at-requires c κs =
+    let args = c .before .before .before .before .before .before .before .before .before .args in
+    let loop = c .before .before .before .loop in
+    inside args.table.now loop.at 4 (sym (c .before .byte-at .ensures) ∙ c .if1 .left) (omega arith)
 
 put-row-requires : tie.Need-put-row-requires Inv-loop μ-loop
 put-row-requires c κs = tt
@@ -52,36 +80,70 @@ next-edge-requires : tie.Need-next-edge-requires Inv-loop μ-loop
 next-edge-requires c κs = search needs
 
 add-i : tie.Need-add-i Inv-loop μ-loop
-add-i c = omega (arith, (c .before .before .before .before .before .before .before .before .before .before .before .before .before .before .before .before .before .loop-test) .taken, (c .before .before .before .before .before .before .before .before .before .before .before .before .before .before .before .before .before .before .before .before .before .before .before .before .good) .1 .0)
+add-i c =
+    let loop-test = c .before .before .before .before .before .before .before .before .before .before .before .before .before
+    .before .before .before .before .loop-test in
+    let good = c .before .before .before .before .before .before .before .before .before .before .before .before .before
+    .before .before .before .before .before .before .before .before .before .before .before .good in
+    omega (arith, loop-test.taken, good.1.0)
 
 loop-less : tie.Need-loop-less Inv-loop μ-loop
-loop-less c = omega (arith, (c .before .before .before .before .before .before .before .before .before .before .before .before .before .before .before .before .before .loop-test) .taken)
+loop-less c =
+    let loop-test = c .before .before .before .before .before .before .before .before .before .before .before .before .before
+    .before .before .before .before .loop-test in
+    omega (arith, loop-test.taken)
 
 loop-again : tie.Need-loop-again Inv-loop μ-loop
-loop-again c = rw ((c .next-edge) .ensures) (
-  filling-on ((c .before .before .before .before .before .before .before .before .before .before .before .before .before .before .before .before .before .before .before .before .before .before .before .before .args) .table .now) ((c .before .before .before .before .before .before .before .before .before .before .before .before .before .before .before .before .before .before .before .before .before .before .before .before .args) .shape .edges) ((c .before .before .before .before .before .before .before .before .before .before .before .before .before .before .before .before .before .before .before .before .before .before .before .before .args) .shape .«first_edge») ((c .before .before .before .before .before .before .before .before .before .before .before .before .before .before .before .before .before .before .loop) .at) ((c .before .before .before .before .before .before .before .before .before .before .before .before .before .before .before .before .before .before .loop) .i) ((c .before .before .before .before .before .before .before .before .before .before .before .before .before .before .before .before .before .before .before .before .before .before .before .before .args) .places .now) ((c .before .before .before .before .before .before .before .before .before .before .before .before .before .before .before .before .before .before .before .before .before .before .before .before .args) .sources .now) ((c .before .before .before .before .before .before .before .before .before .before .before .before .before .before .before .before .before .before .before .before .before .before .before .before .args) .actions .now) ((c .before .before .before .before .before .before .before .before .before .before .before .before .before .before .before .before .before .before .before .before .before .before .before .before .args) .denominators .now) ((c .before .before .before .before .before .before .before .before .before .before .before .before .before .before .before .before .before .before .loop) .places) ((c .before .before .before .before .before .before .before .before .before .before .before .before .before .before .before .before .before .before .loop) .sources) ((c .before .before .before .before .before .before .before .before .before .before .before .before .before .before .before .before .before .before .loop) .actions) ((c .before .before .before .before .before .before .before .before .before .before .before .before .before .before .before .before .before .before .loop) .denominators) ((c .before .before .before .before .before .before .before .before .before .put-row) .last .1 .1 .0) ((c .before .before .before .before .before .before .before .before .before .put-row) .last .1 .1 .1 .0) ((c .before .before .before .before .before .before .before .before .before .put-row) .last .1 .1 .1 .1 .0) ((c .before .before .before .before .before .before .before .before .before .put-row) .last .1 .1 .1 .1 .1 .0)
-      ((c .before .before .before .before .before .before .before .before .before .before .before .before .before .before .before .before .before .loop-test) .taken) (sym ((c .before .before .before .before .before .before .before .before .before .before .before .before .before .before .before .before .byte-at) .ensures) ∙ (c .before .before .before .before .before .before .before .before .before .before .before .before .before .before .before .if1) .left) (rw ((c .before .before .before .before .before .before .before .before .before .before .before .before .before .before .row-at) .ensures) at ((c .before .before .before .before .before .before .before .before .before .put-row) .ensures)) ((c .before .before .before .before .before .before .before .before .before .before .before .before .before .before .before .before .before .before .loop) .inv .0),
-  (c .before .before .before .before .before .before .before .before .before .put-row) .kept .1 .1 .0 ∙ (c .before .before .before .before .before .before .before .before .before .before .before .before .before .before .before .before .before .before .loop) .inv .1,
-  (c .before .before .before .before .before .before .before .before .before .put-row) .kept .1 .1 .1 .0 ∙ (c .before .before .before .before .before .before .before .before .before .before .before .before .before .before .before .before .before .before .loop) .inv .2,
-  (c .before .before .before .before .before .before .before .before .before .put-row) .kept .1 .1 .1 .1 .0 ∙ (c .before .before .before .before .before .before .before .before .before .before .before .before .before .before .before .before .before .before .loop) .inv .3,
-  (c .before .before .before .before .before .before .before .before .before .put-row) .kept .1 .1 .1 .1 .1 .0 ∙ (c .before .before .before .before .before .before .before .before .before .before .before .before .before .before .before .before .before .before .loop) .inv .4,
-)
+loop-again c =
+    let args = c .before .before .before .before .before .before .before .before .before .before .before .before .before
+    .before .before .before .before .before .before .before .before .before .before .before .args in
+    let loop = c .before .before .before .before .before .before .before .before .before .before .before .before .before
+    .before .before .before .before .before .loop in
+    let put-row = c .before .before .before .before .before .before .before .before .before .put-row in
+    let loop-test = c .before .before .before .before .before .before .before .before .before .before .before .before .before
+    .before .before .before .before .loop-test in
+    let byte-at = c .before .before .before .before .before .before .before .before .before .before .before .before .before
+    .before .before .before .byte-at in
+    let if1 = c .before .before .before .before .before .before .before .before .before .before .before .before .before
+    .before .before .if1 in
+    let row-at = c .before .before .before .before .before .before .before .before .before .before .before .before .before
+    .before .row-at in
+    rw (c .next-edge .ensures) (
+      filling-on args.table.now args.shape.edges args.shape.«first_edge» loop.at loop.i args.places.now args.sources.now
+          args.actions.now args.denominators.now loop.places loop.sources loop.actions loop.denominators put-row.last.1.1.0
+          put-row.last.1.1.1.0 put-row.last.1.1.1.1.0 put-row.last.1.1.1.1.1.0 loop-test.taken (sym byte-at.ensures ∙ if1.left)
+          (rw row-at.ensures at put-row.ensures) loop.inv.0,
+      put-row.kept.1.1.0 ∙ loop.inv.1,
+      put-row.kept.1.1.1.0
+          ∙ loop.inv.2,
+      put-row.kept.1.1.1.1.0 ∙ loop.inv.3,
+      put-row.kept.1.1.1.1.1.0 ∙ loop.inv.4,
+    )
 
 same-length-5 : tie.Need-same-length-5 Inv-loop μ-loop
-same-length-5 c = (c .before .loop) .inv .1
+same-length-5 c = c .before .loop .inv .1
 
 same-length-6 : tie.Need-same-length-6 Inv-loop μ-loop
-same-length-6 c = (c .before .loop) .inv .2
+same-length-6 c = c .before .loop .inv .2
 
 same-length-7 : tie.Need-same-length-7 Inv-loop μ-loop
-same-length-7 c = (c .before .loop) .inv .3
+same-length-7 c = c .before .loop .inv .3
 
 same-length-8 : tie.Need-same-length-8 Inv-loop μ-loop
-same-length-8 c = (c .before .loop) .inv .4
+same-length-8 c = c .before .loop .inv .4
 
 returns-2 : tie.Need-returns-2 Inv-loop μ-loop
-returns-2 c = let filled = filling-over ((c .before .before .before .before .before .before .before .args) .table .now) ((c .before .before .before .before .before .before .before .args) .shape .edges) ((c .before .before .before .before .before .before .before .args) .shape .«first_edge») ((c .before .loop) .at) ((c .before .loop) .i) ((c .before .before .before .before .before .before .before .args) .places .now) ((c .before .before .before .before .before .before .before .args) .sources .now) ((c .before .before .before .before .before .before .before .args) .actions .now) ((c .before .before .before .before .before .before .before .args) .denominators .now) ((c .before .loop) .places) ((c .before .loop) .sources) ((c .before .loop) .actions) ((c .before .loop) .denominators) (inl ((c .loop-test) .left)) ((c .before .loop) .inv .0) in
-    (filled, λ m reads. rw (rows-read ((c .before .before .before .before .before .before .before .args) .table .now) m (λ i. omega (arith, (c .before .before .before .before .before .before .shared-slice-known) .given i)) ((c .before .before .before .before .before .before .before .args) .shape) reads) at filled)
+returns-2 c =
+    let args = c .before .before .before .before .before .before .before .args in
+    let loop = c .before .loop in
+    let shared-slice-known = c .before .before .before .before .before .before .shared-slice-known in
+    let filled = filling-over args.table.now args.shape.edges args.shape.«first_edge» loop.at loop.i args.places.now
+    args.sources.now args.actions.now args.denominators.now loop.places loop.sources loop.actions loop.denominators
+    (inl (c .loop-test .left)) loop.inv.0 in (
+      filled,
+      λ m reads. rw (rows-read args.table.now m (λ i. omega (arith, shared-slice-known.given i)) args.shape reads) at
+          filled,
+    )
 
 pub list-edges-spec : {M : Type 1} → statement M
 list-edges-spec =

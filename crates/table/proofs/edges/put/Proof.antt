@@ -18,7 +18,9 @@ returns : tie.Need-returns
 returns c = search needs
 
 returns-2 : tie.Need-returns-2
-returns-2 c = sym (set-out ((c .before .args) .list .now) ((c .before .args) .i) ((c .before .args) .value) ((c .if1) .left))
+returns-2 c =
+    let args = c .before .args in
+    sym (set-out args.list.now args.i args.value (c .if1 .left))
 
 pub put-spec : {M : Type 1} → statement M
 put-spec = tie.close (tie.spec mul-list slice-write-list same-length returns returns-2)

@@ -1,10 +1,7 @@
 -- `row_at` meets its contract: the parts of the record's body, the denominator of two bytes. Assumes nothing.
 use Prim.Native.Nat.{ℕ}
 use mathlib.Core.Path.{_∙_, ap}
-use Rattle.table.specs.Format.{twoBytes}
-use Rattle.table.specs.Records.{bodyAt}
-use Rattle.table.specs.declared.model.EdgeRow.{EdgeRow}
-use Rattle.table.specs.declared.records.Body.{Body}
+use Rattle.table.specs.Access.{rowWith}
 use borrow.Author.Needs.{needs}
 use Rattle.table.proofs.edges.row_at.Statement.{statement}
 use Rattle.table.proofs.edges.row_at.Tie as tie
@@ -22,9 +19,11 @@ two-bytes-requires : tie.Need-two-bytes-requires
 two-bytes-requires c κs = search needs
 
 returns : tie.Need-returns
-unfolding bodyAt
-returns c = let row : Body → EdgeRow = λ b. record { place = (c .before .before .before .before .before .args) .at; source = b .a; action = b .b; denominator = twoBytes (b .c) (b .d) } in
-    ap (λ (w : ℕ). record { place = (c .before .before .before .before .before .args) .at; source = (c .before .before .before .body-at) .result .a; action = (c .before .before .before .body-at) .result .b; denominator = w }) ((c .two-bytes) .ensures .0) ∙ ap row ((c .before .before .before .body-at) .ensures)
+returns c =
+    let args = c .before .before .before .before .before .args in
+    let body-at = c .before .before .before .body-at in
+    ap (λ (w : ℕ). record { place = args.at; source = body-at.result.a; action = body-at.result.b; denominator = w })
+    (c .two-bytes .ensures .0) ∙ ap (rowWith args.at) body-at.ensures
 
 pub row-at-spec : {M : Type 1} → statement M
 row-at-spec = tie.close (tie.spec body-at-requires cast-t4 cast-t5 two-bytes-requires returns)

@@ -14,10 +14,10 @@ array-read-result c = search needs
 
 returns : tie.Need-returns
 unfolding bodyLength bodyLengths
-returns c = (refl, body-short ((c .before .args) .kind))
+returns c = (refl, body-short (c .before .args .kind))
 
 returns-2 : tie.Need-returns-2
-returns-2 c = (sym (body-none ((c .before .args) .kind) ((c .if1) .left)), omega arith)
+returns-2 c = (sym (body-none (c .before .args .kind) (c .if1 .left)), omega arith)
 
 pub body-length-spec : {M : Type 1} → statement M
 body-length-spec = tie.close (tie.spec mul-result array-read-result returns returns-2)

@@ -2,10 +2,9 @@
 use Prim.Native.Nat.{ℕ}
 use mathlib.Core.Path.{sym, _∙_, ap}
 use native.Mathlib.Omega.{arith}
-use Rattle.table.specs.Records.{Record, recordOf}
-use Rattle.table.specs.Refusals.{decide, rowsOf, nextOf, edgeRows, branchRows, afterEdge, afterBranch}
-use Rattle.table.specs.declared.records.Step.the-variants.{Next}
-use Rattle.table.specs.Turns.{other-kind}
+use Rattle.table.specs.Records.{recordOf, edge, branch}
+use Rattle.table.specs.Refusals.{stepOf, rowsOf, nextOf}
+use Rattle.table.specs.Laws.Turns.{other-kind}
 use borrow.Author.Needs.{needs}
 use Rattle.table.proofs.reading.read_kind.Statement.{statement}
 use Rattle.table.proofs.reading.read_kind.Tie as tie
@@ -32,39 +31,69 @@ two-bytes-requires-2 : tie.Need-two-bytes-requires-2
 two-bytes-requires-2 c κs = search needs
 
 read-branch-requires : tie.Need-read-branch-requires
-read-branch-requires c κs = omega (arith, (c .before .before .pre), (c .two-bytes2) .ensures)
+read-branch-requires c κs =
+    let pre = c .before .before .pre in
+    omega (arith, pre, c .two-bytes2 .ensures)
 
 read-end-requires : tie.Need-read-end-requires
 read-end-requires c κs = search needs
 
 returns : tie.Need-returns
 unfolding recordOf rowsOf nextOf
-returns c = (c .read-header) .ensures ∙ sym (ap (λ (k : ℕ). decide (rowsOf ((c .before .before .args) .p) ((c .before .before .args) .at) ((c .before .before .args) .size) (recordOf k ((c .before .before .args) .body))) (nextOf ((c .before .before .args) .p) ((c .before .before .args) .at) (recordOf k ((c .before .before .args) .body)))) ((c .before .match) .keys1))
+returns c =
+    let args = c .before .before .args in
+    c .read-header .ensures
+    ∙ sym (ap (λ (k : ℕ). stepOf args.p args.at args.size (recordOf k args.body)) (c .before .match .keys1))
 
 returns-2 : tie.Need-returns-2
 unfolding recordOf rowsOf nextOf
-returns-2 c = (c .read-location) .ensures ∙ sym (ap (λ (k : ℕ). decide (rowsOf ((c .before .before .args) .p) ((c .before .before .args) .at) ((c .before .before .args) .size) (recordOf k ((c .before .before .args) .body))) (nextOf ((c .before .before .args) .p) ((c .before .before .args) .at) (recordOf k ((c .before .before .args) .body)))) ((c .before .match) .keys2))
+returns-2 c =
+    let args = c .before .before .args in
+    c .read-location .ensures
+    ∙ sym (ap (λ (k : ℕ). stepOf args.p args.at args.size (recordOf k args.body)) (c .before .match .keys2))
 
 returns-3 : tie.Need-returns-3
 unfolding recordOf rowsOf nextOf
-returns-3 c = (c .read-invariant) .ensures ∙ sym (ap (λ (k : ℕ). decide (rowsOf ((c .before .before .args) .p) ((c .before .before .args) .at) ((c .before .before .args) .size) (recordOf k ((c .before .before .args) .body))) (nextOf ((c .before .before .args) .p) ((c .before .before .args) .at) (recordOf k ((c .before .before .args) .body)))) ((c .before .match) .keys3))
+returns-3 c =
+    let args = c .before .before .args in
+    c .read-invariant .ensures
+    ∙ sym (ap (λ (k : ℕ). stepOf args.p args.at args.size (recordOf k args.body)) (c .before .match .keys3))
 
 returns-4 : tie.Need-returns-4
 unfolding recordOf rowsOf nextOf
-returns-4 c = (c .read-edge) .ensures ∙ ap (λ (w : ℕ). decide (edgeRows ((c .before .before .before .args) .p) ((c .before .before .before .args) .at) ((c .before .before .before .args) .body .a) w) (Next (afterEdge ((c .before .before .before .args) .p) ((c .before .before .before .args) .at) w))) ((c .before .two-bytes) .ensures .0) ∙ sym (ap (λ (k : ℕ). decide (rowsOf ((c .before .before .before .args) .p) ((c .before .before .before .args) .at) ((c .before .before .before .args) .size) (recordOf k ((c .before .before .before .args) .body))) (nextOf ((c .before .before .before .args) .p) ((c .before .before .before .args) .at) (recordOf k ((c .before .before .before .args) .body)))) ((c .before .before .match) .keys4))
+returns-4 c =
+    let args = c .before .before .before .args in
+    let arm = c .before .before .match in
+    c .read-edge .ensures
+    ∙ ap (λ (w : ℕ). stepOf args.p args.at args.size (edge args.body.a args.body.b w)) (c .before .two-bytes .ensures .0)
+    ∙ sym (ap (λ (k : ℕ). stepOf args.p args.at args.size (recordOf k args.body)) arm.keys4)
 
 returns-5 : tie.Need-returns-5
 unfolding recordOf rowsOf nextOf
-returns-5 c = (c .read-guard) .ensures ∙ sym (ap (λ (k : ℕ). decide (rowsOf ((c .before .before .args) .p) ((c .before .before .args) .at) ((c .before .before .args) .size) (recordOf k ((c .before .before .args) .body))) (nextOf ((c .before .before .args) .p) ((c .before .before .args) .at) (recordOf k ((c .before .before .args) .body)))) ((c .before .match) .keys5))
+returns-5 c =
+    let args = c .before .before .args in
+    c .read-guard .ensures
+    ∙ sym (ap (λ (k : ℕ). stepOf args.p args.at args.size (recordOf k args.body)) (c .before .match .keys5))
 
 returns-6 : tie.Need-returns-6
 unfolding recordOf rowsOf nextOf
-returns-6 c = (c .read-branch) .ensures ∙ ap (λ (w : ℕ). decide (branchRows ((c .before .before .before .args) .p) ((c .before .before .before .args) .at) (record { weight = w; target = (c .before .before .before .args) .body .c; mask = (c .before .before .before .args) .body .d })) (Next (afterBranch ((c .before .before .before .args) .p) w))) ((c .before .two-bytes2) .ensures .0) ∙ sym (ap (λ (k : ℕ). decide (rowsOf ((c .before .before .before .args) .p) ((c .before .before .before .args) .at) ((c .before .before .before .args) .size) (recordOf k ((c .before .before .before .args) .body))) (nextOf ((c .before .before .before .args) .p) ((c .before .before .before .args) .at) (recordOf k ((c .before .before .before .args) .body)))) ((c .before .before .match) .keys6))
+returns-6 c =
+    let args = c .before .before .before .args in
+    let arm = c .before .before .match in
+    c .read-branch .ensures
+    ∙ ap (λ (w : ℕ). stepOf args.p args.at args.size
+    (branch (record { weight = w; target = args.body.c; mask = args.body.d }))) (c .before .two-bytes2 .ensures .0)
+    ∙ sym (ap (λ (k : ℕ). stepOf args.p args.at args.size (recordOf k args.body)) arm.keys6)
 
 returns-7 : tie.Need-returns-7
 unfolding rowsOf nextOf
-returns-7 c = (c .read-end) .ensures ∙ sym (ap (λ (r : Record). decide (rowsOf ((c .before .before .args) .p) ((c .before .before .args) .at) ((c .before .before .args) .size) r) (nextOf ((c .before .before .args) .p) ((c .before .before .args) .at) r)) (other-kind ((c .before .before .args) .kind) ((c .before .before .args) .body)
-    ((c .before .match) .rest .0 .0 .0 .0 .0 .1) ((c .before .match) .rest .0 .0 .0 .0 .1) ((c .before .match) .rest .0 .0 .0 .1) ((c .before .match) .rest .0 .0 .1) ((c .before .match) .rest .0 .1) ((c .before .match) .rest .1)))
+returns-7 c =
+    let args = c .before .before .args in
+    let arm = c .before .match in
+    c .read-end .ensures ∙ sym
+    (ap (stepOf args.p args.at args.size)
+    (other-kind args.kind args.body arm.rest.0.0.0.0.0.1 arm.rest.0.0.0.0.1 arm.rest.0.0.0.1 arm.rest.0.0.1 arm.rest.0.1
+    arm.rest.1))
 
 pub read-kind-spec : {M : Type 1} → statement M
 read-kind-spec =

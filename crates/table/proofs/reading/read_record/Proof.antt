@@ -8,25 +8,40 @@ use Rattle.table.proofs.reading.read_record.Tie as tie
 
 returns : tie.Need-returns
 unfolding stepAt
-returns c = simp (le-leb _ _ ((c .if1) .taken))
+returns c = simp (le-leb _ _ (c .if1 .taken))
 
 shared-slice-read-kind : tie.Need-shared-slice-read-kind
 shared-slice-read-kind c = search needs
 
 returns-2 : tie.Need-returns-2
 unfolding stepAt
-returns-2 c = simp (lt-leb _ _ ((c .before .before .if1) .left), lt-ltb _ _ ((c .if2) .taken))
+returns-2 c =
+    let if1 = c .before .before .if1 in
+    simp (lt-leb _ _ if1.left, lt-ltb _ _ (c .if2 .taken))
 
 returns-3 : tie.Need-returns-3
 unfolding stepAt
-returns-3 c = simp (lt-leb _ _ ((c .before .before .before .if1) .left), le-ltb _ _ ((c .before .if2) .left), lt-ltb _ _ ((c .if3) .taken))
+returns-3 c =
+    let if1 = c .before .before .before .if1 in
+    simp (lt-leb _ _ if1.left, le-ltb _ _ (c .before .if2 .left), lt-ltb _ _ (c .if3 .taken))
 
 pass-requires : tie.Need-pass-requires
 pass-requires c κs = search needs
 
 returns-4 : tie.Need-returns-4
 unfolding stepAt
-returns-4 c = simp (lt-leb _ _ ((c .before .before .before .before .before .if1) .left), le-ltb _ _ ((c .before .before .before .if2) .left), le-ltb _ _ ((c .before .before .if3) .left), ← ((c .before .pass) .ensures), lt-ltb _ _ ((c .if4) .taken))
+returns-4 c =
+    let if1 = c .before .before .before .before .before .if1 in
+    let if2 = c .before .before .before .if2 in
+    let if3 = c .before .before .if3 in
+    simp (
+      lt-leb _ _ if1.left,
+      le-ltb _ _ if2.left,
+      le-ltb _ _ if3.left,
+      ← (c .before .pass .ensures),
+      lt-ltb _ _
+          (c .if4 .taken),
+    )
 
 body-at-requires : tie.Need-body-at-requires
 body-at-requires c κs = search needs
@@ -36,7 +51,21 @@ read-kind-requires c κs = search needs
 
 returns-5 : tie.Need-returns-5
 unfolding stepAt recordAt
-returns-5 c = simp (lt-leb _ _ ((c .before .before .before .before .before .before .before .if1) .left), le-ltb _ _ ((c .before .before .before .before .before .if2) .left), le-ltb _ _ ((c .before .before .before .before .if3) .left), ← ((c .before .before .before .pass) .ensures), le-ltb _ _ ((c .before .before .if4) .left), ← ((c .before .body-at) .ensures)) ((c .read-kind) .ensures)
+returns-5 c =
+    let if1 = c .before .before .before .before .before .before .before .if1 in
+    let if2 = c .before .before .before .before .before .if2 in
+    let if3 = c .before .before .before .before .if3 in
+    let pass = c .before .before .before .pass in
+    let if4 = c .before .before .if4 in
+    simp (
+      lt-leb _ _ if1.left,
+      le-ltb _ _ if2.left,
+      le-ltb _ _ if3.left,
+      ← pass.ensures,
+      le-ltb _ _ if4.left,
+      ←
+          (c .before .body-at .ensures),
+    ) (c .read-kind .ensures)
 
 pub read-record-spec : {M : Type 1} → statement M
 read-record-spec =

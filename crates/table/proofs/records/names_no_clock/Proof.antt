@@ -1,7 +1,7 @@
 -- `names_no_clock` meets its contract: a byte has no bit from 8 on. Assumes nothing.
 use mathlib.Core.Path.{sym, ap}
 use lib.Dec.{ltb}
-use Rattle.table.specs.Masks.{nothing-from}
+use Rattle.table.specs.Laws.Masks.{nothing-from}
 use borrow.Author.Needs.{needs}
 use Rattle.table.proofs.records.names_no_clock.Statement.{statement}
 use Rattle.table.proofs.records.names_no_clock.Tie as tie
@@ -13,7 +13,7 @@ returns : tie.Need-returns
 returns c = search needs
 
 returns-2 : tie.Need-returns-2
-returns-2 c = sym (ap (ltb 0) (nothing-from 8 ((c .before .fits) .mask .fits) ((c .if1) .left)))
+returns-2 c = sym (ap (ltb 0) (nothing-from 8 (c .before .fits .mask .fits) (c .if1 .left)))
 
 pub names-no-clock-spec : {M : Type 1} → statement M
 names-no-clock-spec = tie.close (tie.spec shr-result returns returns-2)

@@ -12,7 +12,7 @@ use lib.ListN.{length, getD, drop, length-append, List·getD-map}
 use lib.Seq.{getD-drop, drop-drop, drop-append-seam}
 use Rattle.table.specs.Format.{bodyLength, twoBytes, maxGuards, maxBranches}
 use Rattle.table.specs.Model.{Edge, Model}
-use Rattle.table.specs.Records.{Record, location, invariant, edge, guard, branch, end, kindOf, bodyOf, kindAt}
+use Rattle.table.specs.Records.{Record, location, invariant, edge, guard, branch, end, kindOf, bodyOf, kindAt, bodyAt}
 use Rattle.table.specs.Sound.{All, none, also, SoundEdge, Sound}
 use Rattle.table.specs.Written.{bytesOf, written, edgeBytes, edgesBytes, tableOf, shapeOf}
 use Rattle.table.specs.Written.{firstLocation, firstInvariant, firstEdge, Placed}
@@ -22,14 +22,14 @@ use Rattle.table.specs.Access.{guardsFrom, branchesFrom, nextEdge, guard
 
 -- ---- The bytes of a table from a place on
 
-byte : (t : List ℕ) (at i : ℕ) {a : List ℕ} → drop at t ≡ a → getD t (at + i) 0 ≡ getD a i 0
+pub byte : (t : List ℕ) (at i : ℕ) {a : List ℕ} → drop at t ≡ a → getD t (at + i) 0 ≡ getD a i 0
 byte t at i e = sym (getD-drop at t i 0) ∙ ap (λ (l : List ℕ). getD l i 0) e
 
 kind-at : (t : List ℕ) (at k : ℕ) {a : List ℕ} → drop at t ≡ a → eqb (kindAt t at) k ≡ eqb (getD a 0 0) k
 kind-at t at k e = ap (λ (n : ℕ). eqb n k) (rw add-zero at (byte t at 0 e))
 
 -- What stands after the bytes at a place.
-onward : (t : List ℕ) (at : ℕ) (a more : List ℕ) → drop at t ≡ a ++ more → drop (at + length a) t ≡ more
+pub onward : (t : List ℕ) (at : ℕ) (a more : List ℕ) → drop at t ≡ a ++ more → drop (at + length a) t ≡ more
 onward t at a more e = rw (← drop-drop, e) (drop-append-seam a more)
 
 -- Bytes that do not begin with a record of kind k: what follows the items of that kind.
@@ -42,7 +42,7 @@ other-items f k differ [] more o = o
 other-items f k differ (x ∷ l) more o = differ x
 
 -- What a table holds after its invariant atoms, or after one of its edges.
-abbrev edgesToEnd : List Edge → List ℕ
+abbrev pub edgesToEnd : List Edge → List ℕ
 edgesToEnd es = edgesBytes es ++ bytesOf end
 
 other-edges : (k : ℕ) → eqb 4 k ≡ false → eqb 7 k ≡ false → (es : List Edge) → Other k (edgesToEnd es)
@@ -59,11 +59,11 @@ record Kind {A : Type 0} (f : A → Record) (k : ℕ) (read : List ℕ → ℕ �
   back : (t : List ℕ) (at : ℕ) (x : A) (more : List ℕ) → drop at t ≡ bytesOf (f x) ++ more → read t at ≡ x
 
 labels : Kind location 2 readLabel
-unfolding kindOf bodyOf bodyLength
+unfolding kindOf bodyOf bodyLength bodyAt
 labels = record { kind = λ x. refl; size = λ x. refl; back = λ t at x more e. byte t at 1 e }
 
 invariants : Kind invariant 3 readInvariant
-unfolding kindOf bodyOf bodyLength
+unfolding kindOf bodyOf bodyLength bodyAt
 invariants =
     record {
       kind = λ x. refl;
@@ -73,7 +73,7 @@ invariants =
     }
 
 guards : Kind guard 5 readGuard
-unfolding kindOf bodyOf bodyLength
+unfolding kindOf bodyOf bodyLength bodyAt
 guards =
     record {
       kind = λ x. refl;
@@ -82,7 +82,7 @@ guards =
     }
 
 branches : Kind branch 6 readBranch
-unfolding kindOf bodyOf bodyLength
+unfolding kindOf bodyOf bodyLength bodyAt
 branches =
     record {
       kind = λ x. refl;
@@ -171,7 +171,7 @@ module _ {c l : ℕ} (t : List ℕ) (x : Edge) (es : List Edge) (q : SoundEdge c
   denominator-read = omega (arith, byte t (x .place) 3 here, byte t (x .place) 4 here)
 
   row-read : readRow t (x .place) ≡ rowOf x
-  unfolding edgeBytes kindOf bodyOf
+  unfolding edgeBytes kindOf bodyOf bodyAt
   row-read i =
       record {
         place = x .place;

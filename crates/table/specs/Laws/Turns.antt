@@ -8,22 +8,18 @@ use lib.ListN.{length}
 use borrow.Author.Tests.{ne-eqb, le-ltb, lt-ltb}
 use Rattle.table.specs.Records.{Record, header, location, invariant, edge, guard, branch, end, recordOf, recordAt, bodyAt, kindAt, past}
 use Rattle.table.specs.Format.{maxBytes}
-use Rattle.table.specs.Accepted.{stepped, next-within, run-enough}
-use Rattle.table.specs.AcceptedLaws.{shapeFrom, shape}
+use Rattle.table.specs.Answer.{readingOf}
+use Rattle.table.specs.Laws.Runs.{stepped, next-within, run-enough}
+use Rattle.table.specs.Laws.Models.{shapeFrom, shape}
 use Rattle.table.specs.Refusals.{nextOf, stepAt, start}
-use Rattle.table.specs.Reading.{Item, itemAt, Run, refused, ended, before, go, run, runTable, Answer, refusal, accepted, answerOf, readTable}
-use Rattle.table.specs.Written.{Bytes, shapeOf}
+use Rattle.table.specs.Reading.{Item, itemAt, Run, refused, ended, before, go, run, runTable, answerOf, readTable}
+use Rattle.table.specs.Written.{Bytes}
 use Rattle.table.specs.declared.model.Reading.{Reading}
 use Rattle.table.specs.declared.model.Reading.the-variants.{Refused, Accepted}
 use Rattle.table.specs.declared.records.Body.{Body}
 use Rattle.table.specs.declared.records.Progress.{Progress}
 use Rattle.table.specs.declared.records.Step.{Step}
 use Rattle.table.specs.declared.records.Step.the-variants as step
-
--- The answer as the code gives it: document 01's number and place, or the shape of the model that was read.
-unfoldable pub readingOf : Answer → Reading
-readingOf (refusal n p) = Refused n p
-readingOf (accepted m) = Accepted (shapeOf m)
 
 -- The counts are at most the bytes passed, so that none of the reader's sums wraps.
 pub record Ranged (p : Progress) (at : ℕ) : Type 0 where

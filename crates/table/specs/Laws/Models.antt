@@ -17,8 +17,8 @@ use Rattle.table.specs.Reading.{Item, Parts, add, modelOf, ended, runTab
 use Rattle.table.specs.Sound.{All, none, also, SoundInvariant, SoundGuard, SoundBranch, SoundEdge, Sound}
 use Rattle.table.specs.Written.{Bytes, bytesOf, written, edgeBytes, edgesBytes, tableOf}
 use Rattle.table.specs.Written.{firstInvariant, firstEdge, Placed, shapeOf}
-use Rattle.table.specs.Accepted.{Rest, a-location, an-invariant, an-edge, a-guard, a-branch, the-end}
-use Rattle.table.specs.Accepted.{denials, Stands, Whole, whole, location-stage, run-whole, accepted-whole}
+use Rattle.table.specs.Laws.Runs.{Rest, a-location, an-invariant, an-edge, a-guard, a-branch, the-end}
+use Rattle.table.specs.Laws.Runs.{denials, Stands, Whole, whole, location-stage, run-whole, accepted-whole}
 use Rattle.table.specs.declared.records.Progress.{Progress}
 use Rattle.table.specs.declared.model.Invariant.{Invariant}
 use Rattle.table.specs.declared.model.Shape.{Shape}

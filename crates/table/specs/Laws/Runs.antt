@@ -1,5 +1,5 @@
 -- What an accepted table went through. A step that was not refused denies every row of its record; so a table that was
--- accepted is a header and then, record by record, the rest (`Whole`, `Rest`). `AcceptedLaws` draws the theorems from that.
+-- accepted is a header and then, record by record, the rest (`Whole`, `Rest`). `Models` draws the theorems from that.
 use Prim.Native.Nat.{ℕ, zero, suc, _+_, _*_, _/_, _%_, _≤_, _<_}
 use native.Mathlib.Omega.{arith}
 use native.Mathlib.Numerals.{add-one}
