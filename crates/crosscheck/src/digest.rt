@@ -4,13 +4,13 @@ ghost use Prim.Native.Nat.{_<_};
 const MODULUS: u64 = 4294967291;
 
 // The digest with one number more.
-pub fn mix(digest: u64, x: usize) -> u64 {
+pub(crate) fn mix(digest: u64, x: usize) -> u64 {
     let number = (x as u64) % 4294967296;
     ((digest % MODULUS) * 257 + number + 1) % MODULUS
 }
 
 // The digest with all numbers of a list more.
-pub fn mix_list(digest: u64, list: &[usize]) -> u64 {
+pub(crate) fn mix_list(digest: u64, list: &[usize]) -> u64 {
     let mut now = digest;
     let mut i = 0;
     while i < list.len() {

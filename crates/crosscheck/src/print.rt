@@ -1,17 +1,17 @@
 // Words and numbers on standard output.
 use libc::STDOUT_FILENO;
 
-pub fn word(text: &[u8]) {
+pub(crate) fn word(text: &[u8]) {
     io::write_all(STDOUT_FILENO, text);
 }
 
 // A word and a number after it.
-pub fn number(text: &[u8], n: usize) {
+pub(crate) fn number(text: &[u8], n: usize) {
     io::write_all(STDOUT_FILENO, text);
     io::print_decimal(STDOUT_FILENO, n as u64);
 }
 
-pub fn digest(text: &[u8], n: u64) {
+pub(crate) fn digest(text: &[u8], n: u64) {
     io::write_all(STDOUT_FILENO, text);
     io::print_decimal(STDOUT_FILENO, n);
 }

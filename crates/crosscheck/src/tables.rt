@@ -197,7 +197,7 @@ fn run_filled(
 }
 
 // Runs the call on a table, with room for some edges in the arrays.
-pub fn run(bytes: &[u8], room: usize, byte: u8)
+pub(crate) fn run(bytes: &[u8], room: usize, byte: u8)
     requires { ⌜ room ≤ 160 ⌝ }
 {
     let mut places = [0usize; 160];

@@ -19,7 +19,7 @@ use crate::reading::body_at;
 use crate::records::Body;
 
 // Where a walk over records of one kind ends, and how many it passed.
-pub struct Stop {
+pub(crate) struct Stop {
     pub at: usize,
     pub passed: usize,
 }
@@ -102,7 +102,7 @@ fn branches_from(table: &[u8], place: usize) -> usize
 }
 
 // Where the record after the edge at a place, its guard atoms and its branches begins.
-pub fn next_edge(table: &[u8], place: usize) -> usize
+pub(crate) fn next_edge(table: &[u8], place: usize) -> usize
     ensures { λ r. ⌜ r ≡ nextEdge (now (table .entry)) place ⌝ }
 {
     let w = walk(table, branches_from(table, place), 6, 8);

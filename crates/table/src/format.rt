@@ -7,7 +7,7 @@ ghost use Rattle.table.specs.Format.{bodyLength, twoBytes};
 // How long the body of a record is, by its kind. There is no kind 0.
 const BODY_LENGTHS: [usize; 8] = [0, 3, 1, 4, 4, 3, 4, 0];
 
-pub fn body_length(kind: u8) -> usize
+pub(crate) fn body_length(kind: u8) -> usize
     ensures { λ r. ⌜ (r ≡ bodyLength kind) × (r < 5) ⌝ }
 {
     let k = kind as usize;
@@ -15,14 +15,14 @@ pub fn body_length(kind: u8) -> usize
 }
 
 // The byte at a place, and 0 past the end.
-pub fn byte_at(table: &[u8], at: usize) -> u8
+pub(crate) fn byte_at(table: &[u8], at: usize) -> u8
     ensures { λ r. ⌜ r ≡ getD (now (table .entry)) at 0 ⌝ }
 {
     if at < table.len() { table[at] } else { 0 }
 }
 
 // A number of two bytes, the low byte first.
-pub fn two_bytes(low: u8, high: u8) -> usize
+pub(crate) fn two_bytes(low: u8, high: u8) -> usize
     ensures { λ r. ⌜ (r ≡ twoBytes low high) × (r < 65536) ⌝ }
 {
     (low as usize) + 256 * (high as usize)

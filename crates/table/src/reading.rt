@@ -48,7 +48,7 @@ fn begin() -> Progress
 }
 
 // The four bytes after the kind of the record at a place.
-pub fn body_at(table: &[u8], at: usize) -> Body
+pub(crate) fn body_at(table: &[u8], at: usize) -> Body
     requires { ⌜ at < length (now table) ⌝ }
     ensures { λ r. ⌜ r ≡ bodyAt (now (table .entry)) at ⌝ }
 {

@@ -21,7 +21,7 @@ const IN_GUARDS: u8 = 3;
 const IN_BRANCHES: u8 = 4;
 
 // The four bytes after a record's kind, 0 past the table's end.
-pub struct Body {
+pub(crate) struct Body {
     pub a: u8,
     pub b: u8,
     pub c: u8,
@@ -30,7 +30,7 @@ pub struct Body {
 
 // What was read so far. `stage` says which records may follow; `edges` counts the edges begun, and the last
 // five fields are of the last of them.
-pub struct Progress {
+pub(crate) struct Progress {
     pub stage: u8,
     pub clocks: u8,
     pub locations: u8,
@@ -46,14 +46,14 @@ pub struct Progress {
 }
 
 // What a record leads to.
-pub enum Step {
+pub(crate) enum Step {
     Refused { number: u8, place: usize },
     Next(Progress),
     End,
 }
 
 // Is this a comparison of an invariant atom?
-pub fn is_bound(comparison: u8) -> bool
+pub(crate) fn is_bound(comparison: u8) -> bool
     ensures { λ r. ⌜ r ≡ leb comparison lastBound ⌝ }
 {
     match comparison {
@@ -63,7 +63,7 @@ pub fn is_bound(comparison: u8) -> bool
 }
 
 // Is this a comparison of a guard atom?
-pub fn is_comparison(comparison: u8) -> bool
+pub(crate) fn is_comparison(comparison: u8) -> bool
     ensures { λ r. ⌜ r ≡ leb comparison lastComparison ⌝ }
 {
     match comparison {
@@ -73,7 +73,7 @@ pub fn is_comparison(comparison: u8) -> bool
 }
 
 // Does a mask name a clock that does not exist?
-pub fn names_no_clock(mask: u8, clocks: u8) -> bool
+pub(crate) fn names_no_clock(mask: u8, clocks: u8) -> bool
     ensures { λ r. ⌜ r ≡ bitBeyond mask clocks ⌝ }
 {
     if clocks < 8 {
@@ -83,7 +83,7 @@ pub fn names_no_clock(mask: u8, clocks: u8) -> bool
     }
 }
 
-pub fn read_header(p: Progress, at: usize, clocks: u8, locations: u8, initial: u8) -> Step
+pub(crate) fn read_header(p: Progress, at: usize, clocks: u8, locations: u8, initial: u8) -> Step
     ensures { λ r. ⌜ r ≡ decide (headerRows p at clocks locations initial) (Step.Next (afterHeader clocks locations initial)) ⌝ }
 {
     if AT_START < p.stage {
@@ -132,7 +132,7 @@ pub fn read_header(p: Progress, at: usize, clocks: u8, locations: u8, initial: u
     })
 }
 
-pub fn read_location(p: Progress, at: usize) -> Step
+pub(crate) fn read_location(p: Progress, at: usize) -> Step
     requires { ⌜ p .labels < 65536 ⌝ }
     ensures { λ r. ⌜ r ≡ decide (locationRows p at) (Step.Next (afterLocation p)) ⌝ }
 {
@@ -152,7 +152,7 @@ pub fn read_location(p: Progress, at: usize) -> Step
     Step::Next(next)
 }
 
-pub fn read_invariant(p: Progress, at: usize, a: Invariant) -> Step
+pub(crate) fn read_invariant(p: Progress, at: usize, a: Invariant) -> Step
     ensures { λ r. ⌜ r ≡ decide (invariantRows p at a) (Step.Next (afterInvariant p)) ⌝ }
 {
     if p.stage != IN_INVARIANTS {
@@ -196,7 +196,7 @@ pub fn read_invariant(p: Progress, at: usize, a: Invariant) -> Step
     Step::Next(next)
 }
 
-pub fn read_edge(p: Progress, at: usize, source: u8, denominator: usize) -> Step
+pub(crate) fn read_edge(p: Progress, at: usize, source: u8, denominator: usize) -> Step
     ensures { λ r. ⌜ r ≡ decide (edgeRows p at source denominator) (Step.Next (afterEdge p at denominator)) ⌝ }
 {
     if p.stage < IN_INVARIANTS {
@@ -246,7 +246,7 @@ pub fn read_edge(p: Progress, at: usize, source: u8, denominator: usize) -> Step
     Step::Next(next)
 }
 
-pub fn read_guard(p: Progress, at: usize, g: Guard) -> Step
+pub(crate) fn read_guard(p: Progress, at: usize, g: Guard) -> Step
     ensures { λ r. ⌜ r ≡ decide (guardRows p at g) (Step.Next (afterGuard p)) ⌝ }
 {
     if p.stage != IN_GUARDS {
@@ -284,7 +284,7 @@ pub fn read_guard(p: Progress, at: usize, g: Guard) -> Step
     Step::Next(next)
 }
 
-pub fn read_branch(p: Progress, at: usize, b: Branch) -> Step
+pub(crate) fn read_branch(p: Progress, at: usize, b: Branch) -> Step
     requires { ⌜ p .weights + b .weight < 4294967296 ⌝ }
     ensures { λ r. ⌜ r ≡ decide (branchRows p at b) (Step.Next (afterBranch p (b .weight))) ⌝ }
 {
@@ -326,7 +326,7 @@ pub fn read_branch(p: Progress, at: usize, b: Branch) -> Step
 }
 
 // The end record. `size` is the table's length.
-pub fn read_end(p: Progress, at: usize, size: usize) -> Step
+pub(crate) fn read_end(p: Progress, at: usize, size: usize) -> Step
     requires { ⌜ at < 65536 ⌝ }
     ensures { λ r. ⌜ r ≡ decide (endRows p at size) Step.End ⌝ }
 {
