@@ -1,7 +1,8 @@
 -- The points that document 01 marks ★, as far as they are about tables: each row is a question to a definition that the
 -- contracts cite, and its answer, and `points-met` proves all rows. The example of "The printed model" is among them, so that
--- what is proved of accepted tables is proved of something.
-use Prim.Native.Nat.{ℕ}
+-- what is proved of accepted tables is proved of something; and a row for each refusal from 3 to 13, most of them at a record
+-- that meets a higher number too, so that their numbers, places and order stand here without any stage or count.
+use Prim.Native.Nat.{ℕ, zero, suc}
 use mathlib.Core.Path.{_≡_, refl}
 use mathlib.Core.List.{List, [], _∷_}
 use Rattle.table.specs.Format.{bodyLength, bodyLengths}
@@ -58,6 +59,19 @@ printedModel =
 abbrev pub fourClocks : Model
 fourClocks = record { clocks = 4; locations = 1; initial = 0; labels = 0 ∷ []; invariants = []; edges = [] }
 
+-- One clock and one location, and after them other records, from place 6 on.
+abbrev small : List ℕ → List ℕ
+small rest = 1 ∷ 1 ∷ 1 ∷ 0 ∷ 2 ∷ 0 ∷ rest
+
+-- The same with an edge at place 6 whose denominator is 2, and other records from place 11 on.
+abbrev smallEdge : List ℕ → List ℕ
+smallEdge rest = small (4 ∷ 0 ∷ 0 ∷ 2 ∷ 0 ∷ rest)
+
+-- The guard atom x = 0, some times.
+abbrev guardTimes : ℕ → List ℕ
+guardTimes zero = []
+guardTimes (suc n) = 5 ∷ 0 ∷ 4 ∷ 0 ∷ guardTimes n
+
 abbrev pub points : List Point
 points =
     -- "Empty table: 2 at place 0."
@@ -70,8 +84,34 @@ points =
     ∷ read (1 ∷ 4 ∷ 1 ∷ 0 ∷ 2 ∷ 0 ∷ 7 ∷ []) fourClocks
     -- The printed model.
     ∷ read printed printedModel
+    -- 3: kind 8, and kind 0 where a location should stand.
+    ∷ refused (8 ∷ []) 3 0
+    ∷ refused (1 ∷ 1 ∷ 1 ∷ 0 ∷ 0 ∷ []) 3 4
+    -- 4 and not 5: a guard atom with no edge, cut.
+    ∷ refused (5 ∷ []) 4 0
+    -- 5: a location too many.
+    ∷ refused (small (2 ∷ 0 ∷ [])) 5 6
+    -- 7 and not 10: mask bit 1 with one clock, in a branch of weight 0.
+    ∷ refused (smallEdge (6 ∷ 0 ∷ 0 ∷ 0 ∷ 2 ∷ [])) 7 11
+    -- 8 and not 9: comparison 5 with constant 16.
+    ∷ refused (smallEdge (5 ∷ 0 ∷ 5 ∷ 16 ∷ [])) 8 11
+    -- 9: constant 16 in an invariant atom.
+    ∷ refused (small (3 ∷ 0 ∷ 0 ∷ 1 ∷ 16 ∷ [])) 9 6
+    -- 10 and not 12: an edge with W = 0 after an edge whose weights do not sum to W.
+    ∷ refused (smallEdge (4 ∷ 0 ∷ 0 ∷ 0 ∷ 0 ∷ [])) 10 11
+    -- 11: the ninth guard atom.
+    ∷ refused (smallEdge (guardTimes 9)) 11 43
+    -- 12 at the finished edge: by the next edge, and, not 13, by the end.
+    ∷ refused (smallEdge (6 ∷ 1 ∷ 0 ∷ 0 ∷ 0 ∷ 4 ∷ 0 ∷ 0 ∷ 1 ∷ 0 ∷ [])) 12 6
+    ∷ refused (smallEdge (6 ∷ 3 ∷ 0 ∷ 0 ∷ 0 ∷ 7 ∷ 0 ∷ [])) 12 6
+    -- 13 at the first byte after the end.
+    ∷ refused (small (7 ∷ 0 ∷ [])) 13 7
     ∷ []
 
+-- All points are met.
 pub points-met : All Met points
 unfolding bodyLength bodyLengths recordOf bodyAt recordAt past rowsOf nextOf stepAt itemAt run runTable add gather modelOf readTable
-points-met = also refl (also refl (also refl (also refl (also refl (also refl none)))))
+points-met =
+    also refl (also refl (also refl (also refl (also refl (also refl
+    (also refl (also refl (also refl (also refl (also refl (also refl
+    (also refl (also refl (also refl (also refl (also refl (also refl none)))))))))))))))))

@@ -81,7 +81,8 @@ fn put_row(
     put(denominators, i, row.denominator);
 }
 
-// Fills the four arrays with the edges of the table, by number, each array as far as it goes. What is after them stays.
+// Fills the four arrays with the edges of the table, by number, each array as far as it goes. What is after them stays. A caller
+// who wants all edges lends arrays of at least `shape.edges` numbers.
 pub fn list_edges(
     table: &[u8],
     shape: Shape,
