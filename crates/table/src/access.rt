@@ -8,6 +8,8 @@ ghost use Rattle.table.specs.Records.{bodyAt};
 ghost use Rattle.table.specs.Access.{walkTo, passed, itemFrom, noBody, labelAt, invariantAt, guardsFrom, branchesFrom, nextEdge, guardAt, guardCount, branchAt, branchCount, noInvariant, noGuard, noBranch};
 ghost use Rattle.table.specs.Model.{Model, resetIn};
 ghost use Rattle.table.specs.Reads.{Reads, ReadsEdge, edgeOf};
+use crate::format::MAX_BRANCHES;
+use crate::format::MAX_GUARDS;
 use crate::format::body_length;
 use crate::format::byte_at;
 use crate::format::two_bytes;
@@ -97,7 +99,7 @@ fn guards_from(table: &[u8], place: usize) -> usize
 fn branches_from(table: &[u8], place: usize) -> usize
     ensures { λ r. ⌜ r ≡ branchesFrom (now (table .entry)) place ⌝ }
 {
-    let w = walk(table, guards_from(table, place), 5, 8);
+    let w = walk(table, guards_from(table, place), 5, MAX_GUARDS);
     w.at
 }
 
@@ -105,7 +107,7 @@ fn branches_from(table: &[u8], place: usize) -> usize
 pub(crate) fn next_edge(table: &[u8], place: usize) -> usize
     ensures { λ r. ⌜ r ≡ nextEdge (now (table .entry)) place ⌝ }
 {
-    let w = walk(table, branches_from(table, place), 6, 8);
+    let w = walk(table, branches_from(table, place), 6, MAX_BRANCHES);
     w.at
 }
 
@@ -127,7 +129,7 @@ pub fn guard_count(table: &[u8], place: usize) -> usize
     ensures { λ r. ⌜ r ≡ guardCount (now (table .entry)) place ⌝ }
     ensures { λ r. ⌜ ((m : Model) (e : ℕ) → ReadsEdge (now (table .entry)) place m e → r ≡ length (edgeOf m e .guards)) ⌝ }
 {
-    let w = walk(table, guards_from(table, place), 5, 8);
+    let w = walk(table, guards_from(table, place), 5, MAX_GUARDS);
     w.passed
 }
 
@@ -149,7 +151,7 @@ pub fn branch_count(table: &[u8], place: usize) -> usize
     ensures { λ r. ⌜ r ≡ branchCount (now (table .entry)) place ⌝ }
     ensures { λ r. ⌜ ((m : Model) (e : ℕ) → ReadsEdge (now (table .entry)) place m e → r ≡ length (edgeOf m e .branches)) ⌝ }
 {
-    let w = walk(table, branches_from(table, place), 6, 8);
+    let w = walk(table, branches_from(table, place), 6, MAX_BRANCHES);
     w.passed
 }
 

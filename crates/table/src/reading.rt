@@ -8,6 +8,7 @@ ghost use Rattle.table.specs.Reading.{readTable};
 ghost use Rattle.table.specs.Laws.Models.{shapeFrom};
 ghost use Rattle.table.specs.Answer.{readingOf};
 ghost use Rattle.table.specs.Laws.Turns.{Ranged};
+use crate::format::MAX_BYTES;
 use crate::format::body_length;
 use crate::format::byte_at;
 use crate::format::two_bytes;
@@ -117,29 +118,17 @@ fn read_record(table: &[u8], p: Progress, at: usize) -> Step
     ensures { λ r. ⌜ r ≡ stepAt (now (table .entry)) p at ⌝ }
 {
     if table.len() <= at {
-        return Step::Refused {
-            number: 2,
-            place: at,
-        };
+        return Step::Refused(2, at);
     }
     let kind = table[at];
     if kind < 1 {
-        return Step::Refused {
-            number: 3,
-            place: at,
-        };
+        return Step::Refused(3, at);
     }
     if 7 < kind {
-        return Step::Refused {
-            number: 3,
-            place: at,
-        };
+        return Step::Refused(3, at);
     }
     if table.len() < pass(table, at) {
-        return Step::Refused {
-            number: 4,
-            place: at,
-        };
+        return Step::Refused(4, at);
     }
     let body = body_at(table, at);
     read_kind(p, at, table.len(), kind, body)
@@ -167,7 +156,7 @@ fn shape_from(p: Progress) -> Shape
 pub fn read(table: &[u8]) -> Reading
     ensures { λ r. ⌜ r ≡ readingOf (readTable (now (table .entry))) ⌝ }
 {
-    if 16384 < table.len() {
+    if MAX_BYTES < table.len() {
         return Reading::Refused {
             number: 1,
             place: 0,
@@ -178,7 +167,7 @@ pub fn read(table: &[u8]) -> Reading
     loop {
         let step = read_record(table, p, at);
         match step {
-            Step::Refused { number, place } => {
+            Step::Refused(number, place) => {
                 return Reading::Refused {
                     number: number,
                     place: place,

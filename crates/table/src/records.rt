@@ -4,6 +4,14 @@ ghost use mathlib.Core.Path.{_≡_};
 ghost use lib.Dec.{leb, ltb};
 ghost use Rattle.table.specs.Format.{lastBound, lastComparison};
 ghost use Rattle.table.specs.Refusals.{bitBeyond, decide, headerRows, locationRows, invariantRows, edgeRows, guardRows, branchRows, endRows, afterHeader, afterLocation, afterInvariant, afterEdge, afterGuard, afterBranch};
+use crate::format::MAX_BRANCHES;
+use crate::format::MAX_CLOCKS;
+use crate::format::MAX_CONSTANT;
+use crate::format::MAX_DENOMINATOR;
+use crate::format::MAX_EDGES;
+use crate::format::MAX_GUARDS;
+use crate::format::MAX_INVARIANTS;
+use crate::format::MAX_LOCATIONS;
 use crate::model::Branch;
 use crate::model::Guard;
 use crate::model::Invariant;
@@ -47,7 +55,8 @@ pub(crate) struct Progress {
 
 // What a record leads to.
 pub(crate) enum Step {
-    Refused { number: u8, place: usize },
+    // Document 01's number and place.
+    Refused(u8, usize),
     Next(Progress),
     End,
 }
@@ -73,7 +82,7 @@ pub(crate) fn is_comparison(comparison: u8) -> bool
 }
 
 // Does a mask name a clock that does not exist?
-pub(crate) fn names_no_clock(mask: u8, clocks: u8) -> bool
+pub(crate) fn names_missing_clock(mask: u8, clocks: u8) -> bool
     ensures { λ r. ⌜ r ≡ bitBeyond mask clocks ⌝ }
 {
     if clocks < 8 {
@@ -87,34 +96,19 @@ pub(crate) fn read_header(p: Progress, at: usize, clocks: u8, locations: u8, ini
     ensures { λ r. ⌜ r ≡ decide (headerRows p at clocks locations initial) (Step.Next (afterHeader clocks locations initial)) ⌝ }
 {
     if AT_START < p.stage {
-        return Step::Refused {
-            number: 5,
-            place: at,
-        };
+        return Step::Refused(5, at);
     }
-    if 4 < clocks {
-        return Step::Refused {
-            number: 6,
-            place: at,
-        };
+    if MAX_CLOCKS < clocks {
+        return Step::Refused(6, at);
     }
     if locations < 1 {
-        return Step::Refused {
-            number: 6,
-            place: at,
-        };
+        return Step::Refused(6, at);
     }
-    if 64 < locations {
-        return Step::Refused {
-            number: 6,
-            place: at,
-        };
+    if MAX_LOCATIONS < locations {
+        return Step::Refused(6, at);
     }
     if locations <= initial {
-        return Step::Refused {
-            number: 6,
-            place: at,
-        };
+        return Step::Refused(6, at);
     }
     Step::Next(Progress {
         stage: IN_LOCATIONS,
@@ -137,10 +131,7 @@ pub(crate) fn read_location(p: Progress, at: usize) -> Step
     ensures { λ r. ⌜ r ≡ decide (locationRows p at) (Step.Next (afterLocation p)) ⌝ }
 {
     if p.stage != IN_LOCATIONS {
-        return Step::Refused {
-            number: 5,
-            place: at,
-        };
+        return Step::Refused(5, at);
     }
     let mut next = p;
     next.labels = p.labels + 1;
@@ -156,40 +147,22 @@ pub(crate) fn read_invariant(p: Progress, at: usize, a: Invariant) -> Step
     ensures { λ r. ⌜ r ≡ decide (invariantRows p at a) (Step.Next (afterInvariant p)) ⌝ }
 {
     if p.stage != IN_INVARIANTS {
-        return Step::Refused {
-            number: 5,
-            place: at,
-        };
+        return Step::Refused(5, at);
     }
     if p.locations <= a.location {
-        return Step::Refused {
-            number: 7,
-            place: at,
-        };
+        return Step::Refused(7, at);
     }
     if p.clocks <= a.clock {
-        return Step::Refused {
-            number: 7,
-            place: at,
-        };
+        return Step::Refused(7, at);
     }
     if !is_bound(a.comparison) {
-        return Step::Refused {
-            number: 8,
-            place: at,
-        };
+        return Step::Refused(8, at);
     }
-    if 15 < a.constant {
-        return Step::Refused {
-            number: 9,
-            place: at,
-        };
+    if MAX_CONSTANT < a.constant {
+        return Step::Refused(9, at);
     }
-    if 128 <= p.invariants {
-        return Step::Refused {
-            number: 11,
-            place: at,
-        };
+    if MAX_INVARIANTS <= p.invariants {
+        return Step::Refused(11, at);
     }
     let mut next = p;
     next.invariants = p.invariants + 1;
@@ -200,40 +173,22 @@ pub(crate) fn read_edge(p: Progress, at: usize, source: u8, denominator: usize) 
     ensures { λ r. ⌜ r ≡ decide (edgeRows p at source denominator) (Step.Next (afterEdge p at denominator)) ⌝ }
 {
     if p.stage < IN_INVARIANTS {
-        return Step::Refused {
-            number: 5,
-            place: at,
-        };
+        return Step::Refused(5, at);
     }
     if p.locations <= source {
-        return Step::Refused {
-            number: 7,
-            place: at,
-        };
+        return Step::Refused(7, at);
     }
     if denominator == 0 {
-        return Step::Refused {
-            number: 10,
-            place: at,
-        };
+        return Step::Refused(10, at);
     }
-    if 60000 < denominator {
-        return Step::Refused {
-            number: 10,
-            place: at,
-        };
+    if MAX_DENOMINATOR < denominator {
+        return Step::Refused(10, at);
     }
-    if 128 <= p.edges {
-        return Step::Refused {
-            number: 11,
-            place: at,
-        };
+    if MAX_EDGES <= p.edges {
+        return Step::Refused(11, at);
     }
     if p.weights != p.denominator {
-        return Step::Refused {
-            number: 12,
-            place: p.place,
-        };
+        return Step::Refused(12, p.place);
     }
     let mut next = p;
     next.stage = IN_GUARDS;
@@ -250,34 +205,19 @@ pub(crate) fn read_guard(p: Progress, at: usize, g: Guard) -> Step
     ensures { λ r. ⌜ r ≡ decide (guardRows p at g) (Step.Next (afterGuard p)) ⌝ }
 {
     if p.stage != IN_GUARDS {
-        return Step::Refused {
-            number: 5,
-            place: at,
-        };
+        return Step::Refused(5, at);
     }
     if p.clocks <= g.clock {
-        return Step::Refused {
-            number: 7,
-            place: at,
-        };
+        return Step::Refused(7, at);
     }
     if !is_comparison(g.comparison) {
-        return Step::Refused {
-            number: 8,
-            place: at,
-        };
+        return Step::Refused(8, at);
     }
-    if 15 < g.constant {
-        return Step::Refused {
-            number: 9,
-            place: at,
-        };
+    if MAX_CONSTANT < g.constant {
+        return Step::Refused(9, at);
     }
-    if 8 <= p.guards {
-        return Step::Refused {
-            number: 11,
-            place: at,
-        };
+    if MAX_GUARDS <= p.guards {
+        return Step::Refused(11, at);
     }
     let mut next = p;
     next.guards = p.guards + 1;
@@ -289,34 +229,19 @@ pub(crate) fn read_branch(p: Progress, at: usize, b: Branch) -> Step
     ensures { λ r. ⌜ r ≡ decide (branchRows p at b) (Step.Next (afterBranch p (b .weight))) ⌝ }
 {
     if p.stage < IN_GUARDS {
-        return Step::Refused {
-            number: 5,
-            place: at,
-        };
+        return Step::Refused(5, at);
     }
     if p.locations <= b.target {
-        return Step::Refused {
-            number: 7,
-            place: at,
-        };
+        return Step::Refused(7, at);
     }
-    if names_no_clock(b.mask, p.clocks) {
-        return Step::Refused {
-            number: 7,
-            place: at,
-        };
+    if names_missing_clock(b.mask, p.clocks) {
+        return Step::Refused(7, at);
     }
     if b.weight == 0 {
-        return Step::Refused {
-            number: 10,
-            place: at,
-        };
+        return Step::Refused(10, at);
     }
-    if 8 <= p.branches {
-        return Step::Refused {
-            number: 11,
-            place: at,
-        };
+    if MAX_BRANCHES <= p.branches {
+        return Step::Refused(11, at);
     }
     let mut next = p;
     next.stage = IN_BRANCHES;
@@ -331,22 +256,13 @@ pub(crate) fn read_end(p: Progress, at: usize, size: usize) -> Step
     ensures { λ r. ⌜ r ≡ decide (endRows p at size) Step.End ⌝ }
 {
     if p.stage < IN_INVARIANTS {
-        return Step::Refused {
-            number: 5,
-            place: at,
-        };
+        return Step::Refused(5, at);
     }
     if p.weights != p.denominator {
-        return Step::Refused {
-            number: 12,
-            place: p.place,
-        };
+        return Step::Refused(12, p.place);
     }
     if at + 1 < size {
-        return Step::Refused {
-            number: 13,
-            place: at + 1,
-        };
+        return Step::Refused(13, at + 1);
     }
     Step::End
 }

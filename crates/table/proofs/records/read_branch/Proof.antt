@@ -13,34 +13,34 @@ returns-2 c =
     let if1 = c .before .before .before .if1 in
     simp (le-ltb _ _ if1.left, le-leb _ _ (c .if2 .taken))
 
-names-no-clock-requires : tie.Need-names-no-clock-requires
-names-no-clock-requires c κs = search needs
+names-missing-clock-requires : tie.Need-names-missing-clock-requires
+names-missing-clock-requires c κs = search needs
 
 returns-3 : tie.Need-returns-3
 returns-3 c =
     let if1 = c .before .before .before .before .before .if1 in
     let if2 = c .before .before .if2 in
-    simp (le-ltb _ _ if1.left, lt-leb _ _ if2.left, sym (c .before .names-no-clock .ensures) ∙ c .if3 .taken)
+    simp (le-ltb _ _ if1.left, lt-leb _ _ if2.left, sym (c .before .names-missing-clock .ensures) ∙ c .if3 .taken)
 
 returns-4 : tie.Need-returns-4
 returns-4 c =
     let if1 = c .before .before .before .before .before .before .before .if1 in
     let if2 = c .before .before .before .before .if2 in
-    let names-no-clock = c .before .before .before .names-no-clock in
+    let names-missing-clock = c .before .before .before .names-missing-clock in
     let if3 = c .before .before .if3 in
-    simp (le-ltb _ _ if1.left, lt-leb _ _ if2.left, sym names-no-clock.ensures ∙ if3.left, eq-eqb _ _ (c .if4 .taken))
+    simp (le-ltb _ _ if1.left, lt-leb _ _ if2.left, sym names-missing-clock.ensures ∙ if3.left, eq-eqb _ _ (c .if4 .taken))
 
 returns-5 : tie.Need-returns-5
 returns-5 c =
     let if1 = c .before .before .before .before .before .before .before .before .before .if1 in
     let if2 = c .before .before .before .before .before .before .if2 in
-    let names-no-clock = c .before .before .before .before .before .names-no-clock in
+    let names-missing-clock = c .before .before .before .before .before .names-missing-clock in
     let if3 = c .before .before .before .before .if3 in
     let if4 = c .before .before .if4 in
     simp (
       le-ltb _ _ if1.left,
       lt-leb _ _ if2.left,
-      sym names-no-clock.ensures
+      sym names-missing-clock.ensures
           ∙ if3.left,
       ne-eqb _ _ if4.left,
       le-leb _ _ (c .if5 .taken),
@@ -56,14 +56,14 @@ returns-6 : tie.Need-returns-6
 returns-6 c =
     let if1 = c .before .before .before .before .before .before .before .before .before .before .before .before .if1 in
     let if2 = c .before .before .before .before .before .before .before .before .before .if2 in
-    let names-no-clock = c .before .before .before .before .before .before .before .before .names-no-clock in
+    let names-missing-clock = c .before .before .before .before .before .before .before .before .names-missing-clock in
     let if3 = c .before .before .before .before .before .before .before .if3 in
     let if4 = c .before .before .before .before .before .if4 in
     let if5 = c .before .before .before .if5 in
     simp (
       le-ltb _ _ if1.left,
       lt-leb _ _ if2.left,
-      sym names-no-clock.ensures
+      sym names-missing-clock.ensures
           ∙ if3.left,
       ne-eqb _ _ if4.left,
       lt-leb _ _ if5.left,
@@ -75,7 +75,7 @@ read-branch-spec =
     (tie.spec
     returns
     returns-2
-    names-no-clock-requires
+    names-missing-clock-requires
     returns-3
     returns-4
     returns-5
