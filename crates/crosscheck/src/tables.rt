@@ -183,7 +183,8 @@ fn run_filled(
     denominators: &mut [usize],
 )
     requires { ⌜ room ≤ 160 ⌝ }
-    requires { ⌜ (room ≤ length (now places)) × (room ≤ length (now sources)) × (room ≤ length (now actions)) × (room ≤ length (now denominators)) ⌝ }
+    requires { ⌜ (room ≤ length (now places)) × (room ≤ length (now sources)) ⌝ }
+    requires { ⌜ (room ≤ length (now actions)) × (room ≤ length (now denominators)) ⌝ }
 {
     let p = &mut places[..room];
     let s = &mut sources[..room];

@@ -72,7 +72,8 @@ row-filled rows p s a d p′ s′ a′ d′ filled e h hp hs ha hd =
 module _ (table : List ℕ) (count first : ℕ) where
   -- Storing one part of each row, from row i at a place on, comes to what storing all rows comes to.
   abbrev Comes : (EdgeRow → ℕ) → List ℕ → ℕ → ℕ → List ℕ → Type 0
-  Comes part old at i now = sets now i (map part (rowsFrom table (count - i) at)) ≡ sets old 0 (map part (rowsFrom table count first))
+  Comes part old at i now =
+      sets now i (map part (rowsFrom table (count - i) at)) ≡ sets old 0 (map part (rowsFrom table count first))
 
   comes-on : (part : EdgeRow → ℕ) (old : List ℕ) (at i : ℕ) (now next : List ℕ) → i < count → kindAt table at ≡ 4
       → next ≡ set now i (part (readRow table at)) → Comes part old at i now → Comes part old (nextEdge table at) (i + 1) next

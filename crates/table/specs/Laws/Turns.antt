@@ -37,7 +37,8 @@ told-before i (refused n p) = refl
 told-before i (ended q items) = refl
 
 module _ (fuel : ℕ) (table : List ℕ) (p : Progress) (at : ℕ) where
-  pub turn-refused : (n place : ℕ) → stepAt table p at ≡ step.Refused n place → told (run (suc fuel) table p at) ≡ Refused n place
+  pub turn-refused : (n place : ℕ) → stepAt table p at ≡ step.Refused n place
+      → told (run (suc fuel) table p at) ≡ Refused n place
   unfolding run
   turn-refused n place e = ap (λ (s : Step). told (go (λ q. run fuel table q (past table at)) p (itemAt table at) s)) e
 
@@ -45,7 +46,8 @@ module _ (fuel : ℕ) (table : List ℕ) (p : Progress) (at : ℕ) where
   unfolding run
   turn-end e = ap (λ (s : Step). told (go (λ q. run fuel table q (past table at)) p (itemAt table at) s)) e
 
-  pub turn-next : (q : Progress) → stepAt table p at ≡ step.Next q → told (run (suc fuel) table p at) ≡ told (run fuel table q (past table at))
+  pub turn-next : (q : Progress) → stepAt table p at ≡ step.Next q
+      → told (run (suc fuel) table p at) ≡ told (run fuel table q (past table at))
   unfolding run
   turn-next q e =
       ap (λ (s : Step). told (go (λ q. run fuel table q (past table at)) p (itemAt table at) s)) e
@@ -81,17 +83,18 @@ light (suc (suc (suc (suc zero)))) b ha hb = omega arith
 light (suc (suc (suc (suc (suc zero))))) b ha hb = omega arith
 light (suc (suc (suc (suc (suc (suc zero)))))) b ha hb = omega arith
 light (suc (suc (suc (suc (suc (suc (suc k))))))) b ha hb =
-    rw (other-kind (suc (suc (suc (suc (suc (suc (suc k))))))) b (omega arith) (omega arith) (omega arith) (omega arith) (omega arith) (omega arith)) (omega arith)
+    let other : ℕ = suc (suc (suc (suc (suc (suc (suc k)))))) in
+    rw (other-kind other b (omega arith) (omega arith) (omega arith) (omega arith) (omega arith) (omega arith)) (omega arith)
 
 ranged-after : (r : Record) (p q : Progress) (at next : ℕ) → nextOf p at r ≡ step.Next q → weightOf r ≤ 65535 → at < next
     → Ranged p at → Ranged q next
 unfolding nextOf weightOf
-ranged-after (header n l i) p q at next e w h ranged = rw (← next-same _ _ e) (record { labels = omega arith; invariants = omega arith; weights = omega arith })
-ranged-after (location x) p q at next e w h ranged = rw (← next-same _ _ e) (record { labels = omega arith; invariants = omega arith; weights = omega arith })
-ranged-after (invariant a) p q at next e w h ranged = rw (← next-same _ _ e) (record { labels = omega arith; invariants = omega arith; weights = omega arith })
-ranged-after (edge s a d) p q at next e w h ranged = rw (← next-same _ _ e) (record { labels = omega arith; invariants = omega arith; weights = omega arith })
-ranged-after (guard g) p q at next e w h ranged = rw (← next-same _ _ e) (record { labels = omega arith; invariants = omega arith; weights = omega arith })
-ranged-after (branch b) p q at next e w h ranged = rw (← next-same _ _ e) (record { labels = omega arith; invariants = omega arith; weights = omega arith })
+ranged-after (header n l i) p q at next e w h ranged = rw (← next-same _ _ e) (omega arith)
+ranged-after (location x) p q at next e w h ranged = rw (← next-same _ _ e) (omega arith)
+ranged-after (invariant a) p q at next e w h ranged = rw (← next-same _ _ e) (omega arith)
+ranged-after (edge s a d) p q at next e w h ranged = rw (← next-same _ _ e) (omega arith)
+ranged-after (guard g) p q at next e w h ranged = rw (← next-same _ _ e) (omega arith)
+ranged-after (branch b) p q at next e w h ranged = rw (← next-same _ _ e) (omega arith)
 ranged-after end p q at next e w h ranged = absurd (let z : _≡_ {A = ℕ} 0 1 = cc in omega arith)
 
 -- The numbers stay small.
@@ -143,7 +146,8 @@ run-short : (table : List ℕ) → length table ≤ maxBytes → runTable table 
 unfolding runTable
 run-short table h = rw (le-ltb maxBytes (length table) h)
 
-pub told-read : (table : List ℕ) → length table ≤ maxBytes → told (run (suc (length table)) table start 0) ≡ readingOf (readTable table)
+pub told-read : (table : List ℕ) → length table ≤ maxBytes
+    → told (run (suc (length table)) table start 0) ≡ readingOf (readTable table)
 unfolding readTable
 told-read table h = ap told (sym (run-short table h)) ∙ told-ended table (runTable table) refl
 
@@ -151,7 +155,8 @@ pub read-long : (table : List ℕ) → maxBytes < length table → readingOf (re
 unfolding readTable runTable readingOf
 read-long table h = rw (lt-ltb maxBytes (length table) h)
 
-pub underway-refused : (table : List ℕ) (p : Progress) (at n place : ℕ) → Underway table p at → stepAt table p at ≡ step.Refused n place
+pub underway-refused : (table : List ℕ) (p : Progress) (at n place : ℕ) → Underway table p at
+    → stepAt table p at ≡ step.Refused n place
     → Refused n place ≡ readingOf (readTable table)
 underway-refused table p at n place u e =
     sym (turn-refused (length table - at) table p at n place e) ∙ u .same ∙ told-read table (u .short)

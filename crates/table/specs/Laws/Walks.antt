@@ -66,7 +66,10 @@ walking-on table first kind most at n w less here =
     let test : eqb (kindAt table at) kind ≡ true = eq-eqb (kindAt table at) kind here in
     record {
       few = omega arith;
-      comes = sym (ap (λ b. cond b (walkTo kind k table (at + 1 + bodyLength kind)) at) test) ∙ sym (ap (λ k. walkTo kind k table at) more) ∙ w .comes;
+      comes =
+          sym (ap (λ b. cond b (walkTo kind k table (at + 1 + bodyLength kind)) at) test)
+          ∙ sym (ap (λ k. walkTo kind k table at) more)
+          ∙ w .comes;
       counts =
           omega (
             arith,
@@ -81,7 +84,8 @@ pub item-part : {A : Type 0} (f : Body → A) (table : List ℕ) (first kind i :
     → f (itemFrom kind noBody bodyAt table first i) ≡ itemFrom kind (f noBody) (λ t at. f (bodyAt t at)) table first i
 item-part f table first kind i = part (eqb (kindAt table (walkTo kind i table first)) kind)
   where
-    part : (b : Bool) → f (cond b (bodyAt table (walkTo kind i table first)) noBody) ≡ cond b (f (bodyAt table (walkTo kind i table first))) (f noBody)
+    part : (b : Bool) → f (cond b (bodyAt table (walkTo kind i table first)) noBody)
+        ≡ cond b (f (bodyAt table (walkTo kind i table first))) (f noBody)
     part true = refl
     part false = refl
 

@@ -14,7 +14,7 @@ slice-aggregate-p : tie.Need-slice-aggregate-p
 slice-aggregate-p c =
     let args = c .before .before .before .before .before .before .args in
     let pre = c .before .before .before .before .before .before .pre in
-    sym (length-take-le args.room args.places.now pre.1.0)
+    sym (length-take-le args.room args.places.now pre.1.0.0)
 
 slice-relend-prefix-s : tie.Need-slice-relend-prefix-s
 slice-relend-prefix-s c = search needs
@@ -23,7 +23,7 @@ slice-aggregate-s : tie.Need-slice-aggregate-s
 slice-aggregate-s c =
     let args = c .before .before .before .before .before .before .before .args in
     let pre = c .before .before .before .before .before .before .before .pre in
-    sym (length-take-le args.room args.sources.now pre.1.1)
+    sym (length-take-le args.room args.sources.now pre.1.0.1)
 
 slice-relend-prefix-a : tie.Need-slice-relend-prefix-a
 slice-relend-prefix-a c = search needs
@@ -32,7 +32,7 @@ slice-aggregate-a : tie.Need-slice-aggregate-a
 slice-aggregate-a c =
     let args = c .before .before .before .before .before .before .before .before .args in
     let pre = c .before .before .before .before .before .before .before .before .pre in
-    sym (length-take-le args.room args.actions.now pre.1.2)
+    sym (length-take-le args.room args.actions.now pre.1.1.0)
 
 slice-relend-prefix-d : tie.Need-slice-relend-prefix-d
 slice-relend-prefix-d c = search needs
@@ -41,31 +41,27 @@ slice-aggregate-d : tie.Need-slice-aggregate-d
 slice-aggregate-d c =
     let args = c .before .before .before .before .before .before .before .before .before .args in
     let pre = c .before .before .before .before .before .before .before .before .before .pre in
-    sym (length-take-le args.room args.denominators.now pre.1.3)
+    sym (length-take-le args.room args.denominators.now pre.1.1.1)
 
 fill-requires : tie.Need-fill-requires
 fill-requires c κs =
-    let args = c .before .before .before .before .before .before .before .before .before .before .args in
-    let pre = c .before .before .before .before .before .before .before .before .before .before .pre in
-    omega (arith, length-take args.room args.places.now, pre.0)
+    let start = c .before .before .before .before .before .before .before .before .before .before in
+    omega (arith, length-take start.args.room start.args.places.now, start.pre.0)
 
 fill-requires-2 : tie.Need-fill-requires-2
 fill-requires-2 c κs =
-    let args = c .before .before .before .before .before .before .before .before .before .before .before .before .before .before .args in
-    let pre = c .before .before .before .before .before .before .before .before .before .before .before .before .before .before .pre in
-    omega (arith, length-take args.room args.sources.now, pre.0)
+    let start = c .before .before .before .before .before .before .before .before .before .before .before .before .before .before in
+    omega (arith, length-take start.args.room start.args.sources.now, start.pre.0)
 
 fill-requires-3 : tie.Need-fill-requires-3
 fill-requires-3 c κs =
-    let args = c .before .before .before .before .before .before .before .before .before .before .before .before .before .before .before .before .before .before .args in
-    let pre = c .before .before .before .before .before .before .before .before .before .before .before .before .before .before .before .before .before .before .pre in
-    omega (arith, length-take args.room args.actions.now, pre.0)
+    let start = c .before .before .before .before .before .before .before .before .before .before .before .before .before .before .before .before .before .before in
+    omega (arith, length-take start.args.room start.args.actions.now, start.pre.0)
 
 fill-requires-4 : tie.Need-fill-requires-4
 fill-requires-4 c κs =
-    let args = c .before .before .before .before .before .before .before .before .before .before .before .before .before .before .before .before .before .before .before .before .before .before .args in
-    let pre = c .before .before .before .before .before .before .before .before .before .before .before .before .before .before .before .before .before .before .before .before .before .before .pre in
-    omega (arith, length-take args.room args.denominators.now, pre.0)
+    let start = c .before .before .before .before .before .before .before .before .before .before .before .before .before .before .before .before .before .before .before .before .before .before in
+    omega (arith, length-take start.args.room start.args.denominators.now, start.pre.0)
 
 run-over-requires : tie.Need-run-over-requires
 run-over-requires c κs = search needs

@@ -11,11 +11,14 @@ use Rattle.table.specs.Edges.{Filling, filling-start, filling-on, fillin
 use borrow.Author.Needs.{needs}
 use Rattle.table.proofs.edges.list_edges.Statement.{statement}
 use Rattle.table.proofs.edges.list_edges.Tie as tie
-use Rattle.table.proofs.edges.list_edges.Reads as reads
 
 abbrev Inv-loop : tie.InvT-loop
-Inv-loop table places₀ sources₀ actions₀ denominators₀ count at₀ i₀ places sources actions denominators at i = Filling table count at₀ at i places₀ sources₀ actions₀ denominators₀ places sources actions denominators
-    × (length places ≡ length places₀) × (length sources ≡ length sources₀) × (length actions ≡ length actions₀) × (length denominators ≡ length denominators₀)
+Inv-loop table places₀ sources₀ actions₀ denominators₀ count at₀ i₀ places sources actions denominators at i =
+    Filling table count at₀ at i places₀ sources₀ actions₀ denominators₀ places sources actions denominators
+    × (length places ≡ length places₀)
+    × (length sources ≡ length sources₀)
+    × (length actions ≡ length actions₀)
+    × (length denominators ≡ length denominators₀)
 
 abbrev μ-loop : tie.MeasureT-loop
 μ-loop table places₀ sources₀ actions₀ denominators₀ count at₀ i₀ places sources actions denominators at i = count - i

@@ -1,4 +1,5 @@
--- `body_length` meets its contract: the constant table is the format's list of body lengths, and no other number has one. Assumes nothing.
+-- `body_length` meets its contract: the constant table is the format's list of body lengths, and no other number has one.
+-- Assumes nothing.
 use mathlib.Core.Path.{refl, sym}
 use native.Mathlib.Omega.{arith}
 use Rattle.table.specs.Format.{bodyLength, bodyLengths, body-short, body-none}
