@@ -7,20 +7,30 @@ use lib.ListN.{length, getD, length-map}
 use Rattle.table.specs.Model.{Edge, Model}
 use Rattle.table.specs.Reading.{Answer, refusal, accepted, readTable}
 use Rattle.table.specs.Answer.{readingOf}
+use Rattle.table.specs.Sound.{Sound}
 use Rattle.table.specs.Edges.{Filled, rowIn, row-filled}
 use Rattle.table.specs.Written.{Bytes, shapeOf}
 use Rattle.table.specs.Access.{noInvariant, noGuard, noBranch, noEdge, labelAt, invariantAt, guardAt, guardCount, branchAt, branchCount, rowsFrom, rowOf}
 use Rattle.table.specs.Laws.Models.{sound, table-written, places}
 use Rattle.table.specs.Laws.Items.{label-is, invariant-is, rows-are, row-is, EdgeParts, edge-parts-are}
 use Rattle.table.specs.declared.model.Shape.{Shape}
-use Rattle.table.specs.declared.model.Reading.the-variants.{Accepted}
+use Rattle.table.specs.declared.model.Reading.the-variants.{Refused, Accepted}
 
 -- The table is accepted with this model, and this is its shape.
 pub record Reads (table : List ℕ) (shape : Shape) (m : Model) : Type 0 where
   pub answer : readTable table ≡ accepted m
   pub shape-is : shape ≡ shapeOf m
 
--- So it is of each table that `read` accepts, with the shape that it gives; and there is one such model.
+-- A table that `read` refuses is refused by the definition, with that number and place.
+pub refusal-of : (table : List ℕ) (n place : ℕ) → Refused n place ≡ readingOf (readTable table) → readTable table ≡ refusal n place
+unfolding readingOf
+refusal-of table n place given = of (readTable table) given
+  where
+    of : (a : Answer) → Refused n place ≡ readingOf a → a ≡ refusal n place
+    of (refusal k q) e = cc
+    of (accepted m) e = cc
+
+-- A table that `read` accepts is read as a model, with the shape that it gives; and there is one such model.
 pub reads-of : (table : List ℕ) (shape : Shape) → Accepted shape ≡ readingOf (readTable table) → (m : Model) × Reads table shape m
 unfolding readingOf
 reads-of table shape given = of (readTable table) refl given
@@ -31,6 +41,30 @@ reads-of table shape given = of (readTable table) refl given
 
 pub reads-one : (table : List ℕ) (shape : Shape) (m k : Model) → Reads table shape m → Reads table shape k → m ≡ k
 reads-one table shape m k r q = cc (r .answer, q .answer)
+
+-- The numbers of a shape are those of the model, and its counts count the model's lists.
+pub record Counts (shape : Shape) (m : Model) : Type 0 where
+  pub clocks : shape .clocks ≡ m .clocks
+  pub locations : shape .locations ≡ m .locations
+  pub initial : shape .initial ≡ m .initial
+  pub invariants : shape .invariants ≡ length (m .invariants)
+  pub edges : shape .edges ≡ length (m .edges)
+
+pub counts-read : (table : List ℕ) (shape : Shape) (m : Model) → Reads table shape m → Counts shape m
+unfolding shapeOf
+counts-read table shape m reads =
+    let e = reads .shape-is in
+    record {
+      clocks = ap (λ (x : Shape). x .clocks) e;
+      locations = ap (λ (x : Shape). x .locations) e;
+      initial = ap (λ (x : Shape). x .initial) e;
+      invariants = ap (λ (x : Shape). x .invariants) e;
+      edges = ap (λ (x : Shape). x .edges) e;
+    }
+
+-- What is sound in every model that was read.
+pub sound-read : (table : List ℕ) (shape : Shape) (m : Model) → Reads table shape m → Sound m
+sound-read table shape m reads = sound table m (reads .answer)
 
 -- Edge e of a model; past the last, zeros with no atoms and no branches (a choice of ours).
 abbrev pub edgeOf : Model → ℕ → Edge
