@@ -1,4 +1,4 @@
-// The answer lines: what reading a table gives, as one line of text, and what the lent edge arrays hold.
+// The answer lines: what a call gives, as one line of text, and what it leaves in the lent tables.
 
 use crate::table::{Edge, Model, Refusal};
 
@@ -87,6 +87,23 @@ pub fn lent_digest(answer: &Answer, room: usize, fill: u8) -> u64 {
             };
             digest.add(after);
         }
+    }
+    digest.value
+}
+
+/// The answer of the graph call, with the digest of all lent bytes after the call.
+pub fn graph_line(answer: &Result<usize, Refusal>, lent: &[u8]) -> String {
+    let answer = match answer {
+        Ok(count) => format!("graph {count}"),
+        Err(refusal) => format!("refused {} place {}", refusal.number, refusal.place),
+    };
+    format!("{answer} entries {}", bytes_digest(lent))
+}
+
+fn bytes_digest(bytes: &[u8]) -> u64 {
+    let mut digest = Digest::new();
+    for &byte in bytes {
+        digest.add(byte.into());
     }
     digest.value
 }

@@ -1,10 +1,12 @@
-// The collection of stored cases for the test program: which there are, how they are written, what
-// they expect, and the checks that the collection makes on itself.
+// The collection of stored cases for the test program: which there are for the reading of tables, how they
+// are written, what they expect, and the checks that the collection makes on itself. The cases of the graph
+// call are collected in graph_cases.rs and follow these.
 
 use crate::answer::{self, Answer};
 use crate::borders;
 use crate::damage;
 use crate::generate;
+use crate::graph_cases;
 use crate::meetings;
 use crate::records::Records;
 use crate::rng::Rng;
@@ -146,12 +148,20 @@ impl Cases {
     }
 }
 
-fn in_hex(table: &[u8]) -> String {
+pub fn in_hex(table: &[u8]) -> String {
     table.iter().map(|byte| format!("{byte:02x}")).collect()
 }
 
-/// Makes all cases and writes them to the two files. The summary goes to standard error.
-pub fn write(vectors_folder: &str, input_file: &str, output_file: &str) -> Result<(), String> {
+/// The highest call whose cases can be written.
+pub const HIGHEST_CALL: u8 = graph_cases::CALL_GRAPH;
+
+/// Makes all cases up to a call and writes them to the two files. Summaries go to standard error.
+pub fn write(
+    vectors_folder: &str,
+    input_file: &str,
+    output_file: &str,
+    highest_call: u8,
+) -> Result<(), String> {
     let mut cases = Cases::new();
     generate::add_cases(&mut cases);
     borders::add_cases(&mut cases);
@@ -159,19 +169,29 @@ pub fn write(vectors_folder: &str, input_file: &str, output_file: &str) -> Resul
     damage::add_cases(&mut cases);
     add_vectors(&mut cases, vectors_folder)?;
     cases.check();
-    let mut input = (cases.count as u32).to_le_bytes().to_vec();
-    input.extend_from_slice(&cases.input);
+    let mut summaries = vec![cases.summary()];
+    let (mut count, mut input, mut output) = (cases.count, cases.input, cases.output);
+    if highest_call >= graph_cases::CALL_GRAPH {
+        let graph = graph_cases::make(vectors_folder)?;
+        summaries.push(graph.summary());
+        count += graph.count;
+        input.extend(graph.input);
+        output.push_str(&graph.output);
+    }
+    let input = [(count as u32).to_le_bytes().to_vec(), input].concat();
     fs::write(input_file, input).map_err(|error| format!("{input_file}: {error}"))?;
-    fs::write(output_file, &cases.output).map_err(|error| format!("{output_file}: {error}"))?;
-    eprintln!("{}", cases.summary());
+    fs::write(output_file, &output).map_err(|error| format!("{output_file}: {error}"))?;
+    for summary in summaries {
+        eprintln!("{summary}");
+    }
     Ok(())
 }
 
 /// Every distinct table of the outside vectors, held to the vector's answer.
 fn add_vectors(cases: &mut Cases, folder: &str) -> Result<(), String> {
     cases.begin_group(9);
-    for vector in vectors::load(folder)? {
-        cases.foretold(&vector.table, vector.refusal);
+    for vector in vectors::load(folder, vectors::TABLE_FILE)? {
+        cases.foretold(&vector.table, vector.reading());
     }
     Ok(())
 }

@@ -1,18 +1,24 @@
 // The independent implementation against which the proved program is tested: its commands.
 //
-//   reference vectors DIR        holds the table reader to the test vectors in DIR
-//   reference cases DIR IN OUT   writes the stored cases and the answers they expect
-//   reference read FILE          reads one table and prints the answer ("-" is standard input)
+//   reference vectors DIR                holds the graph call to the test vectors in DIR
+//   reference cases DIR IN OUT [CALLS]   writes the stored cases and the answers they expect, up to a call
+//   reference read FILE                  reads one table and prints the answer ("-" is standard input)
 
 mod answer;
 mod borders;
 mod cases;
 mod damage;
+mod explore;
 mod generate;
+mod graph_borders;
+mod graph_cases;
+mod graph_models;
 mod json;
 mod meetings;
 mod records;
+mod region;
 mod rng;
+mod sha256;
 mod table;
 mod vectors;
 
@@ -21,14 +27,17 @@ use std::fs;
 use std::io::{self, Read};
 use std::process::ExitCode;
 
-const USAGE: &str = "usage: reference vectors DIR | cases DIR IN OUT | read FILE";
+const USAGE: &str = "usage: reference vectors DIR | cases DIR IN OUT [CALLS] | read FILE";
 
 fn main() -> ExitCode {
     let arguments: Vec<String> = env::args().skip(1).collect();
     let arguments: Vec<&str> = arguments.iter().map(String::as_str).collect();
     let outcome = match arguments[..] {
         ["vectors", folder] => vectors::check(folder),
-        ["cases", folder, input, output] => cases::write(folder, input, output).map(|()| true),
+        ["cases", folder, input, output] => cases::write(folder, input, output, 1).map(|()| true),
+        ["cases", folder, input, output, calls] => {
+            highest_call(calls).and_then(|call| cases::write(folder, input, output, call)).map(|()| true)
+        }
         ["read", file] => read(file).map(|()| true),
         _ => Err(USAGE.to_string()),
     };
@@ -39,6 +48,14 @@ fn main() -> ExitCode {
             eprintln!("{trouble}");
             ExitCode::from(2)
         }
+    }
+}
+
+/// The highest call whose cases are asked for.
+fn highest_call(calls: &str) -> Result<u8, String> {
+    match calls.parse() {
+        Ok(call) if (1..=cases::HIGHEST_CALL).contains(&call) => Ok(call),
+        _ => Err(format!("CALLS is a number from 1 to {}", cases::HIGHEST_CALL)),
     }
 }
 
