@@ -11,7 +11,6 @@
 --   Access     what the accessors give
 --   Edges      what the arrays of edges hold
 --   Reads      the model that a table was read as, and the laws that the layer above goes by
---   Points     the points that document 01 marks ★
 -- The theorems on these definitions, and laws for the proofs of the code, stand in Laws.
 pub mod Format
 pub mod Model
@@ -24,5 +23,4 @@ pub mod Sound
 pub mod Access
 pub mod Edges
 pub mod Reads
-pub mod Points
 pub mod Laws

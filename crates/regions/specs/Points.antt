@@ -1,26 +1,33 @@
--- The points that document 01 marks ★, as far as they are about tables: each row is a question to a definition that the
--- contracts cite, and its answer, and `points-met` proves all rows. The example of "The printed model" is among them, so that
+-- The points that document 01 marks ★, as far as they are about tables and regions: each row is a question to a definition
+-- that the contracts cite, and its answer, and `points-met` proves all rows. The example of "The printed model" is among them, so that
 -- what is proved of accepted tables is proved of something; and a row for each refusal from 3 to 13, most of them at a record
 -- that meets a higher number too, so that their numbers, places and order stand here without any stage or count.
 use Prim.Native.Nat.{ℕ, zero, suc}
 use mathlib.Core.Path.{_≡_, refl}
 use mathlib.Core.List.{List, [], _∷_}
 use Rattle.table.specs.Format.{bodyLength, bodyLengths}
-use Rattle.table.specs.Model.{Model}
+use Rattle.table.specs.Model.{Model, resetIn}
 use Rattle.table.specs.Records.{recordOf, bodyAt, recordAt, past}
 use Rattle.table.specs.Refusals.{rowsOf, nextOf, stepAt}
 use Rattle.table.specs.Reading.{itemAt, run, runTable, add, gather, modelOf, readTable, refusal, accepted}
 use Rattle.table.specs.Sound.{All, none, also}
+use Rattle.regions.specs.Cells.{Cell, over, at, reset, cells, delay}
 
 pub data Point : Type 0 where
   -- The table is refused, with this number and place.
   refused : (table : List ℕ) (number place : ℕ) → Point
   -- The table is read, as this model.
   read : (table : List ℕ) → Model → Point
+  -- After these clocks of a region come those by delay.
+  delayed : (before after : List Cell) → Point
+  -- After these clocks come those by a reset of the mask.
+  afterReset : (mask : ℕ) (before after : List Cell) → Point
 
 abbrev pub Met : Point → Type 0
 Met (refused table number place) = readTable table ≡ refusal number place
 Met (read table m) = readTable table ≡ accepted m
+Met (delayed before after) = delay before ≡ cells after
+Met (afterReset mask before after) = reset mask before ≡ after
 
 -- The table of document 01's printed model, in its grouping: header, two locations, an invariant atom, an edge with a guard
 -- atom and two branches, end.
@@ -106,12 +113,22 @@ points =
     ∷ refused (smallEdge (6 ∷ 3 ∷ 0 ∷ 0 ∷ 0 ∷ 7 ∷ 0 ∷ [])) 12 6
     -- 13 at the first byte after the end.
     ∷ refused (small (7 ∷ 0 ∷ [])) 13 7
+    -- "M = 1: clock at 1 becomes over."
+    ∷ delayed (at 1 1 0 ∷ []) (over 1 ∷ [])
+    -- "M = 1, x between 0 and 1, y = 0: next y has rank 1, x rank 2."
+    ∷ delayed (at 1 0 1 ∷ at 1 0 0 ∷ []) (at 1 0 2 ∷ at 1 0 1 ∷ [])
+    -- "After that x = 1 with rank 0, y rank 1."
+    ∷ delayed (at 1 0 2 ∷ at 1 0 1 ∷ []) (at 1 1 0 ∷ at 1 0 1 ∷ [])
+    -- "Ranks x 1, y 2; reset x: y has rank 1."
+    ∷ afterReset 1 (at 1 0 1 ∷ at 1 0 2 ∷ []) (at 1 0 0 ∷ at 1 0 1 ∷ [])
     ∷ []
 
 -- All points are met.
 pub points-met : All Met points
 unfolding bodyLength bodyLengths recordOf bodyAt recordAt past rowsOf nextOf stepAt itemAt run runTable add gather modelOf readTable
+    resetIn delay
 points-met =
     also refl (also refl (also refl (also refl (also refl (also refl
     (also refl (also refl (also refl (also refl (also refl (also refl
-    (also refl (also refl (also refl (also refl (also refl (also refl none)))))))))))))))))
+    (also refl (also refl (also refl (also refl (also refl (also refl
+    (also refl (also refl (also refl (also refl none)))))))))))))))))))))

@@ -1,0 +1,9 @@
+// The region layer: regions, delay and reset, guards.
+mod clock;
+mod four;
+mod region;
+
+pub use region::Bounds;
+pub use region::Moved;
+pub use region::Region;
+pub use region::Verdict;
