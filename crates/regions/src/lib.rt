@@ -1,6 +1,7 @@
 // The region layer: regions, delay and reset, guards.
 mod clock;
 mod four;
+mod guards;
 mod region;
 
 pub use region::Bounds;

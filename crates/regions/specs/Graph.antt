@@ -1,0 +1,128 @@
+-- The region graph of a model (document 01, "Regions"): bounds, invariants, available edges, what a region leads to, and what is
+-- reached. A region here is that of the code, in nine bytes.
+use Prim.Native.Nat.{ℕ, max}
+use mathlib.Core.Bool.{Bool, true, false, cond, not, _&&_, _||_}
+use mathlib.Core.List.{List, [], _∷_, _++_, map, List·Memᴰ}
+use lib.Dec.{eqb}
+use Rattle.table.specs.Model.{Model, Edge}
+use Rattle.table.specs.declared.model.Branch.{Branch}
+use Rattle.table.specs.declared.model.Guard.{Guard}
+use Rattle.table.specs.declared.model.Invariant.{Invariant}
+use Rattle.regions.specs.Atoms.{atom}
+use Rattle.regions.specs.Packed.{cellOf, clockAt, delayed, afterReset}
+use Rattle.regions.specs.declared.region.Bounds.{Bounds}
+use Rattle.regions.specs.declared.region.Region.{Region}
+use Rattle.regions.specs.declared.region.Verdict.{Verdict}
+use Rattle.regions.specs.declared.region.Verdict.the-variants.{Holds, Fails, Unknown}
+
+-- All items of a list are such.
+abbrev pub every : {A : Type 0} → (A → Bool) → List A → Bool
+every p [] = true
+every p (x ∷ l) = p x && every p l
+
+-- ---- Bounds
+
+abbrev pub largestGuard : List Guard → ℕ
+largestGuard [] = 0
+largestGuard (g ∷ l) = max (g .constant) (largestGuard l)
+
+abbrev pub largestInvariant : List Invariant → ℕ
+largestInvariant [] = 0
+largestInvariant (a ∷ l) = max (a .constant) (largestInvariant l)
+
+abbrev pub largestEdge : List Edge → ℕ
+largestEdge [] = 0
+largestEdge (e ∷ l) = max (largestGuard (e .guards)) (largestEdge l)
+
+-- "M is the largest constant of the table, 0 if there is none."
+unfoldable pub largestConstant : Model → ℕ
+largestConstant m = max (largestInvariant (m .invariants)) (largestEdge (m .edges))
+
+-- Every clock has that bound.
+unfoldable pub boundsOf : Model → Bounds
+boundsOf m =
+    record {
+      count = m .clocks;
+      bound = largestConstant m ∷ largestConstant m ∷ largestConstant m ∷ largestConstant m ∷ [];
+    }
+
+-- ---- Atoms on a region
+
+abbrev pub isHolds : Verdict → Bool
+isHolds Holds = true
+isHolds Fails = false
+isHolds Unknown = false
+
+-- An atom holds at a region.
+abbrev pub holds : Bounds → Region → (clock comparison constant : ℕ) → Bool
+holds bounds r clock comparison constant = isHolds (atom comparison constant (cellOf (clockAt bounds r clock)))
+
+-- An invariant atom is of another location, or holds.
+abbrev pub allows : Bounds → Region → Invariant → Bool
+allows bounds r a = not (eqb (a .location) (r .location)) || holds bounds r (a .clock) (a .comparison) (a .constant)
+
+-- The region meets its location's invariant.
+unfoldable pub meets : Bounds → List Invariant → Region → Bool
+meets bounds atoms r = every (allows bounds r) atoms
+
+abbrev pub satisfies : Bounds → Region → Guard → Bool
+satisfies bounds r g = holds bounds r (g .clock) (g .comparison) (g .constant)
+
+-- ---- Edges
+
+-- "The location is its source, the guard holds": the edge fits.
+unfoldable pub fits : Bounds → Edge → Region → Bool
+fits bounds e r = eqb (e .source) (r .location) && every (satisfies bounds r) (e .guards)
+
+-- The target region of a branch: the region after its reset, at its target.
+unfoldable pub landing : Bounds → Region → Branch → Region
+landing bounds r b =
+    record {
+      location = b .target;
+      whole = afterReset bounds r (b .mask) .whole;
+      rank = afterReset bounds r (b .mask) .rank;
+    }
+
+-- "Every branch's target region meets the target's invariant": the edge lands.
+unfoldable pub lands : Bounds → List Invariant → Edge → Region → Bool
+lands bounds atoms e r = every (λ b. meets bounds atoms (landing bounds r b)) (e .branches)
+
+-- "An edge is available where the location is its source, the guard holds, and every branch's target region meets the target's
+-- invariant."
+abbrev pub available : Model → Edge → Region → Bool
+available m e r = fits (boundsOf m) e r && lands (boundsOf m) (m .invariants) e r
+
+-- ---- What a region leads to
+
+-- "Delay stops before a region that breaks its location's invariant."
+unfoldable pub delayNext : Model → Region → List Region
+delayNext m r =
+    cond (delayed (boundsOf m) r .any && meets (boundsOf m) (m .invariants) (delayed (boundsOf m) r .region))
+    (delayed (boundsOf m) r .region ∷ []) []
+
+-- The target regions of an edge, where it is available.
+unfoldable pub edgeNext : Model → Region → Edge → List Region
+edgeNext m r e = cond (available m e r) (map (landing (boundsOf m) r) (e .branches)) []
+
+abbrev pub edgesNext : Model → Region → List Edge → List Region
+edgesNext m r [] = []
+edgesNext m r (e ∷ l) = edgeNext m r e ++ edgesNext m r l
+
+-- "Its delay region first, then its available edges in table order, branches in order."
+unfoldable pub nextOf : Model → Region → List Region
+nextOf m r = delayNext m r ++ edgesNext m r (m .edges)
+
+-- "Region 0 is the initial location with all clocks 0."
+unfoldable pub first : Model → Region
+first m = record { location = m .initial; whole = 0 ∷ 0 ∷ 0 ∷ 0 ∷ []; rank = 0 ∷ 0 ∷ 0 ∷ 0 ∷ [] }
+
+-- ---- What is reached, without a word of exploring
+
+-- "A region leads by some delay or edge to another": by the next region of a delay, or by a branch of an available edge.
+pub data Leads (m : Model) (r : Region) : Region → Type 0 where
+  by-delay : {q : Region} → List·Memᴰ q (delayNext m r) → Leads m r q
+  by-edge : {q : Region} {e : Edge} → List·Memᴰ e (m .edges) → List·Memᴰ q (edgeNext m r e) → Leads m r q
+
+pub data Reached (m : Model) : Region → Type 0 where
+  start : Reached m (first m)
+  on : {r q : Region} → Reached m r → Leads m r q → Reached m q

@@ -1,0 +1,47 @@
+-- Numbering what is reached (document 01, "Regions"): "Region 0 is the initial location with all clocks 0. Regions are then taken
+-- in number order .. A region met first gets the next number." Over any items with a test of sameness and, for each item, the list
+-- of the items that it leads to, in the order in which they are met.
+use Prim.Native.Nat.{ℕ, zero, suc, _+_, _≤_, _<_}
+use mathlib.Core.Path.{_≡_}
+use mathlib.Core.Bool.{Bool, true, false, cond, _||_}
+use mathlib.Core.List.{List, [], _∷_, _++_, List·Memᴰ}
+use lib.Dec.{ltb}
+use lib.ListN.{length, getD}
+
+-- What exploring comes to: all items, or as many as there is room for, where there are more.
+pub data Found (X : Type 0) : Type 0 where
+  complete : List X → Found X
+  full : List X → Found X
+
+module _ {X : Type 0} (same : X → X → Bool) (next : X → List X) where
+  abbrev pub known : X → List X → Bool
+  known x [] = false
+  known x (y ∷ l) = same x y || known x l
+
+  -- Items that are met, one after the other: each that is not known gets the next number, while there is room.
+  abbrev pub meet : ℕ → List X → List X → Found X
+  meet cap found [] = complete found
+  meet cap found (x ∷ l) =
+      cond (known x found) (meet cap found l)
+      (cond (ltb (length found) cap) (meet cap (found ++ (x ∷ [])) l) (full found))
+
+  abbrev pub andThen : (List X → Found X) → Found X → Found X
+  andThen go (complete found) = go found
+  andThen go (full found) = full found
+
+  -- The items from number i on are taken in number order. A fuel of more than the room left is enough (`enough`).
+  unfoldable pub exploreFrom : ℕ → ℕ → X → List X → ℕ → Found X
+  exploreFrom zero cap d found i = complete found
+  exploreFrom (suc fuel) cap d found i =
+      cond (ltb i (length found))
+      (andThen (λ more. exploreFrom fuel cap d more (suc i)) (meet cap found (next (getD found i d))))
+      (complete found)
+
+  -- All that is reached from a start, with room for `cap` items.
+  unfoldable pub explore : ℕ → X → Found X
+  explore cap start = cond (ltb 0 cap) (exploreFrom (suc cap) cap start (start ∷ []) 0) (full [])
+
+  -- What is reached, without a word of exploring.
+  pub data Reach (start : X) : X → Type 0 where
+    here : Reach start start
+    on : {x y : X} → Reach start x → List·Memᴰ y (next x) → Reach start y
