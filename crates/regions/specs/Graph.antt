@@ -22,21 +22,23 @@ every p (x ∷ l) = p x && every p l
 
 -- ---- Bounds
 
-abbrev pub largestGuard : List Guard → ℕ
-largestGuard [] = 0
-largestGuard (g ∷ l) = max (g .constant) (largestGuard l)
+-- The largest of the numbers of the items of a list.
+abbrev pub largestOf : {A : Type 0} → (A → ℕ) → List A → ℕ
+largestOf f [] = 0
+largestOf f (x ∷ l) = max (f x) (largestOf f l)
 
-abbrev pub largestInvariant : List Invariant → ℕ
-largestInvariant [] = 0
-largestInvariant (a ∷ l) = max (a .constant) (largestInvariant l)
+abbrev pub constantOf : Invariant → ℕ
+constantOf a = a .constant
 
-abbrev pub largestEdge : List Edge → ℕ
-largestEdge [] = 0
-largestEdge (e ∷ l) = max (largestGuard (e .guards)) (largestEdge l)
+abbrev pub guardConstant : Guard → ℕ
+guardConstant g = g .constant
+
+abbrev pub edgeConstant : Edge → ℕ
+edgeConstant e = largestOf guardConstant (e .guards)
 
 -- "M is the largest constant of the table, 0 if there is none."
 unfoldable pub largestConstant : Model → ℕ
-largestConstant m = max (largestInvariant (m .invariants)) (largestEdge (m .edges))
+largestConstant m = max (largestOf constantOf (m .invariants)) (largestOf edgeConstant (m .edges))
 
 -- Every clock has that bound.
 unfoldable pub boundsOf : Model → Bounds

@@ -3,6 +3,7 @@
 --   Atoms      guard and invariant atoms on a clock
 --   Packed     a region as the code holds it, and the cells that it stands for
 --   Graph      bounds, invariants, available edges, what a region leads to, and what is reached
+--   Edges      the arrays of edges of a model
 --   Worklist   numbering what is reached, in the order in which it is met, with a cap
 --   Points     the points that document 01 marks ★
 -- Laws on these stand in Laws.
@@ -10,6 +11,7 @@ pub mod Cells
 pub mod Atoms
 pub mod Packed
 pub mod Graph
+pub mod Edges
 pub mod Worklist
 pub mod Points
 pub mod Laws

@@ -53,7 +53,7 @@ fn or_four(a: bool, b: bool, c: bool, d: bool) -> bool
     d
 }
 
-fn larger(x: u8, y: u8) -> u8
+pub(crate) fn larger(x: u8, y: u8) -> u8
     ensures { λ r. ⌜ r ≡ max x y ⌝ }
 {
     if x < y { y } else { x }

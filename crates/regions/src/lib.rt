@@ -1,4 +1,5 @@
 // The region layer: regions, delay and reset, guards.
+mod bounds;
 mod clock;
 mod four;
 mod guards;

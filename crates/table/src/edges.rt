@@ -16,7 +16,7 @@ use crate::model::Shape;
 use crate::reading::body_at;
 
 // The number at a place of a list, and 0 past its end.
-fn number_at(list: &[usize], i: usize) -> usize
+pub fn number_at(list: &[usize], i: usize) -> usize
     ensures { λ r. ⌜ r ≡ getD (now (list .entry)) i 0 ⌝ }
 {
     if i < list.len() { list[i] } else { 0 }

@@ -15,6 +15,7 @@ pub use access::label_at;
 pub use access::resets;
 pub use edges::edge_at;
 pub use edges::list_edges;
+pub use edges::number_at;
 pub use model::Branch;
 pub use model::EdgeRow;
 pub use model::Guard;
