@@ -102,17 +102,18 @@ delayNext m r =
     cond (delayed (boundsOf m) r .any && meets (boundsOf m) (m .invariants) (delayed (boundsOf m) r .region))
     (delayed (boundsOf m) r .region ∷ []) []
 
+-- What the items of a list give, one after the other.
+abbrev pub gather : {A : Type 0} → (A → List Region) → List A → List Region
+gather g [] = []
+gather g (x ∷ l) = g x ++ gather g l
+
 -- The target regions of an edge, where it is available.
 unfoldable pub edgeNext : Model → Region → Edge → List Region
-edgeNext m r e = cond (available m e r) (map (landing (boundsOf m) r) (e .branches)) []
-
-abbrev pub edgesNext : Model → Region → List Edge → List Region
-edgesNext m r [] = []
-edgesNext m r (e ∷ l) = edgeNext m r e ++ edgesNext m r l
+edgeNext m r e = cond (available m e r) (gather (λ b. landing (boundsOf m) r b ∷ []) (e .branches)) []
 
 -- "Its delay region first, then its available edges in table order, branches in order."
 unfoldable pub nextOf : Model → Region → List Region
-nextOf m r = delayNext m r ++ edgesNext m r (m .edges)
+nextOf m r = delayNext m r ++ gather (edgeNext m r) (m .edges)
 
 -- "Region 0 is the initial location with all clocks 0."
 unfoldable pub first : Model → Region

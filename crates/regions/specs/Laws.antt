@@ -1,5 +1,7 @@
 -- Laws on the definitions of the region layer:
+--   Graph      what an edge and a delay come to, by the tests of the code
 --   Every      for loops that test every item of a list
 --   Worklist   exploring lists exactly what is reached, once each; more room only adds at the end
+pub mod Graph
 pub mod Every
 pub mod Worklist

@@ -4,7 +4,10 @@
 --   Packed     a region as the code holds it, and the cells that it stands for
 --   Graph      bounds, invariants, available edges, what a region leads to, and what is reached
 --   Edges      the arrays of edges of a model
+--   Entries    regions in a list of bytes, nine to an entry
+--   Index      a chained hash index over the first entries
 --   Worklist   numbering what is reached, in the order in which it is met, with a cap
+--   Explore    exploring into entries, step by step
 --   Points     the points that document 01 marks ★
 -- Laws on these stand in Laws.
 pub mod Cells
@@ -12,6 +15,9 @@ pub mod Atoms
 pub mod Packed
 pub mod Graph
 pub mod Edges
+pub mod Entries
+pub mod Index
 pub mod Worklist
+pub mod Explore
 pub mod Points
 pub mod Laws

@@ -13,7 +13,12 @@ pub data Found (X : Type 0) : Type 0 where
   complete : List X → Found X
   full : List X → Found X
 
-module _ {X : Type 0} (same : X → X → Bool) (next : X → List X) where
+-- Goes on with all items, unless there was no room.
+abbrev pub andThen : {X : Type 0} → (List X → Found X) → Found X → Found X
+andThen go (complete found) = go found
+andThen go (full found) = full found
+
+module _ {X : Type 0} (same : X → X → Bool) where
   abbrev pub known : X → List X → Bool
   known x [] = false
   known x (y ∷ l) = same x y || known x l
@@ -25,23 +30,20 @@ module _ {X : Type 0} (same : X → X → Bool) (next : X → List X) where
       cond (known x found) (meet cap found l)
       (cond (ltb (length found) cap) (meet cap (found ++ (x ∷ [])) l) (full found))
 
-  abbrev pub andThen : (List X → Found X) → Found X → Found X
-  andThen go (complete found) = go found
-  andThen go (full found) = full found
-
+module _ {X : Type 0} (same : X → X → Bool) (next : X → List X) where
   -- The items from number i on are taken in number order. A fuel of more than the room left is enough (`enough`).
   unfoldable pub exploreFrom : ℕ → ℕ → X → List X → ℕ → Found X
   exploreFrom zero cap d found i = complete found
   exploreFrom (suc fuel) cap d found i =
       cond (ltb i (length found))
-      (andThen (λ more. exploreFrom fuel cap d more (suc i)) (meet cap found (next (getD found i d))))
+      (andThen (λ more. exploreFrom fuel cap d more (suc i)) (meet same cap found (next (getD found i d))))
       (complete found)
 
   -- All that is reached from a start, with room for `cap` items.
   unfoldable pub explore : ℕ → X → Found X
   explore cap start = cond (ltb 0 cap) (exploreFrom (suc cap) cap start (start ∷ []) 0) (full [])
 
-  -- What is reached, without a word of exploring.
-  pub data Reach (start : X) : X → Type 0 where
-    here : Reach start start
-    on : {x y : X} → Reach start x → List·Memᴰ y (next x) → Reach start y
+-- What is reached, without a word of exploring.
+pub data Reach {X : Type 0} (next : X → List X) (start : X) : X → Type 0 where
+  here : Reach next start start
+  on : {x y : X} → Reach next start x → List·Memᴰ y (next x) → Reach next start y

@@ -4,7 +4,7 @@ ghost use mathlib.Core.Path.{_≡_};
 ghost use mathlib.Core.Bool.{Bool};
 ghost use Rattle.table.specs.Model.{Model};
 ghost use Rattle.table.specs.Reads.{Reads, ReadsEdge, edgeOf};
-ghost use Rattle.regions.specs.Graph.{isHolds, allows, satisfies, every, meets, landing, lands};
+ghost use Rattle.regions.specs.Graph.{isHolds, allows, satisfies, every, meets, landing, lands, available, boundsOf};
 use crate::region::Bounds;
 use crate::region::Region;
 use crate::region::Verdict;
@@ -94,4 +94,19 @@ pub(crate) fn lands_all(bytes: &[u8], shape: Shape, place: usize, bounds: Bounds
         i = i + 1;
     }
     true
+}
+
+// Is the edge at a place, with this source, available?
+pub(crate) fn is_available(bytes: &[u8], shape: Shape, place: usize, source: usize, bounds: Bounds, r: Region) -> bool
+    ensures { λ b. ⌜ ((m : Model) (e : ℕ) → Reads (now (bytes .entry)) shape m → ReadsEdge (now (bytes .entry)) place m e
+        → source ≡ edgeOf m e .source → bounds ≡ boundsOf m → b ≡ available m (edgeOf m e) r) ⌝ }
+{
+    let location = r.location as usize;
+    if source != location {
+        return false;
+    }
+    if !meets_guards(bytes, place, bounds, r) {
+        return false;
+    }
+    lands_all(bytes, shape, place, bounds, r)
 }

@@ -1,8 +1,11 @@
 // The region layer: regions, delay and reset, guards.
 mod bounds;
 mod clock;
+mod entry;
+mod explore;
 mod four;
 mod guards;
+mod index;
 mod region;
 
 pub use region::Bounds;

@@ -149,30 +149,30 @@ module _ {X : Type 0} (same : X → X → Bool) (next : X → List X) where
   -- ---- The loops step by step
 
   -- Nothing is left to be met.
-  pub meet-none : (cap : ℕ) (found : List X) → meet same next cap found [] ≡ complete found
+  pub meet-none : (cap : ℕ) (found : List X) → meet same cap found [] ≡ complete found
   meet-none cap found = refl
 
   -- A known item is passed over.
-  pub meet-known : (cap : ℕ) (found : List X) (x : X) (l : List X) → known same next x found ≡ true
-      → meet same next cap found (x ∷ l) ≡ meet same next cap found l
+  pub meet-known : (cap : ℕ) (found : List X) (x : X) (l : List X) → known same x found ≡ true
+      → meet same cap found (x ∷ l) ≡ meet same cap found l
   meet-known cap found x l e = rw e
 
   -- A new item gets the next number.
-  pub meet-new : (cap : ℕ) (found : List X) (x : X) (l : List X) → known same next x found ≡ false → length found < cap
-      → meet same next cap found (x ∷ l) ≡ meet same next cap (found ++ (x ∷ [])) l
+  pub meet-new : (cap : ℕ) (found : List X) (x : X) (l : List X) → known same x found ≡ false → length found < cap
+      → meet same cap found (x ∷ l) ≡ meet same cap (found ++ (x ∷ [])) l
   meet-new cap found x l e h = rw (e, lt-ltb (length found) cap h)
 
   -- A new item for which there is no room.
-  pub meet-full : (cap : ℕ) (found : List X) (x : X) (l : List X) → known same next x found ≡ false → cap ≤ length found
-      → meet same next cap found (x ∷ l) ≡ full found
+  pub meet-full : (cap : ℕ) (found : List X) (x : X) (l : List X) → known same x found ≡ false → cap ≤ length found
+      → meet same cap found (x ∷ l) ≡ full found
   meet-full cap found x l e h = rw (e, le-ltb (length found) cap h)
 
   -- Two lists of items, one after the other.
   pub meet-append : (cap : ℕ) (found l l′ : List X)
-      → meet same next cap found (l ++ l′) ≡ andThen same next (λ more. meet same next cap more l′) (meet same next cap found l)
+      → meet same cap found (l ++ l′) ≡ andThen (λ more. meet same cap more l′) (meet same cap found l)
   meet-append cap found [] l′ = refl
   meet-append cap found (x ∷ l) l′ =
-      elim (both (known same next x found)) [
+      elim (both (known same x found)) [
         | inl e ↦ rw e (meet-append cap found l l′)
         | inr e ↦ elim (both (ltb (length found) cap)) [
           | inl h ↦ rw (e, h) (meet-append cap (found ++ (x ∷ [])) l l′)
@@ -183,8 +183,8 @@ module _ {X : Type 0} (same : X → X → Bool) (next : X → List X) where
   -- A turn: what item i leads to is met, and the next turn goes on from there.
   pub turn : (fuel cap : ℕ) (d : X) (found : List X) (i : ℕ) → i < length found
       → exploreFrom same next (suc fuel) cap d found i
-      ≡ andThen same next (λ more. exploreFrom same next fuel cap d more (suc i))
-      (meet same next cap found (next (getD found i d)))
+      ≡ andThen (λ more. exploreFrom same next fuel cap d more (suc i))
+      (meet same cap found (next (getD found i d)))
   unfolding exploreFrom
   turn fuel cap d found i h = rw (lt-ltb i (length found) h)
 
@@ -200,17 +200,17 @@ module _ {X : Type 0} (same : X → X → Bool) (next : X → List X) where
   -- Items that were met one after the other, and what that came to.
   data Met (cap : ℕ) : List X → List X → Found X → Type 0 where
     met-none : {found : List X} → Met cap found [] (complete found)
-    met-known : {found l : List X} {x : X} {r : Found X} → known same next x found ≡ true → Met cap found l r
+    met-known : {found l : List X} {x : X} {r : Found X} → known same x found ≡ true → Met cap found l r
         → Met cap found (x ∷ l) r
-    met-new : {found l : List X} {x : X} {r : Found X} → known same next x found ≡ false → length found < cap
+    met-new : {found l : List X} {x : X} {r : Found X} → known same x found ≡ false → length found < cap
         → Met cap (found ++ (x ∷ [])) l r → Met cap found (x ∷ l) r
-    met-full : {found l : List X} {x : X} → known same next x found ≡ false → cap ≤ length found
+    met-full : {found l : List X} {x : X} → known same x found ≡ false → cap ≤ length found
         → Met cap found (x ∷ l) (full found)
 
-  met : (cap : ℕ) (found l : List X) → Met cap found l (meet same next cap found l)
+  met : (cap : ℕ) (found l : List X) → Met cap found l (meet same cap found l)
   met cap found [] = met-none
   met cap found (x ∷ l) =
-      elim (both (known same next x found)) [
+      elim (both (known same x found)) [
         | inl e ↦ rw e (met-known e (met cap found l))
         | inr e ↦ elim (both (ltb (length found) cap)) [
           | inl h ↦ rw (e, h) (met-new e (ltb-true _ _ h) (met cap (found ++ (x ∷ [])) l))
@@ -251,7 +251,7 @@ module _ {X : Type 0} (same : X → X → Bool) (next : X → List X) where
       go : i < length found → (r : Found X) → Met cap found (next (getD found i d)) r
           → ((more : List X) → i < length more → length more ≤ cap
           → Explored cap d more (suc i) (exploreFrom same next fuel cap d more (suc i)))
-          → Explored cap d found i (andThen same next (λ more. exploreFrom same next fuel cap d more (suc i)) r)
+          → Explored cap d found i (andThen (λ more. exploreFrom same next fuel cap d more (suc i)) r)
       go h (complete more) m further = turned h m (further more (omega (arith, longer (met-begins m))) (met-fits m fits))
       go h (full more) m further = stopped h m
 
@@ -263,7 +263,7 @@ module _ {X : Type 0} (same : X → X → Bool) (next : X → List X) where
   -- ---- The fuel and the start
 
   then-same : {cap : ℕ} {found l : List X} (f g : List X → Found X) (r : Found X) → Met cap found l r
-      → ((more : List X) → Met cap found l (complete more) → f more ≡ g more) → andThen same next f r ≡ andThen same next g r
+      → ((more : List X) → Met cap found l (complete more) → f more ≡ g more) → andThen f r ≡ andThen g r
   then-same f g (complete more) m h = h more m
   then-same f g (full more) m h = refl
 
@@ -304,7 +304,7 @@ module _ {X : Type 0} (same : X → X → Bool) (next : X → List X) where
   Widens (full found) r = Begins found (itemsOf r)
 
   met-widens : {cap : ℕ} {found l : List X} {r : Found X} → Met cap found l r → (cap′ : ℕ) → cap ≤ cap′
-      → Widens r (meet same next cap′ found l)
+      → Widens r (meet same cap′ found l)
   met-widens met-none cap′ h = refl
   met-widens (met-known e m) cap′ h = rw e (met-widens m cap′ h)
   met-widens (met-new {found} e g m) cap′ h = rw (e, lt-ltb (length found) cap′ (omega arith)) (met-widens m cap′ h)
@@ -318,7 +318,7 @@ module _ {X : Type 0} (same : X → X → Bool) (next : X → List X) where
       rw (turn fuel cap′ d found i h) (go _ (met cap′ found (next (getD found i d))) (met-widens m cap′ g))
     where
       go : (r : Found X) → Met cap′ found (next (getD found i d)) r → Begins more (itemsOf r)
-          → Begins more (itemsOf (andThen same next (λ more′. exploreFrom same next fuel cap′ d more′ (suc i)) r))
+          → Begins more (itemsOf (andThen (λ more′. exploreFrom same next fuel cap′ d more′ (suc i)) r))
       go (complete more′) m′ b =
           begins-on b (explored-begins
           (explored fuel cap′ d more′ (suc i) (omega (arith, longer (met-begins m′))) (met-fits m′ (omega arith)) (omega arith)))
@@ -348,7 +348,7 @@ module _ {X : Type 0} (same : X → X → Bool) (next : X → List X) where
 
   -- All items of a list are reached.
   abbrev pub Reached : X → List X → Type 0
-  Reached start l = (x : X) → List·Memᴰ x l → Reach same next start x
+  Reached start l = (x : X) → List·Memᴰ x l → Reach next start x
 
   -- A list of different reached items, for which there is room.
   pub record Sound (cap : ℕ) (start : X) (found : List X) : Type 0 where
@@ -361,7 +361,7 @@ module _ {X : Type 0} (same : X → X → Bool) (next : X → List X) where
     pub first : (d : X) → getD found 0 d ≡ start
     pub some : 0 < length found
     pub sound : Sound cap start found
-    pub all-reached : (x : X) → Reach same next start x → List·Memᴰ x found
+    pub all-reached : (x : X) → Reach next start x → List·Memᴰ x found
     pub closed : (x y : X) → List·Memᴰ x found → List·Memᴰ y (next x) → List·Memᴰ y found
 
   -- As many reached items as there is room for, each once, and another one that is reached.
@@ -369,17 +369,17 @@ module _ {X : Type 0} (same : X → X → Bool) (next : X → List X) where
     pub fills : length found ≡ cap
     pub sound : Sound cap start found
     pub another : X
-    pub another-reached : Reach same next start another
+    pub another-reached : Reach next start another
     pub another-new : List·Memᴰ another found → ⊥
 
   grown : {cap : ℕ} {start : X} {found : List X} {x : X} → Sound cap start found → (List·Memᴰ x found → ⊥) → length found < cap
-      → Reach same next start x → Sound cap start (found ++ (x ∷ []))
+      → Reach next start x → Sound cap start (found ++ (x ∷ []))
   grown {start} {found} {x} s new h r =
       record {
         fits = simp length-append (omega arith);
         different = different-grown found x new (s .different);
         reached = λ y m. ⊎-elim (s .reached y)
-            (λ n. subst (Reach same next start) (sym (List·Memᴰ·eq-of-singleton n)) r) (List·Memᴰ·append-cases found m);
+            (λ n. subst (Reach next start) (sym (List·Memᴰ·eq-of-singleton n)) r) (List·Memᴰ·append-cases found m);
       }
 
   -- With that other one, more different items are reached than there is room for.
@@ -394,7 +394,7 @@ module _ {X : Type 0} (same : X → X → Bool) (next : X → List X) where
       record {
         fits = h;
         different = λ d i j p q e. omega arith;
-        reached = λ x m. subst (Reach same next start) (sym (List·Memᴰ·eq-of-singleton m)) here;
+        reached = λ x m. subst (Reach next start) (sym (List·Memᴰ·eq-of-singleton m)) here;
       }
 
   nothing-found : (start : X) → RoomFull 0 start []
@@ -417,7 +417,7 @@ module _ {X : Type 0} (same : X → X → Bool) (next : X → List X) where
     same-false x y f e = true-false (sym (same-refl x) ∙ ap (same x) (sym e) ∙ f)
 
     -- A known item has a number.
-    pub known-true : (x : X) (found : List X) (d : X) → known same next x found ≡ true → Numbered x found d
+    pub known-true : (x : X) (found : List X) (d : X) → known same x found ≡ true → Numbered x found d
     known-true x [] d e = absurd (true-false (sym e))
     known-true x (y ∷ l) d e =
         elim (both (same x y)) [
@@ -438,7 +438,7 @@ module _ {X : Type 0} (same : X → X → Bool) (next : X → List X) where
             earlier (suc k) h = n .first k (le-of-suc-le-suc h)
 
     -- An item that is not known has none.
-    pub known-false : (x : X) (found : List X) (d : X) → known same next x found ≡ false
+    pub known-false : (x : X) (found : List X) (d : X) → known same x found ≡ false
         → (j : ℕ) → j < length found → getD found j d ≡ x → ⊥
     known-false x [] d e j h = absurd (not-suc-le-zero h)
     known-false x (y ∷ l) d e zero h = same-false x y (or-false (same x y) _ e .0)
@@ -446,23 +446,23 @@ module _ {X : Type 0} (same : X → X → Bool) (next : X → List X) where
 
     -- An item that has a number is known.
     pub known-at : (x : X) (found : List X) (d : X) (j : ℕ) → j < length found → getD found j d ≡ x
-        → known same next x found ≡ true
+        → known same x found ≡ true
     known-at x found d j h e =
-        elim (both (known same next x found)) [ inl t ↦ t | inr f ↦ absurd (known-false x found d f j h e) ]
+        elim (both (known same x found)) [ inl t ↦ t | inr f ↦ absurd (known-false x found d f j h e) ]
 
     -- An item that has no number is not known.
     pub known-nowhere : (x : X) (found : List X) (d : X) → ((j : ℕ) → j < length found → getD found j d ≡ x → ⊥)
-        → known same next x found ≡ false
+        → known same x found ≡ false
     known-nowhere x found d never =
-        elim (both (known same next x found)) [
+        elim (both (known same x found)) [
           | inl t ↦ let n = known-true x found d t in absurd (never (n .number) (n .inside) (n .is))
           | inr f ↦ f
         ]
 
-    known-member : (x : X) (found : List X) → known same next x found ≡ true → List·Memᴰ x found
+    known-member : (x : X) (found : List X) → known same x found ≡ true → List·Memᴰ x found
     known-member x found e = let n = known-true x found x e in Memᴰ·cast (sym (n .is)) (member x found (n .number) (n .inside))
 
-    not-member : (x : X) (found : List X) → known same next x found ≡ false → List·Memᴰ x found → ⊥
+    not-member : (x : X) (found : List X) → known same x found ≡ false → List·Memᴰ x found → ⊥
     not-member x found e m = let (j, h, p) = place x m in known-false x found x e j h p
 
     -- What was found is sound, and where it is full another item is reached.
@@ -542,7 +542,7 @@ module _ {X : Type 0} (same : X → X → Bool) (next : X → List X) where
             let (j, h, p) = place start m in
             explored-closed ran (λ j g. absurd (not-suc-le-zero g)) j h y (rw p n)
 
-        all-reached : (x : X) → Reach same next start x → List·Memᴰ x found
+        all-reached : (x : X) → Reach next start x → List·Memᴰ x found
         all-reached x here = kept begins (List·Memᴰ·head refl)
         all-reached x (on {x = w} r n) = closed w x (all-reached w r) n
 
@@ -557,14 +557,14 @@ module _ {X : Type 0} (same : X → X → Bool) (next : X → List X) where
     -- Exploring is complete exactly where a list of at most `cap` items holds all that is reached.
     pub complete-iff : (cap : ℕ) (start : X)
         → ((found : List X) × (explore same next cap start ≡ complete found))
-        ↔ ((l : List X) × (length l ≤ cap) × ((x : X) → Reach same next start x → List·Memᴰ x l))
+        ↔ ((l : List X) × (length l ≤ cap) × ((x : X) → Reach next start x → List·Memᴰ x l))
     complete-iff cap start = (holds, λ t. room (t .0) (t .1) (t .2) (explore same next cap start) refl)
       where
         holds : (found : List X) × (explore same next cap start ≡ complete found)
-            → (l : List X) × (length l ≤ cap) × ((x : X) → Reach same next start x → List·Memᴰ x l)
+            → (l : List X) × (length l ≤ cap) × ((x : X) → Reach next start x → List·Memᴰ x l)
         holds t = let all = complete-all cap start (t .0) (t .1) in (t .0, all .sound .fits, all .all-reached)
 
-        room : (l : List X) → length l ≤ cap → ((x : X) → Reach same next start x → List·Memᴰ x l)
+        room : (l : List X) → length l ≤ cap → ((x : X) → Reach next start x → List·Memᴰ x l)
             → (r : Found X) → explore same next cap start ≡ r → (found : List X) × (explore same next cap start ≡ complete found)
         room l h all (complete found) e = (found, e)
         room l h all (full found) e =

@@ -1,0 +1,263 @@
+// Exploring a model's regions into lent entries, in document 01's order.
+ghost use Prim.Native.Nat.{ℕ, suc, _<_};
+ghost use mathlib.Core.Path.{_≡_};
+ghost use mathlib.Core.List.{List, [], _∷_};
+ghost use lib.ListN.{length};
+ghost use Rattle.table.specs.Model.{Model};
+ghost use Rattle.table.specs.Reads.{Reads, ReadsEdge, edgeOf};
+ghost use Rattle.regions.specs.Graph.{landing, gather, boundsOf, edgeNext, delayNext, nextOf};
+ghost use Rattle.regions.specs.Edges.{Arrays};
+ghost use Rattle.regions.specs.Worklist.{exploreFrom};
+ghost use Rattle.regions.specs.Explore.{Room, Kept, AllMet, sameRegion, listed, foundOf};
+ghost use Rattle.regions.specs.declared.region.Region.{Region};
+use crate::entry::read_entry;
+use crate::guards::is_available;
+use crate::guards::landing_of;
+use crate::guards::meets_invariant;
+use crate::index::Lookup;
+use crate::index::add;
+use crate::index::find;
+use crate::region::Bounds;
+use crate::region::Region;
+use table::Shape;
+
+// How many regions are listed after some were met, and whether there was no room for one of them.
+pub(crate) struct Met {
+    pub full: bool,
+    pub count: usize,
+}
+
+// A region is met, after n were listed: where it is not known it gets the next number, if there is room.
+fn meet_one(q: Region, n: usize, cap: usize, entries: &mut [u8], heads: &mut [u16], nexts: &mut [u16]) -> Met
+    requires { ⌜ Room cap (now entries) (now heads) (now nexts) n ⌝ }
+    ensures { λ r. ⌜ Kept cap n (now (entries .entry)) (now (heads .entry)) (now (nexts .entry))
+        (now (entries .exit)) (now (heads .exit)) (now (nexts .exit)) (r .count) ⌝ }
+    ensures { λ r. ⌜ AllMet cap n (q ∷ []) (now (entries .entry)) (now (entries .exit)) r ⌝ }
+{
+    let looked = find(entries, heads, nexts, n, q);
+    match looked {
+        Lookup::At(_) => Met {
+            full: false,
+            count: n,
+        },
+        Lookup::Nothing => {
+            if n < cap {
+                add(q, n, entries, heads, nexts);
+                return Met {
+                    full: false,
+                    count: n + 1,
+                };
+            }
+            Met {
+                full: true,
+                count: n,
+            }
+        }
+    }
+}
+
+// The targets of the branches of the edge at a place are met.
+fn meet_branches(
+    bytes: &[u8],
+    place: usize,
+    bounds: Bounds,
+    r: Region,
+    n: usize,
+    cap: usize,
+    entries: &mut [u8],
+    heads: &mut [u16],
+    nexts: &mut [u16],
+) -> Met
+    requires { ⌜ Room cap (now entries) (now heads) (now nexts) n ⌝ }
+    ensures { λ met. ⌜ Kept cap n (now (entries .entry)) (now (heads .entry)) (now (nexts .entry))
+        (now (entries .exit)) (now (heads .exit)) (now (nexts .exit)) (met .count) ⌝ }
+    ensures { λ met. ⌜ ((m : Model) (e : ℕ) → ReadsEdge (now (bytes .entry)) place m e
+        → AllMet cap n (gather (λ b. landing bounds r b ∷ []) (edgeOf m e .branches)) (now (entries .entry)) (now (entries .exit)) met) ⌝ }
+{
+    let branches = table::branch_count(bytes, place);
+    let mut listed = n;
+    let mut i = 0;
+    while i < branches {
+        let q = landing_of(bounds, r, table::branch_at(bytes, place, i));
+        let met = meet_one(q, listed, cap, entries, heads, nexts);
+        if met.full {
+            return met;
+        }
+        listed = met.count;
+        i = i + 1;
+    }
+    Met {
+        full: false,
+        count: listed,
+    }
+}
+
+// The targets of an edge are met, where it is available.
+fn meet_edge(
+    bytes: &[u8],
+    shape: Shape,
+    place: usize,
+    source: usize,
+    bounds: Bounds,
+    r: Region,
+    n: usize,
+    cap: usize,
+    entries: &mut [u8],
+    heads: &mut [u16],
+    nexts: &mut [u16],
+) -> Met
+    requires { ⌜ Room cap (now entries) (now heads) (now nexts) n ⌝ }
+    ensures { λ met. ⌜ Kept cap n (now (entries .entry)) (now (heads .entry)) (now (nexts .entry))
+        (now (entries .exit)) (now (heads .exit)) (now (nexts .exit)) (met .count) ⌝ }
+    ensures { λ met. ⌜ ((m : Model) (e : ℕ) → Reads (now (bytes .entry)) shape m → ReadsEdge (now (bytes .entry)) place m e
+        → source ≡ edgeOf m e .source → bounds ≡ boundsOf m
+        → AllMet cap n (edgeNext m r (edgeOf m e)) (now (entries .entry)) (now (entries .exit)) met) ⌝ }
+{
+    if is_available(bytes, shape, place, source, bounds, r) {
+        return meet_branches(bytes, place, bounds, r, n, cap, entries, heads, nexts);
+    }
+    Met {
+        full: false,
+        count: n,
+    }
+}
+
+// The region that follows by delay is met, if any does and it meets its invariant.
+fn meet_delay(
+    bytes: &[u8],
+    shape: Shape,
+    bounds: Bounds,
+    r: Region,
+    n: usize,
+    cap: usize,
+    entries: &mut [u8],
+    heads: &mut [u16],
+    nexts: &mut [u16],
+) -> Met
+    requires { ⌜ Room cap (now entries) (now heads) (now nexts) n ⌝ }
+    ensures { λ met. ⌜ Kept cap n (now (entries .entry)) (now (heads .entry)) (now (nexts .entry))
+        (now (entries .exit)) (now (heads .exit)) (now (nexts .exit)) (met .count) ⌝ }
+    ensures { λ met. ⌜ ((m : Model) → Reads (now (bytes .entry)) shape m → bounds ≡ boundsOf m
+        → AllMet cap n (delayNext m r) (now (entries .entry)) (now (entries .exit)) met) ⌝ }
+{
+    let moved = r.delay(bounds);
+    let q = moved.region;
+    if !moved.any {
+        return Met {
+            full: false,
+            count: n,
+        };
+    }
+    if !meets_invariant(bytes, shape, bounds, q) {
+        return Met {
+            full: false,
+            count: n,
+        };
+    }
+    meet_one(q, n, cap, entries, heads, nexts)
+}
+
+// The targets of all available edges are met, in table order.
+fn meet_edges(
+    bytes: &[u8],
+    shape: Shape,
+    places: &[usize],
+    sources: &[usize],
+    bounds: Bounds,
+    r: Region,
+    n: usize,
+    cap: usize,
+    entries: &mut [u8],
+    heads: &mut [u16],
+    nexts: &mut [u16],
+) -> Met
+    requires { ⌜ Room cap (now entries) (now heads) (now nexts) n ⌝ }
+    ensures { λ met. ⌜ Kept cap n (now (entries .entry)) (now (heads .entry)) (now (nexts .entry))
+        (now (entries .exit)) (now (heads .exit)) (now (nexts .exit)) (met .count) ⌝ }
+    ensures { λ met. ⌜ ((m : Model) → Reads (now (bytes .entry)) shape m → Arrays m (now (places .entry)) (now (sources .entry))
+        → bounds ≡ boundsOf m
+        → AllMet cap n (gather (edgeNext m r) (m .edges)) (now (entries .entry)) (now (entries .exit)) met) ⌝ }
+{
+    let edges = shape.edges;
+    let mut listed = n;
+    let mut i = 0;
+    while i < edges {
+        let place = table::number_at(places, i);
+        let source = table::number_at(sources, i);
+        let met = meet_edge(bytes, shape, place, source, bounds, r, listed, cap, entries, heads, nexts);
+        if met.full {
+            return met;
+        }
+        listed = met.count;
+        i = i + 1;
+    }
+    Met {
+        full: false,
+        count: listed,
+    }
+}
+
+// All that a region leads to is met: its delay region first, then the targets of its available edges.
+fn meet_next(
+    bytes: &[u8],
+    shape: Shape,
+    places: &[usize],
+    sources: &[usize],
+    bounds: Bounds,
+    r: Region,
+    n: usize,
+    cap: usize,
+    entries: &mut [u8],
+    heads: &mut [u16],
+    nexts: &mut [u16],
+) -> Met
+    requires { ⌜ Room cap (now entries) (now heads) (now nexts) n ⌝ }
+    ensures { λ met. ⌜ Kept cap n (now (entries .entry)) (now (heads .entry)) (now (nexts .entry))
+        (now (entries .exit)) (now (heads .exit)) (now (nexts .exit)) (met .count) ⌝ }
+    ensures { λ met. ⌜ ((m : Model) → Reads (now (bytes .entry)) shape m → Arrays m (now (places .entry)) (now (sources .entry))
+        → bounds ≡ boundsOf m → AllMet cap n (nextOf m r) (now (entries .entry)) (now (entries .exit)) met) ⌝ }
+{
+    let met = meet_delay(bytes, shape, bounds, r, n, cap, entries, heads, nexts);
+    if met.full {
+        return met;
+    }
+    let listed = met.count;
+    meet_edges(bytes, shape, places, sources, bounds, r, listed, cap, entries, heads, nexts)
+}
+
+// The regions are taken in number order, from the one that is listed on.
+fn explore_listed(
+    bytes: &[u8],
+    shape: Shape,
+    places: &[usize],
+    sources: &[usize],
+    bounds: Bounds,
+    cap: usize,
+    entries: &mut [u8],
+    heads: &mut [u16],
+    nexts: &mut [u16],
+) -> Met
+    requires { ⌜ Room cap (now entries) (now heads) (now nexts) 1 ⌝ }
+    ensures { λ met. ⌜ Kept cap 1 (now (entries .entry)) (now (heads .entry)) (now (nexts .entry))
+        (now (entries .exit)) (now (heads .exit)) (now (nexts .exit)) (met .count) ⌝ }
+    ensures { λ met. ⌜ ((m : Model) (d : Region) → Reads (now (bytes .entry)) shape m
+        → Arrays m (now (places .entry)) (now (sources .entry)) → bounds ≡ boundsOf m
+        → exploreFrom sameRegion (nextOf m) (suc cap) cap d (listed (now (entries .entry)) 1) 0
+        ≡ foundOf (met .full) (listed (now (entries .exit)) (met .count))) ⌝ }
+{
+    let mut count = 1;
+    let mut i = 0;
+    while i < count {
+        let r = read_entry(entries, i);
+        let met = meet_next(bytes, shape, places, sources, bounds, r, count, cap, entries, heads, nexts);
+        if met.full {
+            return met;
+        }
+        count = met.count;
+        i = i + 1;
+    }
+    Met {
+        full: false,
+        count: count,
+    }
+}
