@@ -112,6 +112,12 @@ pub record Kept (cap n : ℕ) (es heads nexts es′ heads′ nexts′ : List ℕ
   pub more : n ≤ count
   pub after : (k : ℕ) → entryBytes * count ≤ k → getD es′ k 0 ≡ getD es k 0
 
+-- The bytes after the first entries stay, and so does the length.
+pub record Left (es es′ : List ℕ) (count : ℕ) : Type 0 where
+  pub entries : length es′ ≡ length es
+  pub fits : entryBytes * count ≤ length es
+  pub after : (k : ℕ) → entryBytes * count ≤ k → getD es′ k 0 ≡ getD es k 0
+
 abbrev pub foundOf : Bool → List Region → Found Region
 foundOf true l = full l
 foundOf false l = complete l
@@ -271,3 +277,33 @@ module _ (next : Region → List Region) (cap : ℕ) (d : Region) (es : List ℕ
 pub turn-over : (next : Region → List Region) (cap : ℕ) (d : Region) (es : List ℕ) (n i : ℕ) → n ≤ i
     → exploreFrom sameRegion next (suc cap - i) cap d (listed es n) i ≡ complete (listed es n)
 turn-over next cap d es n i h = over sameRegion next (suc cap - i) cap d (listed es n) i (rw listed-length h)
+
+-- The first region is listed in an index of no entry.
+pub first-listed : (cap : ℕ) (es heads nexts es′ heads′ nexts′ : List ℕ) (q : Region) → 0 < cap → cap ≤ maxEntries
+    → entryBytes * cap ≤ length es → cap ≤ length nexts → Added q 0 es heads nexts es′ heads′ nexts′
+    → Room cap es′ heads′ nexts′ 1 × (listed es′ 1 ≡ q ∷ [])
+unfolding listed
+first-listed cap es heads nexts es′ heads′ nexts′ q some few fits links added =
+    ( record {
+        index = added .index;
+        room = some;
+        few = few;
+        fits = rw (added .entries) fits;
+        links = rw (added .links) links;
+      }
+    , ap (λ r. r ∷ []) (added .entry) )
+
+-- Exploring from a start that is listed.
+pub explored : (next : Region → List Region) (cap : ℕ) (start : Region) (es es′ : List ℕ) (met : Met) → 0 < cap
+    → listed es 1 ≡ start ∷ []
+    → exploreFrom sameRegion next (suc cap) cap start (listed es 1) 0 ≡ foundOf (met .full) (listed es′ (met .count))
+    → explore sameRegion next cap start ≡ foundOf (met .full) (listed es′ (met .count))
+explored next cap start es es′ met some one e =
+    begin sameRegion next (suc cap) cap start some (omega arith)
+    ∙ ap (λ l. exploreFrom sameRegion next (suc cap) cap start l 0) (sym one)
+    ∙ e
+
+pub explored-none : (next : Region → List Region) (start : Region) (es : List ℕ)
+    → explore sameRegion next 0 start ≡ foundOf true (listed es 0)
+unfolding listed
+explored-none next start es = no-room sameRegion next start

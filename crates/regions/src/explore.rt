@@ -1,5 +1,5 @@
 // Exploring a model's regions into lent entries, in document 01's order.
-ghost use Prim.Native.Nat.{ℕ, suc, _<_};
+ghost use Prim.Native.Nat.{ℕ, suc, _<_, _≤_, _*_};
 ghost use mathlib.Core.Path.{_≡_};
 ghost use mathlib.Core.List.{List, [], _∷_};
 ghost use lib.ListN.{length};
@@ -7,8 +7,9 @@ ghost use Rattle.table.specs.Model.{Model};
 ghost use Rattle.table.specs.Reads.{Reads, ReadsEdge, edgeOf};
 ghost use Rattle.regions.specs.Graph.{landing, gather, boundsOf, edgeNext, delayNext, nextOf};
 ghost use Rattle.regions.specs.Edges.{Arrays};
-ghost use Rattle.regions.specs.Worklist.{exploreFrom};
-ghost use Rattle.regions.specs.Explore.{Room, Kept, AllMet, sameRegion, listed, foundOf};
+ghost use Rattle.regions.specs.Worklist.{exploreFrom, explore};
+ghost use Rattle.regions.specs.Entries.{entryBytes, maxEntries};
+ghost use Rattle.regions.specs.Explore.{Room, Kept, Left, AllMet, sameRegion, listed, foundOf};
 ghost use Rattle.regions.specs.declared.region.Region.{Region};
 use crate::entry::read_entry;
 use crate::guards::is_available;
@@ -260,4 +261,33 @@ fn explore_listed(
         full: false,
         count: count,
     }
+}
+
+// Explores from a start into entries that have room for `cap` regions.
+pub(crate) fn explore_all(
+    bytes: &[u8],
+    shape: Shape,
+    places: &[usize],
+    sources: &[usize],
+    bounds: Bounds,
+    start: Region,
+    cap: usize,
+    entries: &mut [u8],
+) -> Met
+    requires { ⌜ (cap ≤ maxEntries) × (entryBytes * cap ≤ length (now entries)) ⌝ }
+    ensures { λ met. ⌜ Left (now (entries .entry)) (now (entries .exit)) (met .count) ⌝ }
+    ensures { λ met. ⌜ ((m : Model) → Reads (now (bytes .entry)) shape m
+        → Arrays m (now (places .entry)) (now (sources .entry)) → bounds ≡ boundsOf m
+        → explore sameRegion (nextOf m) cap start ≡ foundOf (met .full) (listed (now (entries .exit)) (met .count))) ⌝ }
+{
+    if cap < 1 {
+        return Met {
+            full: true,
+            count: 0,
+        };
+    }
+    let mut heads = [0u16; 4096];
+    let mut nexts = [0u16; 4096];
+    add(start, 0, entries, &mut heads, &mut nexts);
+    explore_listed(bytes, shape, places, sources, bounds, cap, entries, &mut heads, &mut nexts)
 }
