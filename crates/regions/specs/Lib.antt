@@ -8,6 +8,7 @@
 --   Index      a chained hash index over the first entries
 --   Worklist   numbering what is reached, in the order in which it is met, with a cap
 --   Explore    exploring into entries, step by step
+--   Call       the graph call: its answer, and what the lent entries then hold
 --   Points     the points that document 01 marks ★
 -- Laws on these stand in Laws.
 pub mod Cells
@@ -19,5 +20,6 @@ pub mod Entries
 pub mod Index
 pub mod Worklist
 pub mod Explore
+pub mod Call
 pub mod Points
 pub mod Laws

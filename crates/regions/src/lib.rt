@@ -1,5 +1,6 @@
 // The region layer: regions, delay and reset, guards.
 mod bounds;
+mod call;
 mod clock;
 mod entry;
 mod explore;
@@ -8,6 +9,8 @@ mod guards;
 mod index;
 mod region;
 
+pub use call::Graph;
+pub use call::explore_table;
 pub use region::Bounds;
 pub use region::Moved;
 pub use region::Region;
