@@ -1,6 +1,6 @@
 -- The graph call (document 01, "Refusal list"): what it answers, and what the lent entries then hold, for all tables and all lent
 -- lengths. The rows are those of reading a table (1 to 13), then 14, then 15.
-use Prim.Native.Nat.{ℕ, zero, suc, _+_, _*_, _/_, _≤_, _<_, min}
+use Prim.Native.Nat.{ℕ, zero, suc, _+_, _*_, _/_, _≤_, min}
 use native.Mathlib.Omega.{arith}
 use mathlib.Core.Path.{_≡_, refl, sym, _∙_, ap, ap₂}
 use mathlib.Core.Bool.{true, false, cond}
@@ -9,7 +9,7 @@ use lib.ListN.{length, getD, take, drop, take-append-drop, length-drop}
 use lib.Seq.{take-add, getD-drop, ext-getD}
 use Rattle.table.specs.Model.{Model}
 use Rattle.table.specs.Reading.{Answer, refusal, accepted, readTable}
-use Rattle.regions.specs.Entries.{entryBytes, maxEntries, fourFrom, bytesOf, regionAt}
+use Rattle.regions.specs.Entries.{entryBytes, maxEntries, bytesOf, regionAt}
 use Rattle.regions.specs.Graph.{boundsOf, meets, nextOf, first}
 use Rattle.regions.specs.Worklist.{Found, complete, full, explore}
 use Rattle.regions.specs.Explore.{sameRegion, listed, listed-length, Left}
@@ -79,7 +79,7 @@ unfolding regionAt
 entry-bytes es n h =
     let at : ℕ = entryBytes * n in
     let byte : (i j : ℕ) → j ≡ at + i → getD es j 0 ≡ getD (drop at es) i 0 =
-          λ i j e. ap (λ (k : ℕ). getD es k 0) e ∙ sym (getD-drop at es i 0) in
+    λ i j e. ap (λ (k : ℕ). getD es k 0) e ∙ sym (getD-drop at es i 0) in
     rw (
       byte 0 at (omega arith),
       byte 1 (at + 1) refl,
@@ -130,19 +130,21 @@ module _ (cap : ℕ) (es : List ℕ) (m : Model) where
       → explore sameRegion (nextOf m) cap (first m) ≡ full (listed es′ count)
       → (Refused 15 0 ≡ graphOf (fromAnswer cap (accepted m))) × (es′ ≡ entriesAfter es (fromAnswer cap (accepted m)))
   is-cut h es′ count left e =
-      let out = explores h ∙ ap fromFound e in
-      ( sym (ap graphOf out)
-      , left-is es es′ count left
-        ∙ ap (λ k. flat (listed es′ count) ++ drop (entryBytes * k) es) (sym (listed-length es′ count))
-        ∙ sym (ap (entriesAfter es) out) )
+      let out = explores h ∙ ap fromFound e in (
+        sym (ap graphOf out),
+        left-is es es′ count left
+            ∙ ap (λ k. flat (listed es′ count) ++ drop (entryBytes * k) es) (sym (listed-length es′ count))
+            ∙ sym (ap (entriesAfter es) out),
+      )
 
   -- All regions are listed.
   pub is-whole : meets (boundsOf m) (m .invariants) (first m) ≡ true → (es′ : List ℕ) (count : ℕ) → Left es es′ count
       → explore sameRegion (nextOf m) cap (first m) ≡ complete (listed es′ count)
       → (Regions count ≡ graphOf (fromAnswer cap (accepted m))) × (es′ ≡ entriesAfter es (fromAnswer cap (accepted m)))
   is-whole h es′ count left e =
-      let out = explores h ∙ ap fromFound e in
-      ( ap Regions (sym (listed-length es′ count)) ∙ sym (ap graphOf out)
-      , left-is es es′ count left
-        ∙ ap (λ k. flat (listed es′ count) ++ drop (entryBytes * k) es) (sym (listed-length es′ count))
-        ∙ sym (ap (entriesAfter es) out) )
+      let out = explores h ∙ ap fromFound e in (
+        ap Regions (sym (listed-length es′ count)) ∙ sym (ap graphOf out),
+        left-is es es′ count left
+            ∙ ap (λ k. flat (listed es′ count) ++ drop (entryBytes * k) es) (sym (listed-length es′ count))
+            ∙ sym (ap (entriesAfter es) out),
+      )

@@ -154,7 +154,7 @@ pub met-full : (cap n : ℕ) (qs qs′ : List Region) (es es′ : List ℕ) (r :
     → AllMet cap n (qs ++ qs′) es es′ r
 met-full cap n qs qs′ es es′ r e a =
     let stop : meet sameRegion cap (listed es n) qs ≡ full (listed es′ (r .count)) =
-          a ∙ ap (λ b. foundOf b (listed es′ (r .count))) e in
+    a ∙ ap (λ b. foundOf b (listed es′ (r .count))) e in
     meet-append sameRegion noNext cap (listed es n) qs qs′
     ∙ ap (andThen (λ more. meet sameRegion cap more qs′)) stop
     ∙ sym (ap (λ b. foundOf b (listed es′ (r .count))) e)
@@ -190,13 +190,13 @@ module _ (cap n : ℕ) (es heads nexts : List ℕ) (room : Room cap es heads nex
   one-kept h es′ heads′ nexts′ added =
       record {
         room =
-          record {
-            index = added .index;
-            room = omega arith;
-            few = room .few;
-            fits = rw (added .entries) (room .fits);
-            links = rw (added .links) (room .links);
-          };
+            record {
+              index = added .index;
+              room = omega arith;
+              few = room .few;
+              fits = rw (added .entries) (room .fits);
+              links = rw (added .links) (room .links);
+            };
         entries = added .entries;
         buckets = added .buckets;
         links = added .links;
@@ -236,7 +236,7 @@ module _ {A : Type 0} (g : A → List Region) (l : List A) (i : ℕ) (d : A) whe
     loop-full h es″ met none one =
         ap (meet sameRegion cap (listed es n)) (gather-split h ∙ ap (λ x. x ++ gather g (drop (i + 1) l)) (gather-next h))
         ∙ met-full cap n (gather g (take i l) ++ g (getD l i d)) (gather g (drop (i + 1) l)) es es″ met none
-          (met-on cap n k (gather g (take i l)) (g (getD l i d)) es es′ es″ met all one)
+        (met-on cap n k (gather g (take i l)) (g (getD l i d)) es es′ es″ met all one)
 
     -- All items were met.
     pub loop-over : length l ≤ i → AllMet cap n (gather g l) es es′ (record { full = false; count = k })
@@ -253,7 +253,7 @@ module _ (next : Region → List Region) (cap : ℕ) (d : Region) (es : List ℕ
       ap (λ k. exploreFrom sameRegion next k cap d (listed es n) i) fuel
       ∙ turn sameRegion next (cap - i) cap d (listed es n) i (rw listed-length inside)
       ∙ ap (λ r. andThen (λ more. exploreFrom sameRegion next (cap - i) cap d more (suc i)) (meet sameRegion cap (listed es n) (next r)))
-        (listed-at es n i d inside)
+      (listed-at es n i d inside)
       ∙ ap (andThen (λ more. exploreFrom sameRegion next (cap - i) cap d more (suc i))) all
 
   -- There was no room.
@@ -283,15 +283,16 @@ pub first-listed : (cap : ℕ) (es heads nexts es′ heads′ nexts′ : List �
     → entryBytes * cap ≤ length es → cap ≤ length nexts → Added q 0 es heads nexts es′ heads′ nexts′
     → Room cap es′ heads′ nexts′ 1 × (listed es′ 1 ≡ q ∷ [])
 unfolding listed
-first-listed cap es heads nexts es′ heads′ nexts′ q some few fits links added =
-    ( record {
-        index = added .index;
-        room = some;
-        few = few;
-        fits = rw (added .entries) fits;
-        links = rw (added .links) links;
-      }
-    , ap (λ r. r ∷ []) (added .entry) )
+first-listed cap es heads nexts es′ heads′ nexts′ q some few fits links added = (
+  record {
+    index = added .index;
+    room = some;
+    few = few;
+    fits = rw (added .entries) fits;
+    links = rw (added .links) links;
+  },
+  ap (λ r. r ∷ []) (added .entry),
+)
 
 -- Exploring from a start that is listed.
 pub explored : (next : Region → List Region) (cap : ℕ) (start : Region) (es es′ : List ℕ) (met : Met) → 0 < cap

@@ -2,7 +2,7 @@
 -- reached. A region here is that of the code, in nine bytes.
 use Prim.Native.Nat.{ℕ, max}
 use mathlib.Core.Bool.{Bool, true, false, cond, not, _&&_, _||_}
-use mathlib.Core.List.{List, [], _∷_, _++_, map, List·Memᴰ}
+use mathlib.Core.List.{List, [], _∷_, _++_, List·Memᴰ}
 use lib.Dec.{eqb}
 use Rattle.table.specs.Model.{Model, Edge}
 use Rattle.table.specs.declared.model.Branch.{Branch}

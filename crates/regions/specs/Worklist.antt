@@ -1,9 +1,8 @@
 -- Numbering what is reached (document 01, "Regions"): "Region 0 is the initial location with all clocks 0. Regions are then taken
 -- in number order .. A region met first gets the next number." Over any items with a test of sameness and, for each item, the list
 -- of the items that it leads to, in the order in which they are met.
-use Prim.Native.Nat.{ℕ, zero, suc, _+_, _≤_, _<_}
-use mathlib.Core.Path.{_≡_}
-use mathlib.Core.Bool.{Bool, true, false, cond, _||_}
+use Prim.Native.Nat.{ℕ, zero, suc}
+use mathlib.Core.Bool.{Bool, false, cond, _||_}
 use mathlib.Core.List.{List, [], _∷_, _++_, List·Memᴰ}
 use lib.Dec.{ltb}
 use lib.ListN.{length, getD}

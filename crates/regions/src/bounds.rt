@@ -61,7 +61,10 @@ pub(crate) fn bounds_of(bytes: &[u8], shape: Shape, places: &[usize]) -> Bounds
     ensures { λ r. ⌜ ((m : Model) (sources : List ℕ) → Reads (now (bytes .entry)) shape m → Arrays m (now (places .entry)) sources
         → r ≡ boundsOf m) ⌝ }
 {
-    let most = larger(largest_invariant(bytes, shape), largest_edge(bytes, shape.edges, places));
+    let most = larger(
+        largest_invariant(bytes, shape),
+        largest_edge(bytes, shape.edges, places),
+    );
     Bounds {
         count: shape.clocks,
         bound: [most, most, most, most],

@@ -39,7 +39,11 @@ fn whole_entries(bytes: usize) -> usize
     ensures { λ r. ⌜ r ≡ roomFor bytes ⌝ }
 {
     let whole = bytes / ENTRY_BYTES;
-    if whole < MAX_ENTRIES { whole } else { MAX_ENTRIES }
+    if whole < MAX_ENTRIES {
+        whole
+    } else {
+        MAX_ENTRIES
+    }
 }
 
 // The graph of a table that was read.
@@ -52,7 +56,14 @@ fn graph_of(bytes: &[u8], shape: Shape, entries: &mut [u8]) -> Graph
     let mut sources = [0usize; 128];
     let mut actions = [0usize; 128];
     let mut denominators = [0usize; 128];
-    table::list_edges(bytes, shape, &mut places, &mut sources, &mut actions, &mut denominators);
+    table::list_edges(
+        bytes,
+        shape,
+        &mut places,
+        &mut sources,
+        &mut actions,
+        &mut denominators,
+    );
     let bounds = bounds_of(bytes, shape, &places);
     let start = first_of(shape);
     if !meets_invariant(bytes, shape, bounds, start) {

@@ -29,7 +29,14 @@ pub(crate) struct Met {
 }
 
 // A region is met, after n were listed: where it is not known it gets the next number, if there is room.
-fn meet_one(q: Region, n: usize, cap: usize, entries: &mut [u8], heads: &mut [u16], nexts: &mut [u16]) -> Met
+fn meet_one(
+    q: Region,
+    n: usize,
+    cap: usize,
+    entries: &mut [u8],
+    heads: &mut [u16],
+    nexts: &mut [u16],
+) -> Met
     requires { ⌜ Room cap (now entries) (now heads) (now nexts) n ⌝ }
     ensures { λ r. ⌜ Kept cap n (now (entries .entry)) (now (heads .entry)) (now (nexts .entry))
         (now (entries .exit)) (now (heads .exit)) (now (nexts .exit)) (r .count) ⌝ }
@@ -185,7 +192,19 @@ fn meet_edges(
     while i < edges {
         let place = table::number_at(places, i);
         let source = table::number_at(sources, i);
-        let met = meet_edge(bytes, shape, place, source, bounds, r, listed, cap, entries, heads, nexts);
+        let met = meet_edge(
+            bytes,
+            shape,
+            place,
+            source,
+            bounds,
+            r,
+            listed,
+            cap,
+            entries,
+            heads,
+            nexts,
+        );
         if met.full {
             return met;
         }
@@ -223,7 +242,19 @@ fn meet_next(
         return met;
     }
     let listed = met.count;
-    meet_edges(bytes, shape, places, sources, bounds, r, listed, cap, entries, heads, nexts)
+    meet_edges(
+        bytes,
+        shape,
+        places,
+        sources,
+        bounds,
+        r,
+        listed,
+        cap,
+        entries,
+        heads,
+        nexts,
+    )
 }
 
 // The regions are taken in number order, from the one that is listed on.
@@ -250,7 +281,19 @@ fn explore_listed(
     let mut i = 0;
     while i < count {
         let r = read_entry(entries, i);
-        let met = meet_next(bytes, shape, places, sources, bounds, r, count, cap, entries, heads, nexts);
+        let met = meet_next(
+            bytes,
+            shape,
+            places,
+            sources,
+            bounds,
+            r,
+            count,
+            cap,
+            entries,
+            heads,
+            nexts,
+        );
         if met.full {
             return met;
         }
@@ -289,5 +332,15 @@ pub(crate) fn explore_all(
     let mut heads = [0u16; 4096];
     let mut nexts = [0u16; 4096];
     add(start, 0, entries, &mut heads, &mut nexts);
-    explore_listed(bytes, shape, places, sources, bounds, cap, entries, &mut heads, &mut nexts)
+    explore_listed(
+        bytes,
+        shape,
+        places,
+        sources,
+        bounds,
+        cap,
+        entries,
+        &mut heads,
+        &mut nexts,
+    )
 }

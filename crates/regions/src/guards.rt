@@ -97,7 +97,14 @@ pub(crate) fn lands_all(bytes: &[u8], shape: Shape, place: usize, bounds: Bounds
 }
 
 // Is the edge at a place, with this source, available?
-pub(crate) fn is_available(bytes: &[u8], shape: Shape, place: usize, source: usize, bounds: Bounds, r: Region) -> bool
+pub(crate) fn is_available(
+    bytes: &[u8],
+    shape: Shape,
+    place: usize,
+    source: usize,
+    bounds: Bounds,
+    r: Region,
+) -> bool
     ensures { λ b. ⌜ ((m : Model) (e : ℕ) → Reads (now (bytes .entry)) shape m → ReadsEdge (now (bytes .entry)) place m e
         → source ≡ edgeOf m e .source → bounds ≡ boundsOf m → b ≡ available m (edgeOf m e) r) ⌝ }
 {

@@ -12,7 +12,7 @@ slice-aggregate-bytes : tie.Need-slice-aggregate-bytes
 slice-aggregate-bytes c =
     let args = c .before .before .args in
     let pre = c .before .before .pre in
-    sym (length-take-le args.size args.buffer.now pre.0)
+    sym (length-take-le args.size args.buffer.now pre)
 
 read-full-requires : tie.Need-read-full-requires
 read-full-requires c κs = search needs
@@ -23,8 +23,8 @@ same-length c = search needs
 returns : tie.Need-returns
 returns c = search needs
 
-run-requires : tie.Need-run-requires
-run-requires c κs = search needs
+run-call-requires : tie.Need-run-call-requires
+run-call-requires c κs = search needs
 
 same-length-2 : tie.Need-same-length-2
 same-length-2 c = search needs
@@ -41,6 +41,6 @@ run-table-spec =
     read-full-requires
     same-length
     returns
-    run-requires
+    run-call-requires
     same-length-2
     returns-2)

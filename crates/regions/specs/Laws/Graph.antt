@@ -1,8 +1,7 @@
 -- Laws for the code: what an edge and a delay come to, by the tests that the code makes.
-use mathlib.Core.Path.{_≡_, refl, _∙_, ap, ap₂}
+use mathlib.Core.Path.{_≡_, refl, ap₂}
 use mathlib.Core.Bool.{Bool, true, false, cond, _&&_}
 use mathlib.Core.List.{[], _∷_}
-use lib.Dec.{eqb}
 use borrow.Author.Tests.{eq-eqb, ne-eqb}
 use Rattle.table.specs.Model.{Model, Edge}
 use Rattle.regions.specs.Packed.{delayed}

@@ -50,17 +50,20 @@ fill-requires c κs =
 
 fill-requires-2 : tie.Need-fill-requires-2
 fill-requires-2 c κs =
-    let start = c .before .before .before .before .before .before .before .before .before .before .before .before .before .before in
+    let start = c .before .before .before .before .before .before .before .before .before .before .before .before .before
+    .before in
     omega (arith, length-take start.args.room start.args.sources.now, start.pre.0)
 
 fill-requires-3 : tie.Need-fill-requires-3
 fill-requires-3 c κs =
-    let start = c .before .before .before .before .before .before .before .before .before .before .before .before .before .before .before .before .before .before in
+    let start = c .before .before .before .before .before .before .before .before .before .before .before .before .before
+    .before .before .before .before .before in
     omega (arith, length-take start.args.room start.args.actions.now, start.pre.0)
 
 fill-requires-4 : tie.Need-fill-requires-4
 fill-requires-4 c κs =
-    let start = c .before .before .before .before .before .before .before .before .before .before .before .before .before .before .before .before .before .before .before .before .before .before in
+    let start = c .before .before .before .before .before .before .before .before .before .before .before .before .before
+    .before .before .before .before .before .before .before .before .before in
     omega (arith, length-take start.args.room start.args.denominators.now, start.pre.0)
 
 run-over-requires : tie.Need-run-over-requires

@@ -1,9 +1,10 @@
-use Prim.Native.Nat.{ℕ, _-_, _<_}
-use mathlib.Core.Path.{_≡_, refl, sym, _∙_, ap}
+-- `meet_branches` meets its contract. Assumes nothing.
+use Prim.Native.Nat.{ℕ, _-_}
+use mathlib.Core.Path.{refl, _∙_, ap}
 use mathlib.Core.Bool.{false}
-use mathlib.Core.List.{List, [], _∷_}
+use mathlib.Core.List.{[], _∷_}
 use native.Mathlib.Omega.{arith}
-use lib.ListN.{length, getD, take}
+use lib.ListN.{take}
 use Rattle.table.specs.Model.{Model}
 use Rattle.table.specs.Access.{noBranch}
 use Rattle.table.specs.Reads.{ReadsEdge, edgeOf}
@@ -14,11 +15,6 @@ use borrow.Author.Needs.{needs}
 use Rattle.regions.proofs.explore.meet_branches.Statement.{statement}
 use Rattle.regions.proofs.explore.meet_branches.Tie as tie
 use Rattle.regions.proofs.explore.meet_branches.Reads as reads
-use Rattle.regions.proofs.explore.meet_branches.Lts as lts
-use Rattle.regions.proofs.explore.meet_one.Reads as meet-one-reads
-use Rattle.regions.proofs.guards.landing_of.Reads as landing-of-reads
-use Rattle.table.proofs.branch_at.Reads as branch-at-reads
-use Rattle.table.proofs.branch_count.Reads as branch-count-reads
 
 abbrev Inv-loop : tie.InvT-loop
 Inv-loop bytes place bounds r n cap entries₀ heads₀ nexts₀ branches listed₀ i₀ entries heads nexts listed i = Kept cap n entries₀ heads₀ nexts₀ entries heads nexts listed
@@ -27,79 +23,112 @@ Inv-loop bytes place bounds r n cap entries₀ heads₀ nexts₀ branches listed
 abbrev μ-loop : tie.MeasureT-loop
 μ-loop bytes place bounds r n cap entries₀ heads₀ nexts₀ branches listed₀ i₀ entries heads nexts listed i = branches - i
 
--- src/explore.rt:70:9
 branch-count-requires : tie.Need-branch-count-requires Inv-loop μ-loop
 branch-count-requires c κs = search needs
 
--- src/explore.rt:73:5
 loop-holds : tie.Need-loop-holds Inv-loop μ-loop
-loop-holds c = (kept-none ((c .before .before .before .before .before .args) .cap) ((c .before .before .before .before .before .args) .n) ((c .before .before .before .before .before .args) .entries .now) ((c .before .before .before .before .before .args) .heads .now) ((c .before .before .before .before .before .args) .nexts .now) (c .before .before .before .before .before .pre), λ m e reads. refl)
+loop-holds c =
+    let args = c .before .before .before .before .before .args in
+    let pre = c .before .before .before .before .before .pre in
+    (kept-none args.cap args.n args.entries.now args.heads.now args.nexts.now pre, λ m e reads. refl)
 
--- src/explore.rt:74:39
 branch-at-requires : tie.Need-branch-at-requires Inv-loop μ-loop
 branch-at-requires c κs = search needs
 
--- src/explore.rt:74:13
 landing-of-requires : tie.Need-landing-of-requires Inv-loop μ-loop
 landing-of-requires c κs = search needs
 
--- src/explore.rt:75:13
 meet-one-requires : tie.Need-meet-one-requires Inv-loop μ-loop
-meet-one-requires c κs = (c .before .before .before .before .before .before .loop) .inv .0 .room
+meet-one-requires c κs =
+    let loop = c .before .before .before .before .before .before .loop in
+    loop.inv.0.room
 
--- src/explore.rt:77:13
 same-length : tie.Need-same-length Inv-loop μ-loop
-same-length c = (c .before .before .before .before .before .before .before .meet-one) .ensures .0 .entries ∙ (c .before .before .before .before .before .before .before .before .before .before .before .before .before .before .loop) .inv .0 .entries
+same-length c =
+    let meet-one = c .before .before .before .before .before .before .before .meet-one in
+    let loop = c .before .before .before .before .before .before .before .before .before .before .before .before .before .before .loop in
+    meet-one.ensures.0.entries ∙ loop.inv.0.entries
 
--- src/explore.rt:77:13
 same-length-2 : tie.Need-same-length-2 Inv-loop μ-loop
-same-length-2 c = (c .before .before .before .before .before .before .before .meet-one) .ensures .0 .buckets ∙ (c .before .before .before .before .before .before .before .before .before .before .before .before .before .before .loop) .inv .0 .buckets
+same-length-2 c =
+    let meet-one = c .before .before .before .before .before .before .before .meet-one in
+    let loop = c .before .before .before .before .before .before .before .before .before .before .before .before .before .before .loop in
+    meet-one.ensures.0.buckets ∙ loop.inv.0.buckets
 
--- src/explore.rt:77:13
 same-length-3 : tie.Need-same-length-3 Inv-loop μ-loop
-same-length-3 c = (c .before .before .before .before .before .before .before .meet-one) .ensures .0 .links ∙ (c .before .before .before .before .before .before .before .before .before .before .before .before .before .before .loop) .inv .0 .links
+same-length-3 c =
+    let meet-one = c .before .before .before .before .before .before .before .meet-one in
+    let loop = c .before .before .before .before .before .before .before .before .before .before .before .before .before .before .loop in
+    meet-one.ensures.0.links ∙ loop.inv.0.links
 
--- src/explore.rt:77:13
 returns : tie.Need-returns Inv-loop μ-loop
-returns c = (kept-on ((c .before .before .before .before .before .before .before .before .before .before .before .before .before .before .before .before .before .before .before .before .args) .cap) ((c .before .before .before .before .before .before .before .before .before .before .before .before .before .before .before .before .before .before .before .before .args) .n) ((c .before .before .before .before .before .before .before .before .before .before .before .before .before .before .before .before .before .before .before .before .args) .entries .now) ((c .before .before .before .before .before .before .before .before .before .before .before .before .before .before .before .before .before .before .before .before .args) .heads .now) ((c .before .before .before .before .before .before .before .before .before .before .before .before .before .before .before .before .before .before .before .before .args) .nexts .now) ((c .before .before .before .before .before .before .before .before .before .before .before .before .before .before .loop) .entries) ((c .before .before .before .before .before .before .before .before .before .before .before .before .before .before .loop) .heads) ((c .before .before .before .before .before .before .before .before .before .before .before .before .before .before .loop) .nexts) ((c .before .before .before .before .before .before .before .meet-one) .last .1 .1 .1 .0) ((c .before .before .before .before .before .before .before .meet-one) .last .1 .1 .1 .1 .0) ((c .before .before .before .before .before .before .before .meet-one) .last .1 .1 .1 .1 .1 .0) ((c .before .before .before .before .before .before .before .before .before .before .before .before .before .before .loop) .listed) ((c .before .before .before .before .before .before .before .meet-one) .result .count) ((c .before .before .before .before .before .before .before .before .before .before .before .before .before .before .loop) .inv .0) ((c .before .before .before .before .before .before .before .meet-one) .ensures .0)
-    , λ m e reads.
-    let few = (c .before .before .before .before .before .before .before .before .before .before .before .before .before .before .before .branch-count) .ensures .1 m e reads in
-    let target = (c .before .before .before .before .before .before .before .before .before .before .before .landing-of) .ensures ∙ ap (landing ((c .before .before .before .before .before .before .before .before .before .before .before .before .before .before .before .before .before .before .before .before .args) .bounds) ((c .before .before .before .before .before .before .before .before .before .before .before .before .before .before .before .before .before .before .before .before .args) .r)) ((c .before .before .before .before .before .before .before .before .before .before .before .before .branch-at) .ensures .1 m e reads) in
-    loop-full (λ (b : Branch). landing ((c .before .before .before .before .before .before .before .before .before .before .before .before .before .before .before .before .before .before .before .before .args) .bounds) ((c .before .before .before .before .before .before .before .before .before .before .before .before .before .before .before .before .before .before .before .before .args) .r) b ∷ []) (edgeOf m e .branches) ((c .before .before .before .before .before .before .before .before .before .before .before .before .before .before .loop) .i) noBranch ((c .before .before .before .before .before .before .before .before .before .before .before .before .before .before .before .before .before .before .before .before .args) .cap) ((c .before .before .before .before .before .before .before .before .before .before .before .before .before .before .before .before .before .before .before .before .args) .n) ((c .before .before .before .before .before .before .before .before .before .before .before .before .before .before .loop) .listed) ((c .before .before .before .before .before .before .before .before .before .before .before .before .before .before .before .before .before .before .before .before .args) .entries .now) ((c .before .before .before .before .before .before .before .before .before .before .before .before .before .before .loop) .entries) ((c .before .before .before .before .before .before .before .before .before .before .before .before .before .before .loop) .inv .1 m e reads) (omega (arith, (c .before .before .before .before .before .before .before .before .before .before .before .before .before .loop-test) .taken)) ((c .before .before .before .before .before .before .before .meet-one) .last .1 .1 .1 .0) ((c .before .before .before .before .before .before .before .meet-one) .result) ((c .if1) .taken) (rw target at ((c .before .before .before .before .before .before .before .meet-one) .ensures .1)))
+returns c =
+    let args = c .before .before .before .before .before .before .before .before .before .before .before .before .before .before .before .before .before .before .before .before .args in
+    let loop = c .before .before .before .before .before .before .before .before .before .before .before .before .before .before .loop in
+    let meet-one = c .before .before .before .before .before .before .before .meet-one in
+    let branch-count = c .before .before .before .before .before .before .before .before .before .before .before .before .before .before .before .branch-count in
+    let landing-of = c .before .before .before .before .before .before .before .before .before .before .before .landing-of in
+    let branch-at = c .before .before .before .before .before .before .before .before .before .before .before .before .branch-at in
+    let loop-test = c .before .before .before .before .before .before .before .before .before .before .before .before .before .loop-test in (
+      kept-on args.cap args.n args.entries.now args.heads.now args.nexts.now loop.entries loop.heads loop.nexts
+          meet-one.last.1.1.1.0 meet-one.last.1.1.1.1.0 meet-one.last.1.1.1.1.1.0 loop.listed meet-one.result.count loop.inv.0
+          meet-one.ensures.0,
+      λ m e reads. let few = branch-count.ensures.1 m e reads in let target = landing-of.ensures
+          ∙ ap (landing args.bounds args.r) (branch-at.ensures.1 m e reads) in loop-full
+          (λ (b : Branch). landing args.bounds args.r b ∷ []) (edgeOf m e .branches) loop.i noBranch args.cap args.n loop.listed
+          args.entries.now loop.entries (loop.inv.1 m e reads) (omega (arith, loop-test.taken)) meet-one.last.1.1.1.0
+          meet-one.result (c .if1 .taken) (rw target at meet-one.ensures.1),
+    )
 
--- src/explore.rt:80:13
 add-i : tie.Need-add-i Inv-loop μ-loop
-add-i c = omega (arith, (c .before .before .before .before .before .before .before .before .before .before .before .before .before .loop-test) .taken, (c .before .before .before .before .before .before .before .before .before .before .before .before .before .before .before .branch-count) .ok)
+add-i c =
+    let loop-test = c .before .before .before .before .before .before .before .before .before .before .before .before .before .loop-test in
+    let branch-count = c .before .before .before .before .before .before .before .before .before .before .before .before .before .before .before .branch-count in
+    omega (arith, loop-test.taken, branch-count.ok)
 
--- src/explore.rt:73:5
 loop-less : tie.Need-loop-less Inv-loop μ-loop
-loop-less c = omega (arith, (c .before .before .before .before .before .before .before .before .before .before .before .before .before .loop-test) .taken)
+loop-less c =
+    let loop-test = c .before .before .before .before .before .before .before .before .before .before .before .before .before .loop-test in
+    omega (arith, loop-test.taken)
 
--- src/explore.rt:73:5
 loop-again : tie.Need-loop-again Inv-loop μ-loop
-loop-again c = (kept-on ((c .before .before .before .before .before .before .before .before .before .before .before .before .before .before .before .before .before .before .before .before .args) .cap) ((c .before .before .before .before .before .before .before .before .before .before .before .before .before .before .before .before .before .before .before .before .args) .n) ((c .before .before .before .before .before .before .before .before .before .before .before .before .before .before .before .before .before .before .before .before .args) .entries .now) ((c .before .before .before .before .before .before .before .before .before .before .before .before .before .before .before .before .before .before .before .before .args) .heads .now) ((c .before .before .before .before .before .before .before .before .before .before .before .before .before .before .before .before .before .before .before .before .args) .nexts .now) ((c .before .before .before .before .before .before .before .before .before .before .before .before .before .before .loop) .entries) ((c .before .before .before .before .before .before .before .before .before .before .before .before .before .before .loop) .heads) ((c .before .before .before .before .before .before .before .before .before .before .before .before .before .before .loop) .nexts) ((c .before .before .before .before .before .before .before .meet-one) .last .1 .1 .1 .0) ((c .before .before .before .before .before .before .before .meet-one) .last .1 .1 .1 .1 .0) ((c .before .before .before .before .before .before .before .meet-one) .last .1 .1 .1 .1 .1 .0) ((c .before .before .before .before .before .before .before .before .before .before .before .before .before .before .loop) .listed) ((c .before .before .before .before .before .before .before .meet-one) .result .count) ((c .before .before .before .before .before .before .before .before .before .before .before .before .before .before .loop) .inv .0) ((c .before .before .before .before .before .before .before .meet-one) .ensures .0)
-    , λ m e reads.
-    let few = (c .before .before .before .before .before .before .before .before .before .before .before .before .before .before .before .branch-count) .ensures .1 m e reads in
-    let target = (c .before .before .before .before .before .before .before .before .before .before .before .landing-of) .ensures ∙ ap (landing ((c .before .before .before .before .before .before .before .before .before .before .before .before .before .before .before .before .before .before .before .before .args) .bounds) ((c .before .before .before .before .before .before .before .before .before .before .before .before .before .before .before .before .before .before .before .before .args) .r)) ((c .before .before .before .before .before .before .before .before .before .before .before .before .branch-at) .ensures .1 m e reads) in
-    loop-on (λ (b : Branch). landing ((c .before .before .before .before .before .before .before .before .before .before .before .before .before .before .before .before .before .before .before .before .args) .bounds) ((c .before .before .before .before .before .before .before .before .before .before .before .before .before .before .before .before .before .before .before .before .args) .r) b ∷ []) (edgeOf m e .branches) ((c .before .before .before .before .before .before .before .before .before .before .before .before .before .before .loop) .i) noBranch ((c .before .before .before .before .before .before .before .before .before .before .before .before .before .before .before .before .before .before .before .before .args) .cap) ((c .before .before .before .before .before .before .before .before .before .before .before .before .before .before .before .before .before .before .before .before .args) .n) ((c .before .before .before .before .before .before .before .before .before .before .before .before .before .before .loop) .listed) ((c .before .before .before .before .before .before .before .before .before .before .before .before .before .before .before .before .before .before .before .before .args) .entries .now) ((c .before .before .before .before .before .before .before .before .before .before .before .before .before .before .loop) .entries) ((c .before .before .before .before .before .before .before .before .before .before .before .before .before .before .loop) .inv .1 m e reads) (omega (arith, (c .before .before .before .before .before .before .before .before .before .before .before .before .before .loop-test) .taken)) ((c .before .before .before .before .before .before .before .meet-one) .last .1 .1 .1 .0) ((c .before .before .before .before .before .before .before .meet-one) .result) ((c .if1) .left) (rw target at ((c .before .before .before .before .before .before .before .meet-one) .ensures .1)))
+loop-again c =
+    let args = c .before .before .before .before .before .before .before .before .before .before .before .before .before .before .before .before .before .before .before .before .args in
+    let loop = c .before .before .before .before .before .before .before .before .before .before .before .before .before .before .loop in
+    let meet-one = c .before .before .before .before .before .before .before .meet-one in
+    let branch-count = c .before .before .before .before .before .before .before .before .before .before .before .before .before .before .before .branch-count in
+    let landing-of = c .before .before .before .before .before .before .before .before .before .before .before .landing-of in
+    let branch-at = c .before .before .before .before .before .before .before .before .before .before .before .before .branch-at in
+    let loop-test = c .before .before .before .before .before .before .before .before .before .before .before .before .before .loop-test in (
+      kept-on args.cap args.n args.entries.now args.heads.now args.nexts.now loop.entries loop.heads loop.nexts
+          meet-one.last.1.1.1.0 meet-one.last.1.1.1.1.0 meet-one.last.1.1.1.1.1.0 loop.listed meet-one.result.count loop.inv.0
+          meet-one.ensures.0,
+      λ m e reads. let few = branch-count.ensures.1 m e reads in let target = landing-of.ensures
+          ∙ ap (landing args.bounds args.r) (branch-at.ensures.1 m e reads) in loop-on
+          (λ (b : Branch). landing args.bounds args.r b ∷ []) (edgeOf m e .branches) loop.i noBranch args.cap args.n loop.listed
+          args.entries.now loop.entries (loop.inv.1 m e reads) (omega (arith, loop-test.taken)) meet-one.last.1.1.1.0
+          meet-one.result (c .if1 .left) (rw target at meet-one.ensures.1),
+    )
 
--- src/explore.rt:53:1
 same-length-4 : tie.Need-same-length-4 Inv-loop μ-loop
-same-length-4 c = (c .before .loop) .inv .0 .entries
+same-length-4 c = c .before .loop .inv .0 .entries
 
--- src/explore.rt:53:1
 same-length-5 : tie.Need-same-length-5 Inv-loop μ-loop
-same-length-5 c = (c .before .loop) .inv .0 .buckets
+same-length-5 c = c .before .loop .inv .0 .buckets
 
--- src/explore.rt:53:1
 same-length-6 : tie.Need-same-length-6 Inv-loop μ-loop
-same-length-6 c = (c .before .loop) .inv .0 .links
+same-length-6 c = c .before .loop .inv .0 .links
 
--- src/explore.rt:53:1
 returns-2 : tie.Need-returns-2 Inv-loop μ-loop
-returns-2 c = ((c .before .loop) .inv .0, λ m e reads.
-    let few = (c .before .before .branch-count) .ensures .1 m e reads in
-    loop-over (λ (b : Branch). landing ((c .before .before .before .before .before .before .before .args) .bounds) ((c .before .before .before .before .before .before .before .args) .r) b ∷ []) (edgeOf m e .branches) ((c .before .loop) .i) noBranch ((c .before .before .before .before .before .before .before .args) .cap) ((c .before .before .before .before .before .before .before .args) .n) ((c .before .loop) .listed) ((c .before .before .before .before .before .before .before .args) .entries .now) ((c .before .loop) .entries) ((c .before .loop) .inv .1 m e reads) (omega (arith, (c .loop-test) .left)))
+returns-2 c =
+    let loop = c .before .loop in
+    let branch-count = c .before .before .branch-count in
+    let args = c .before .before .before .before .before .before .before .args in (
+      loop.inv.0,
+      λ m e reads. let few = branch-count.ensures.1 m e reads in loop-over
+          (λ (b : Branch). landing args.bounds args.r b ∷ []) (edgeOf m e .branches) loop.i noBranch args.cap args.n loop.listed
+          args.entries.now loop.entries (loop.inv.1 m e reads) (omega (arith, c .loop-test .left)),
+    )
 
 pub meet-branches-spec : {M : Type 1} → statement M
 meet-branches-spec =

@@ -23,7 +23,8 @@ put-link-requires c κs =
     let hash-of = c .before .before .before .before .before .before .before .hash-of in
     let args = c .before .before .before .before .before .before .before .before .before .before .before .args in (
       pre.1.2,
-      rw (c .link-at .ensures, hash-of.ensures.0) (head-few args.entries.now args.head.now args.next.now args.n args.r pre.0),
+      rw (c .link-at .ensures, hash-of.ensures.0)
+          (head-few args.entries.now args.head.now args.next.now args.n args.r pre.0),
     )
 
 add-put-link : tie.Need-add-put-link
