@@ -127,5 +127,5 @@ pub data Leads (m : Model) (r : Region) : Region → Type 0 where
   by-edge : {q : Region} {e : Edge} → List·Memᴰ e (m .edges) → List·Memᴰ q (edgeNext m r e) → Leads m r q
 
 pub data Reached (m : Model) : Region → Type 0 where
-  start : Reached m (first m)
-  on : {r q : Region} → Reached m r → Leads m r q → Reached m q
+  begun : Reached m (first m)
+  led : {r q : Region} → Reached m r → Leads m r q → Reached m q

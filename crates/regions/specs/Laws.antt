@@ -2,6 +2,8 @@
 --   Graph      what an edge and a delay come to, by the tests of the code
 --   Every      for loops that test every item of a list
 --   Worklist   exploring lists exactly what is reached, once each; more room only adds at the end
+--   Call       what the answer of the graph call says about the regions that are reached
 pub mod Graph
 pub mod Every
 pub mod Worklist
+pub mod Call
