@@ -1,0 +1,6 @@
+// The calls for C hosts. A slice passes as a pointer and then a length; answers are structs of numbers, by value.
+mod answer;
+mod calls;
+
+pub use answer::Answer;
+pub use calls::terkwabu_graph;
