@@ -20,17 +20,17 @@ use Rattle.regions.specs.Call.{Outcome, refused, cut, whole, fromFound, 
 use Rattle.regions.specs.Laws.Worklist.{Different, complete-all, full-room, larger-complete}
 use Rattle.regions.specs.declared.region.Region.{Region}
 
-false-true : {A : Type 0} → false ≡ true → A
+pub false-true : {A : Type 0} → false ≡ true → A
 false-true e = absurd (let z : _≡_ {A = ℕ} 0 1 = cc in omega arith)
 
-both-true : (a b : Bool) → (a && b) ≡ true → (a ≡ true) × (b ≡ true)
+pub both-true : (a b : Bool) → (a && b) ≡ true → (a ≡ true) × (b ≡ true)
 both-true true b e = (refl, e)
 both-true false b e = false-true e
 
 -- ---- What a region leads to, and what is reached
 
 module _ {A : Type 0} (g : A → List Region) (q : Region) where
-  gathered : (l : List A) → List·Memᴰ q (gather g l) → (x : A) × List·Memᴰ x l × List·Memᴰ q (g x)
+  pub gathered : (l : List A) → List·Memᴰ q (gather g l) → (x : A) × List·Memᴰ x l × List·Memᴰ q (g x)
   gathered [] n = absurd (List·Memᴰ·not-nil n)
   gathered (x ∷ l) n =
       elim (List·Memᴰ·append-cases (g x) n) [
@@ -69,7 +69,7 @@ module _ (m : Model) where
 
   -- ---- Every region reached meets its invariant
 
-  kept : (b : Bool) (l : List Region) (q : Region) → List·Memᴰ q (cond b l []) → (b ≡ true) × List·Memᴰ q l
+  pub kept : (b : Bool) (l : List Region) (q : Region) → List·Memᴰ q (cond b l []) → (b ≡ true) × List·Memᴰ q l
   kept true l q n = (refl, n)
   kept false l q n = absurd (List·Memᴰ·not-nil n)
 

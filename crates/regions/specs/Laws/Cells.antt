@@ -86,7 +86,7 @@ cellsIn nothing = []
 cellsIn (cells cs) = cs
 
 -- Where cells follow, clocks left rank 0, or none stood there and the highest arrived.
-delay-cases : (cs cs′ : List Cell) → delay cs ≡ cells cs′
+pub delay-cases : (cs cs′ : List Cell) → delay cs ≡ cells cs′
     → (map (leave (some leaving cs)) cs ≡ cs′) ⊎ ((some standing cs ≡ false) × (map (arrive (highest cs)) cs ≡ cs′))
 delay-cases cs cs′ e =
     elim (both (all isOver cs)) [
@@ -132,7 +132,7 @@ delay-proper cs cs′ h e c n =
 -- ---- After a reset the ranks have no gaps, whatever the cells were: they are closed up
 
 -- A fraction of the list is that of one of its cells.
-has : (k : ℕ) (cs : List Cell) → member k (map fractionOf cs) ≡ true → (x : Cell) × List·Memᴰ x cs × (k ≡ fractionOf x)
+pub has : (k : ℕ) (cs : List Cell) → member k (map fractionOf cs) ≡ true → (x : Cell) × List·Memᴰ x cs × (k ≡ fractionOf x)
 has k [] e = absurd (true-false (sym e))
 has k (x ∷ cs) e =
     elim (both (eqb k (fractionOf x))) [
@@ -145,7 +145,7 @@ or-true true b e = refl
 or-true false b e = e
 
 -- The fraction of a cell of the list is one of the list.
-gives-own : (k : ℕ) (cs : List Cell) (x : Cell) → List·Memᴰ x cs → k ≡ fractionOf x → member k (map fractionOf cs) ≡ true
+pub gives-own : (k : ℕ) (cs : List Cell) (x : Cell) → List·Memᴰ x cs → k ≡ fractionOf x → member k (map fractionOf cs) ≡ true
 gives-own k (y ∷ cs) x (List·Memᴰ·head p) e = rw (eq-eqb k (fractionOf y) (e ∙ ap fractionOf p)) refl
 gives-own k (y ∷ cs) x (List·Memᴰ·tail n) e = or-true (eqb k (fractionOf y)) _ (gives-own k cs x n e)
 
