@@ -6,6 +6,7 @@
 --   Call       what the answer of the graph call says about the regions that are reached
 --   Bounds     the bound M is the largest constant of the table, and at most 15; every atom has a verdict
 --   Formed     every region that is reached is well formed
+--   View       in a graph that was listed whole, delays and steps lead to numbers of regions
 pub mod Cells
 pub mod Graph
 pub mod Every
@@ -13,3 +14,4 @@ pub mod Worklist
 pub mod Call
 pub mod Bounds
 pub mod Formed
+pub mod View

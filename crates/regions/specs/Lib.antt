@@ -9,6 +9,7 @@
 --   Worklist   numbering what is reached, in the order in which it is met, with a cap
 --   Explore    exploring into entries, step by step
 --   Call       the graph call: its answer, and what the lent entries then hold
+--   View       the graph as the layers above see it: labels, delays and steps by number
 --   Points     the points that document 01 marks ★
 -- Laws on these stand in Laws.
 pub mod Cells
@@ -21,5 +22,6 @@ pub mod Index
 pub mod Worklist
 pub mod Explore
 pub mod Call
+pub mod View
 pub mod Points
 pub mod Laws

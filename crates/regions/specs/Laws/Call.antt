@@ -7,7 +7,7 @@ use mathlib.Core.Path.{_≡_, refl, sym, _∙_, ap, subst}
 use mathlib.Core.Bool.{Bool, true, false, cond, _&&_}
 use mathlib.Core.List.{List, [], _∷_, _++_, List·Memᴰ, List·Memᴰ·head, List·Memᴰ·tail}
 use mathlib.Core.List.{List·Memᴰ·not-nil, List·Memᴰ·append-cases, List·Memᴰ·eq-of-singleton, Memᴰ·append-left, Memᴰ·append-right}
-use lib.ListN.{length, getD}
+use lib.ListN.{length, getD, length-append}
 use Rattle.table.specs.Model.{Model, Edge}
 use Rattle.table.specs.declared.model.Branch.{Branch}
 use Rattle.table.specs.Reading.{Answer, refusal, accepted, readTable}
@@ -17,7 +17,7 @@ use Rattle.regions.specs.Graph.{Leads, by-delay, by-edge, Reached, begun
 use Rattle.regions.specs.Worklist.{Found, complete, full, explore, Reach, here, on}
 use Rattle.regions.specs.Explore.{sameRegion, same-true, same-refl}
 use Rattle.regions.specs.Call.{Outcome, refused, cut, whole, fromFound, fromAnswer, outcomeOf}
-use Rattle.regions.specs.Laws.Worklist.{Different, complete-all, full-room, larger-complete}
+use Rattle.regions.specs.Laws.Worklist.{Different, different-grown, no-more, complete-all, full-room, larger-complete}
 use Rattle.regions.specs.declared.region.Region.{Region}
 
 pub false-true : {A : Type 0} → false ≡ true → A
@@ -38,7 +38,7 @@ module _ {A : Type 0} (g : A → List Region) (q : Region) where
         | inr t ↦ let r = gathered l t in (r .0, List·Memᴰ·tail (r .1), r .2)
       ]
 
-  gathers : (x : A) (l : List A) → List·Memᴰ x l → List·Memᴰ q (g x) → List·Memᴰ q (gather g l)
+  pub gathers : (x : A) (l : List A) → List·Memᴰ x l → List·Memᴰ q (g x) → List·Memᴰ q (gather g l)
   gathers x (y ∷ l) (List·Memᴰ·head p) h = Memᴰ·append-left (gather g l) (subst (λ z. List·Memᴰ q (g z)) p h)
   gathers x (y ∷ l) (List·Memᴰ·tail n) h = Memᴰ·append-right (g y) (gathers x l n h)
 
@@ -248,3 +248,40 @@ refused-graph table cap number place e = by-answer (readTable table) refl e
             ⊎ ((m : Model) × (readTable table ≡ accepted m) × (meets (boundsOf m) (m .invariants) (first m) ≡ false) × (number ≡ 14) × (place ≡ 0))
         go true h k = absurd (no-found (explore sameRegion (nextOf m) cap (first m)) k)
         go false h k = inr (m, t, h, sym (ap (λ (x : ℕ × ℕ). x .0) (ap numbers k)), sym (ap (λ (x : ℕ × ℕ). x .1) (ap numbers k)))
+
+-- More different regions are reached than there is room for.
+pub record MoreReached (m : Model) (cap : ℕ) : Type 0 where
+  pub regions : List Region
+  pub different : Different regions
+  pub reached : (r : Region) → List·Memᴰ r regions → Reached m r
+  pub many : cap < length regions
+
+module _ (table : List ℕ) (cap : ℕ) (b : Begun table) where
+  outcome-is : outcomeOf table cap ≡ fromFound (explore sameRegion (nextOf (b .model)) cap (first (b .model)))
+  unfolding outcomeOf
+  outcome-is = rw (b .read, b .meets-first) refl
+
+  more-reached : (found : List Region) → FirstRegions (b .model) cap found → MoreReached (b .model) cap
+  more-reached found f =
+      record {
+        regions = found ++ (f .another ∷ []);
+        different = different-grown found (f .another) (f .another-new) (f .different);
+        reached = λ r n. ⊎-elim (f .reached r)
+            (λ k. subst (Reached (b .model)) (sym (List·Memᴰ·eq-of-singleton k)) (f .another-reached)) (List·Memᴰ·append-cases found n);
+        many = omega (arith, f .fills, length-append found (f .another ∷ []));
+      }
+
+  has-cut : (f : Found Region) → explore sameRegion (nextOf (b .model)) cap (first (b .model)) ≡ f → MoreReached (b .model) cap
+      → (found : List Region) × (outcomeOf table cap ≡ cut found)
+  has-cut (full found) c more = (found, outcome-is ∙ ap fromFound c)
+  has-cut (complete found) c more =
+      let a = complete-all sameRegion (nextOf (b .model)) same-true same-refl cap (first (b .model)) found c in
+      let few = no-more (more .regions) found (more .different) (λ r n. a .all-reached r (from-reached (b .model) r (more .reached r n))) in
+      absurd (omega (arith, few, a .sound .fits, more .many))
+
+  -- "15. N exceeds 4,096 or the whole entries lent": 15 is answered exactly where more regions are reached than there is room for.
+  pub fifteen-iff : ((found : List Region) × (outcomeOf table cap ≡ cut found)) ↔ MoreReached (b .model) cap
+  fifteen-iff = (
+    λ t. more-reached (t .0) (cut-of (b .model) cap (t .0) (cut-ran table cap (t .0) b _ refl (sym outcome-is ∙ t .1))),
+    has-cut (explore sameRegion (nextOf (b .model)) cap (first (b .model))) refl,
+  )

@@ -94,7 +94,7 @@ module _ {X : Type 0} where
   abbrev pub Different : List X → Type 0
   Different l = (d : X) (i j : ℕ) → i < length l → j < length l → getD l i d ≡ getD l j d → i ≡ j
 
-  different-grown : (l : List X) (x : X) → (List·Memᴰ x l → ⊥) → Different l → Different (l ++ (x ∷ []))
+  pub different-grown : (l : List X) (x : X) → (List·Memᴰ x l → ⊥) → Different l → Different (l ++ (x ∷ []))
   different-grown l x new different d i j hi hj e =
       elim (below i (length l)) [
         | inl p ↦ elim (below j (length l)) [
