@@ -1,8 +1,8 @@
 /* The calls of Terkwabu for C hosts.
  *
  * Each call takes a model table (docs/FORMAT.md) and lent bytes for region entries, and answers with numbers only. For every
- * table and every lent length the answer and the lent bytes are proved to be what the definitions in crates/terkwabu/specs and
- * crates/regions/specs say.
+ * table and every lent length the answer and the lent bytes are proved to be what the definitions in the specs/ folders of
+ * crates/table, crates/regions and crates/terkwabu say.
  *
  * A slice is a pointer and a length. The pointer must be valid for that many bytes and not null, also where the length is 0; the
  * table and the lent bytes must not overlap. A call keeps nothing, shares nothing with other calls, and may run beside others; it
@@ -30,7 +30,7 @@ typedef struct {
 } terkwabu_answer;
 
 /* Explores the regions of a table into the lent entries; value is N. Refusals 1 to 14 change nothing; 15 leaves the first
- * regions, as many as fit; otherwise the first N entries hold the graph. Bytes after the entries never change. */
+ * regions, as many as fit (at most 4,096); otherwise the first N entries hold the graph. Bytes after the entries never change. */
 terkwabu_answer terkwabu_graph(const uint8_t *table, size_t table_len, uint8_t *entries, size_t entries_len);
 
 #ifdef __cplusplus

@@ -17,7 +17,7 @@ use Rattle.regions.specs.Graph.{Leads, by-delay, by-edge, Reached, begun
 use Rattle.regions.specs.Worklist.{Found, complete, full, explore, Reach, here, on}
 use Rattle.regions.specs.Explore.{sameRegion, same-true, same-refl}
 use Rattle.regions.specs.Call.{Outcome, refused, cut, whole, fromFound, fromAnswer, outcomeOf}
-use Rattle.regions.specs.Laws.Worklist.{Different, different-grown, no-more, complete-all, full-room, larger-complete}
+use Rattle.regions.specs.Laws.Worklist.{Begins, Different, different-grown, no-more, complete-all, full-room, larger-complete, larger-full}
 use Rattle.regions.specs.declared.region.Region.{Region}
 
 pub false-true : {A : Type 0} → false ≡ true → A
@@ -255,6 +255,18 @@ pub record MoreReached (m : Model) (cap : ℕ) : Type 0 where
   pub different : Different regions
   pub reached : (r : Region) → List·Memᴰ r regions → Reached m r
   pub many : cap < length regions
+
+-- "15 leaves the first regions": with more room the same regions come first.
+pub cut-begins : (table : List ℕ) (cap cap′ : ℕ) (found more : List Region) → cap ≤ cap′ → outcomeOf table cap ≡ cut found
+    → outcomeOf table cap′ ≡ whole more → Begins found more
+unfolding outcomeOf
+cut-begins table cap cap′ found more h e e′ =
+    let r = ran table cap (cut found) (omega arith) e in
+    let b = r .begun in
+    let c = cut-ran table cap found b (r .found) (r .comes) (r .gives) in
+    let k : fromFound (explore sameRegion (nextOf (b .model)) cap′ (first (b .model))) ≡ whole more =
+    rw (b .read, b .meets-first) at e′ in
+    rw (whole-ran table cap′ more b _ refl k) at (larger-full sameRegion (nextOf (b .model)) cap cap′ (first (b .model)) found h c)
 
 module _ (table : List ℕ) (cap : ℕ) (b : Begun table) where
   outcome-is : outcomeOf table cap ≡ fromFound (explore sameRegion (nextOf (b .model)) cap (first (b .model)))
