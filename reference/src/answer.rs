@@ -1,5 +1,6 @@
 // The answer lines: what a call gives, as one line of text, and what it leaves in the lent tables.
 
+use crate::partition::{self as blocks, Lists, Question};
 use crate::table::{Edge, Model, Refusal};
 
 /// What reading a table gives.
@@ -93,17 +94,57 @@ pub fn lent_digest(answer: &Answer, room: usize, fill: u8) -> u64 {
 
 /// The answer of the graph call, with the digest of all lent bytes after the call.
 pub fn graph_line(answer: &Result<usize, Refusal>, lent: &[u8]) -> String {
-    let answer = match answer {
-        Ok(count) => format!("graph {count}"),
-        Err(refusal) => format!("refused {} place {}", refusal.number, refusal.place),
+    entries_line("graph", answer, lent)
+}
+
+/// The answer of the state call, with the digest of all lent bytes after the call.
+pub fn state_line(answer: &Result<usize, Refusal>, lent: &[u8]) -> String {
+    entries_line("state", answer, lent)
+}
+
+/// The answer of a call whose result is one number, named by a word.
+fn entries_line(word: &str, answer: &Result<usize, Refusal>, lent: &[u8]) -> String {
+    let numbers = answer.map(|number| vec![number as u64]);
+    format!("{} entries {}", result(word, &numbers), bytes_digest(lent))
+}
+
+/// The answer of one of the three calls on blocks, with the digest of all lent bytes after the call and, but
+/// for the judging call, that of the two block lists.
+pub fn blocks_line(question: &Question, answer: &blocks::Answer, lent: &[u8], lists: &Lists) -> String {
+    let (word, has_lists) = match question {
+        Question::Partition => ("blocks", true),
+        Question::Pair(_) => ("pair", true),
+        Question::Judge(_) => ("judged", false),
     };
-    format!("{answer} entries {}", bytes_digest(lent))
+    let line = format!("{} entries {}", result(word, answer), bytes_digest(lent));
+    if has_lists {
+        format!("{line} lists {}", lists_digest(lists))
+    } else {
+        line
+    }
+}
+
+/// The numbers of a result after its word, or the refusal.
+fn result(word: &str, answer: &Result<Vec<u64>, Refusal>) -> String {
+    match answer {
+        Ok(numbers) => numbers.iter().fold(word.to_string(), |text, number| format!("{text} {number}")),
+        Err(refusal) => format!("refused {} place {}", refusal.number, refusal.place),
+    }
 }
 
 fn bytes_digest(bytes: &[u8]) -> u64 {
     let mut digest = Digest::new();
     for &byte in bytes {
         digest.add(byte.into());
+    }
+    digest.value
+}
+
+/// The digest of all numbers of the first list and then of the second, each modulo 2^32.
+fn lists_digest(lists: &Lists) -> u64 {
+    let mut digest = Digest::new();
+    for &number in lists.iter().flatten() {
+        digest.add(number % (1 << 32));
     }
     digest.value
 }

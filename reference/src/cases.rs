@@ -1,13 +1,20 @@
 // The collection of stored cases for the test program: which there are for the reading of tables, how they
 // are written, what they expect, and the checks that the collection makes on itself. The cases of the graph
-// call are collected in graph_cases.rs and follow these.
+// call are collected in graph_cases.rs and follow these, then come those of the state call, collected in
+// place_cases.rs, and those of the calls on blocks, collected in partition_cases.rs, pair_cases.rs and
+// judge_cases.rs.
 
 use crate::answer::{self, Answer};
+use crate::block_cases::{BlockCases, CALL_JUDGE, CALL_PAIR, CALL_PARTITION};
 use crate::borders;
 use crate::damage;
 use crate::generate;
 use crate::graph_cases;
+use crate::judge_cases;
 use crate::meetings;
+use crate::pair_cases;
+use crate::partition_cases;
+use crate::place_cases;
 use crate::records::Records;
 use crate::rng::Rng;
 use crate::table::{self, Model, Refusal};
@@ -23,6 +30,8 @@ const LARGEST_ROOM: usize = 160;
 const LONGEST: usize = 17_000;
 /// What the written cases may take, in bytes.
 const BUDGET: usize = 2_500_000;
+/// What the cases of all calls may take, in bytes.
+const WHOLE_BUDGET: usize = 5_000_000;
 /// The fewest cases.
 const FEWEST: usize = 2_500;
 
@@ -152,8 +161,17 @@ pub fn in_hex(table: &[u8]) -> String {
     table.iter().map(|byte| format!("{byte:02x}")).collect()
 }
 
+/// A call on blocks: its number, the maker of its cases, and their summary.
+type OnBlocks = (u8, fn(&str) -> Result<BlockCases, String>, fn(&BlockCases) -> String);
+
+const ON_BLOCKS: [OnBlocks; 3] = [
+    (CALL_PARTITION, partition_cases::make, partition_cases::summary),
+    (CALL_PAIR, pair_cases::make, pair_cases::summary),
+    (CALL_JUDGE, judge_cases::make, judge_cases::summary),
+];
+
 /// The highest call whose cases can be written.
-pub const HIGHEST_CALL: u8 = graph_cases::CALL_GRAPH;
+pub const HIGHEST_CALL: u8 = CALL_JUDGE;
 
 /// Makes all cases up to a call and writes them to the two files. Summaries go to standard error.
 pub fn write(
@@ -178,6 +196,23 @@ pub fn write(
         input.extend(graph.input);
         output.push_str(&graph.output);
     }
+    if highest_call >= place_cases::CALL_PLACE {
+        let place = place_cases::make(vectors_folder)?;
+        summaries.push(place.summary());
+        count += place.count;
+        input.extend(place.input);
+        output.push_str(&place.output);
+    }
+    for (call, make, summary) in ON_BLOCKS {
+        if highest_call >= call {
+            let blocks = make(vectors_folder)?;
+            summaries.push(summary(&blocks));
+            count += blocks.count;
+            input.extend(blocks.input);
+            output.push_str(&blocks.output);
+        }
+    }
+    assert!(input.len() < WHOLE_BUDGET, "{} bytes of cases in all", input.len());
     let input = [(count as u32).to_le_bytes().to_vec(), input].concat();
     fs::write(input_file, input).map_err(|error| format!("{input_file}: {error}"))?;
     fs::write(output_file, &output).map_err(|error| format!("{output_file}: {error}"))?;

@@ -38,7 +38,7 @@ impl<'a> Layout<'a> {
     }
 
     /// The delay region. Delay stops before a region that breaks its location's invariant.
-    fn delay(&self, region: Region) -> Option<Region> {
+    pub fn delay(&self, region: Region) -> Option<Region> {
         region.delay(self.clocks).filter(|&next| self.meets_invariant(next))
     }
 
@@ -62,6 +62,18 @@ impl<'a> Layout<'a> {
             targets.push(target);
         }
         true
+    }
+
+    /// The available edges of a region in table order, each with its branches' target regions in order.
+    pub fn available_edges(&self, region: Region) -> Vec<(&'a Edge, Vec<Region>)> {
+        let mut found = Vec::new();
+        let mut targets = Vec::new();
+        for &edge in &self.edges[usize::from(region.location)] {
+            if self.available(region, edge, &mut targets) {
+                found.push((edge, targets.clone()));
+            }
+        }
+        found
     }
 }
 
@@ -169,7 +181,12 @@ pub fn limit_of(lent: usize) -> usize {
 /// The graph call: N, or a refusal of 1 to 15. The lent bytes hold the entries afterwards.
 pub fn graph(table: &[u8], lent: &mut [u8]) -> Result<usize, Refusal> {
     let model = table::read(table)?;
-    match explore(&model, limit_of(lent.len())) {
+    regions(&model, lent).map(|regions| regions.len())
+}
+
+/// All regions of a model by number, or refusal 14 or 15. The lent bytes hold the entries afterwards.
+pub fn regions(model: &Model, lent: &mut [u8]) -> Result<Vec<Region>, Refusal> {
+    match explore(model, limit_of(lent.len())) {
         Exploration::NoStart => Err(Refusal { number: 14, place: 0 }),
         Exploration::Cut(regions) => {
             write_entries(&regions, lent);
@@ -177,7 +194,7 @@ pub fn graph(table: &[u8], lent: &mut [u8]) -> Result<usize, Refusal> {
         }
         Exploration::Whole(regions) => {
             write_entries(&regions, lent);
-            Ok(regions.len())
+            Ok(regions)
         }
     }
 }

@@ -333,6 +333,14 @@ fn no_start(cases: &mut GraphCases) {
 
 /// Each refusal of 1 to 13 with bytes lent, which stay as they are, and before 14 and 15.
 fn refused_tables(cases: &mut GraphCases) {
+    for (round, (refusal, table)) in refused_list().into_iter().enumerate() {
+        let lent = [45, 100, 0, 9][round % 4];
+        cases.foretold(&table, lent, Err(refusal));
+    }
+}
+
+/// Tables with the refusals of 1 to 13 that they must get, each number at least twice.
+pub fn refused_list() -> Vec<(Refusal, Vec<u8>)> {
     let records = Records::of(&generate::printed());
     let whole = records.bytes();
     let place = |index: usize| records.place(index);
@@ -379,8 +387,5 @@ fn refused_tables(cases: &mut GraphCases) {
     tables.push((9, below.place(guard + 1), below.with_byte(guard + 1, 3, 16).bytes()));
     let nothing = records::branch(Branch { weight: 0, target: 0, mask: 0 });
     tables.push((10, below.place(end + 1), below.with_record(end + 1, nothing).bytes()));
-    for (round, (number, place, table)) in tables.into_iter().enumerate() {
-        let lent = [45, 100, 0, 9][round % 4];
-        cases.foretold(&table, lent, Err(Refusal { number, place }));
-    }
+    tables.into_iter().map(|(number, place, table)| (Refusal { number, place }, table)).collect()
 }

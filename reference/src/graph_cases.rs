@@ -279,7 +279,7 @@ fn add_vectors(cases: &mut GraphCases, folder: &str) -> Result<(), String> {
     let table = vectors::load(folder, vectors::TABLE_FILE)?;
     let past_reader = |vector: &&Vector| vector.reading().is_none();
     for vector in graph.iter().chain(table.iter().filter(past_reader)) {
-        cases.foretold(&vector.table, vector.lent.min(MOST_LENT), vector.answer);
+        cases.foretold(&vector.table, vector.lent.min(MOST_LENT), vector.number());
     }
     Ok(())
 }

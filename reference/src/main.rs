@@ -1,10 +1,15 @@
 // The independent implementation against which the proved program is tested: its commands.
 //
-//   reference vectors DIR                holds the graph call to the test vectors in DIR
+//   reference vectors DIR                holds the calls to the test vectors in DIR
 //   reference cases DIR IN OUT [CALLS]   writes the stored cases and the answers they expect, up to a call
 //   reference read FILE                  reads one table and prints the answer ("-" is standard input)
 
 mod answer;
+mod block_borders;
+mod block_cases;
+mod block_chance;
+mod block_models;
+mod block_subject;
 mod borders;
 mod cases;
 mod damage;
@@ -14,10 +19,22 @@ mod graph_borders;
 mod graph_cases;
 mod graph_models;
 mod json;
+mod judge_cases;
+mod links;
 mod meetings;
+mod pair_cases;
+mod pairs;
+mod partition;
+mod partition_cases;
+mod place;
+mod place_borders;
+mod place_cases;
+mod place_states;
+mod proposals;
 mod records;
 mod region;
 mod rng;
+mod rounds;
 mod sha256;
 mod table;
 mod vectors;

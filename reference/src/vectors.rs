@@ -1,17 +1,39 @@
-// The outside test vectors of the graph call: reading them, and holding the graph call to them.
+// The outside test vectors of all calls but the listing: reading them, and holding the calls to them.
 
 use crate::explore;
 use crate::json::{self, Value};
+use crate::partition::{self, Lists, Question};
+use crate::place::{self, State};
 use crate::sha256::sha256;
 use crate::table::Refusal;
 use std::fs;
 use std::path::Path;
 
-/// The files that hold lines of the graph call: refusals 1 to 13, and the graph.
-pub const TABLE_FILE: &str = "table.jsonl";
-pub const GRAPH_FILE: &str = "graph.jsonl";
+/// A file of vectors and the call whose lines count in it.
+#[derive(Clone, Copy)]
+pub struct File {
+    name: &'static str,
+    call: &'static str,
+}
 
-/// One line of the graph call.
+/// The files that hold lines of the graph call: refusals 1 to 13, and the graph.
+pub const TABLE_FILE: File = File { name: "table.jsonl", call: GRAPH };
+pub const GRAPH_FILE: File = File { name: "graph.jsonl", call: GRAPH };
+/// The file that holds lines of the state call.
+pub const PLACE_FILE: File = File { name: "place.jsonl", call: PLACE };
+/// The files that hold lines of the partition call, the pair call and the judging call.
+pub const PARTITION_FILE: File = File { name: "partition.jsonl", call: PARTITION };
+pub const PAIR_FILE: File = File { name: "pair.jsonl", call: PAIR };
+pub const JUDGE_FILE: File = File { name: "judge.jsonl", call: JUDGE };
+
+/// The names of the calls in the files.
+const GRAPH: &str = "graph";
+const PLACE: &str = "place";
+const PARTITION: &str = "partition";
+const PAIR: &str = "pair";
+const JUDGE: &str = "judge";
+
+/// One line of one of the calls.
 pub struct Vector {
     pub line: usize,
     pub table: Vec<u8>,
@@ -19,30 +41,56 @@ pub struct Vector {
     pub lent: usize,
     /// What each of them holds before the call.
     fill: u8,
-    /// N, or the refusal.
-    pub answer: Result<usize, Refusal>,
-    entries: Entries,
+    /// What is asked of the table.
+    pub ask: Ask,
+    /// The numbers of the result, or the refusal. Yes is 1 and no is 0.
+    pub answer: Result<Vec<u64>, Refusal>,
+    entries: After,
+    /// What the two block lists hold after the call; the judging call has none.
+    lists: Vec<After>,
 }
 
-/// What the lent bytes hold after the call.
-enum Entries {
+/// What is asked of the table besides its graph: nothing, the region of a state, or one of the three calls on
+/// blocks, with the lengths of the two lists and what each number of them holds before the call.
+pub enum Ask {
+    Graph,
+    State(State),
+    Blocks { question: Question, lists: [usize; 2], fill: u64 },
+}
+
+/// What lent bytes hold after the call. A list counts as its numbers' bytes, eight a number, low byte first.
+enum After {
     Bytes(Vec<u8>),
     Sha256(Vec<u8>),
+}
+
+impl After {
+    fn agrees(&self, bytes: &[u8]) -> bool {
+        match self {
+            After::Bytes(wanted) => bytes == wanted,
+            After::Sha256(hash) => sha256(bytes)[..] == hash[..],
+        }
+    }
 }
 
 impl Vector {
     /// The refusal that reading the table must give: one of 1 to 13, or none.
     pub fn reading(&self) -> Option<Refusal> {
-        self.answer.err().filter(|refusal| refusal.number <= 13)
+        self.answer.as_ref().err().copied().filter(|refusal| refusal.number <= 13)
+    }
+
+    /// The answer of a call whose result is one number.
+    pub fn number(&self) -> Result<usize, Refusal> {
+        self.answer.as_ref().map(|numbers| numbers[0] as usize).map_err(|&refusal| refusal)
     }
 }
 
 /// How many disagreeing lines of a file are printed.
 const SHOWN: usize = 10;
 
-/// The vectors of the graph call in a file of the folder. Lines of other calls are passed over.
-pub fn load(folder: &str, file: &str) -> Result<Vec<Vector>, String> {
-    let path = Path::new(folder).join(file);
+/// The vectors of the file's call in a file of the folder. Lines of other calls are passed over.
+pub fn load(folder: &str, file: File) -> Result<Vec<Vector>, String> {
+    let path = Path::new(folder).join(file.name);
     let text = fs::read_to_string(&path).map_err(|error| format!("{}: {error}", path.display()))?;
     let mut vectors = Vec::new();
     for (index, content) in text.lines().enumerate() {
@@ -51,37 +99,106 @@ pub fn load(folder: &str, file: &str) -> Result<Vec<Vector>, String> {
         }
         let line = index + 1;
         let vector =
-            vector(line, content).map_err(|what| format!("{}: line {line}: {what}", path.display()))?;
+            vector(file, line, content).map_err(|what| format!("{}: line {line}: {what}", path.display()))?;
         vectors.extend(vector);
     }
     if vectors.is_empty() {
-        return Err(format!("{}: no line of the graph call", path.display()));
+        return Err(format!("{}: no line of the call {}", path.display(), file.call));
     }
     Ok(vectors)
 }
 
-fn vector(line: usize, content: &str) -> Result<Option<Vector>, String> {
+fn vector(file: File, line: usize, content: &str) -> Result<Option<Vector>, String> {
     let object = json::parse(content)?;
     let ask = object.member("ask").ok_or("no ask")?;
     let call = ask.member("call").and_then(Value::text).ok_or("no ask.call")?;
-    if call != "graph" {
+    if call != file.call {
         return Ok(None);
     }
     let table = bytes_of(ask.member("table").and_then(Value::text).ok_or("no ask.table")?)?;
     let lent = size_of(ask.member("entries"), "ask.entries")?;
     let fill = u8::try_from(size_of(ask.member("fill"), "ask.fill")?).map_err(|_| "ask.fill is no byte")?;
+    let ask = ask_of(ask, call)?;
     let answer = object.member("answer").ok_or("no answer")?;
-    let entries = match (answer.member("entries"), answer.member("entries_sha256")) {
-        (Some(digits), None) => Entries::Bytes(bytes_of(digits.text().ok_or("answer.entries is no text")?)?),
-        (None, Some(digits)) => Entries::Sha256(bytes_of(digits.text().ok_or("the hash is no text")?)?),
-        _ => return Err("neither the entries nor their hash, or both".to_string()),
-    };
+    let entries = after(answer, "entries", |value| bytes_of(value.text()?).ok())?;
+    let mut lists = Vec::new();
+    if matches!(ask, Ask::Blocks { question: Question::Partition | Question::Pair(_), .. }) {
+        for name in ["list1", "list2"] {
+            lists.push(after(answer, name, |value| Some(list_bytes(&numbers_of(value)?)))?);
+        }
+    }
     let answer = match (answer.member("refused"), answer.member("result")) {
-        (Some(refused), None) => Err(refusal(refused)?),
-        (None, Some(count)) => Ok(size_of(Some(count), "answer.result")?),
+        (Some(refused), None) => Err(refusal(refused, call)?),
+        (None, Some(result)) => Ok(result_of(result, call)?),
         _ => return Err("neither a refusal nor a result, or both".to_string()),
     };
-    Ok(Some(Vector { line, table, lent, fill, answer, entries }))
+    Ok(Some(Vector { line, table, lent, fill, ask, answer, entries, lists }))
+}
+
+/// What a line asks of the table.
+fn ask_of(ask: &Value, call: &str) -> Result<Ask, String> {
+    let numbers = |name: &str| ask.member(name).and_then(numbers_of);
+    let question = match call {
+        GRAPH => return Ok(Ask::Graph),
+        PLACE => return Ok(Ask::State(state_of(ask)?)),
+        PARTITION => Question::Partition,
+        PAIR => match numbers("asked").as_deref() {
+            Some(&[first, second]) => Question::Pair([first, second]),
+            _ => return Err("ask.asked is no list of two numbers".to_string()),
+        },
+        _ => Question::Judge(numbers("proposal").ok_or("ask.proposal is no list of numbers")?),
+    };
+    if call == JUDGE {
+        return Ok(Ask::Blocks { question, lists: [0, 0], fill: 0 });
+    }
+    match (numbers("lists").as_deref(), ask.member("list_fill").and_then(Value::number)) {
+        (Some(&[first, second]), Some(fill)) => {
+            Ok(Ask::Blocks { question, lists: [first as usize, second as usize], fill })
+        }
+        _ => Err("no lists or no list_fill".to_string()),
+    }
+}
+
+/// What a lent table holds after the call: in full under its name, or by its hash.
+fn after(answer: &Value, name: &str, bytes: impl Fn(&Value) -> Option<Vec<u8>>) -> Result<After, String> {
+    match (answer.member(name), answer.member(&format!("{name}_sha256"))) {
+        (Some(value), None) => {
+            bytes(value).map(After::Bytes).ok_or_else(|| format!("answer.{name} is not as it should be"))
+        }
+        (None, Some(digits)) => Ok(After::Sha256(bytes_of(digits.text().ok_or("the hash is no text")?)?)),
+        _ => Err(format!("neither answer.{name} nor its hash, or both")),
+    }
+}
+
+/// The result of a line as numbers, as many as the call gives.
+fn result_of(result: &Value, call: &str) -> Result<Vec<u64>, String> {
+    let numbers = match (call, result) {
+        (PARTITION, Value::List(_)) => numbers_of(result).filter(|numbers| numbers.len() == 3),
+        (PAIR, Value::False) => Some(vec![0]),
+        (PAIR | JUDGE, Value::True) => Some(vec![1]),
+        (GRAPH | PLACE, &Value::Number(number)) => Some(vec![number]),
+        _ => None,
+    };
+    numbers.ok_or_else(|| format!("answer.result is no result of the call {call}"))
+}
+
+/// The bytes of a list.
+fn list_bytes(list: &[u64]) -> Vec<u8> {
+    list.iter().flat_map(|number| number.to_le_bytes()).collect()
+}
+
+/// The state of a line: location, four values, denominator.
+fn state_of(ask: &Value) -> Result<State, String> {
+    match numbers_of(ask.member("state").ok_or("no ask.state")?).as_deref() {
+        Some(&[location, first, second, third, fourth, denominator]) => {
+            Ok(State { location, values: [first, second, third, fourth], denominator })
+        }
+        _ => Err("ask.state is no list of six numbers".to_string()),
+    }
+}
+
+fn numbers_of(value: &Value) -> Option<Vec<u64>> {
+    value.list().and_then(|items| items.iter().map(Value::number).collect())
 }
 
 fn size_of(value: Option<&Value>, name: &str) -> Result<usize, String> {
@@ -89,16 +206,26 @@ fn size_of(value: Option<&Value>, name: &str) -> Result<usize, String> {
     usize::try_from(number).map_err(|_| format!("{name} is too large"))
 }
 
-/// The refusal of a line: one of those that the graph call can give.
-fn refusal(refused: &Value) -> Result<Refusal, String> {
-    let numbers: Option<Vec<u64>> =
-        refused.list().and_then(|items| items.iter().map(Value::number).collect());
-    match numbers.as_deref() {
-        Some(&[number @ 1..=15, place]) => {
+/// The refusal of a line: one of those that the call can give.
+fn refusal(refused: &Value, call: &str) -> Result<Refusal, String> {
+    match numbers_of(refused).as_deref() {
+        Some(&[number, place]) if can_refuse(call, number) => {
             let place = usize::try_from(place).map_err(|_| "a place too large")?;
             Ok(Refusal { number: number as u32, place })
         }
-        _ => Err("answer.refused is no number and place of the graph call".to_string()),
+        _ => Err(format!("answer.refused is no number and place of the call {call}")),
+    }
+}
+
+/// Whether the call can give a refusal of this number.
+fn can_refuse(call: &str, number: u64) -> bool {
+    match number {
+        1..=15 => true,
+        16 => call == PARTITION || call == PAIR,
+        17 | 18 => call == JUDGE,
+        19 => call == PAIR,
+        20 | 21 => call == PLACE,
+        _ => false,
     }
 }
 
@@ -111,17 +238,18 @@ fn bytes_of(digits: &str) -> Result<Vec<u8>, String> {
     Ok(digits.chunks(2).map(|pair| (pair[0] * 16 + pair[1]) as u8).collect())
 }
 
-/// Compares the graph call with each line of each file and prints the outcome. True if all agree.
+/// Compares the calls with each line of each file and prints the outcome. True if all agree.
 pub fn check(folder: &str) -> Result<bool, String> {
     let mut all = true;
-    for file in [TABLE_FILE, GRAPH_FILE] {
+    for file in [TABLE_FILE, GRAPH_FILE, PLACE_FILE, PARTITION_FILE, PAIR_FILE, JUDGE_FILE] {
         all &= check_file(folder, file)?;
     }
     Ok(all)
 }
 
-fn check_file(folder: &str, file: &str) -> Result<bool, String> {
+fn check_file(folder: &str, file: File) -> Result<bool, String> {
     let vectors = load(folder, file)?;
+    let file = file.name;
     let mut disagreeing = 0;
     for vector in &vectors {
         if let Some(difference) = difference(vector) {
@@ -139,23 +267,31 @@ fn check_file(folder: &str, file: &str) -> Result<bool, String> {
     Ok(disagreeing == 0)
 }
 
-/// How the graph call differs from what a line asks for.
+/// How the call differs from what a line asks for.
 fn difference(vector: &Vector) -> Option<String> {
     let mut lent = vec![vector.fill; vector.lent];
-    let found = explore::graph(&vector.table, &mut lent);
-    if found != vector.answer {
-        return Some(format!("asked for {}, found {}", in_words(vector.answer), in_words(found)));
-    }
-    let same = match &vector.entries {
-        Entries::Bytes(bytes) => lent == *bytes,
-        Entries::Sha256(hash) => sha256(&lent)[..] == hash[..],
+    let mut lists = Lists::default();
+    let found = match &vector.ask {
+        Ask::Graph => explore::graph(&vector.table, &mut lent).map(|count| vec![count as u64]),
+        Ask::State(state) => place::place(&vector.table, &mut lent, state).map(|number| vec![number as u64]),
+        Ask::Blocks { question, lists: lengths, fill } => {
+            lists = lengths.map(|length| vec![*fill; length]);
+            partition::call(question, &vector.table, &mut lent, &mut lists)
+        }
     };
-    (!same).then(|| format!("{}, but with other entries", in_words(found)))
+    if found != vector.answer {
+        return Some(format!("asked for {}, found {}", in_words(&vector.answer), in_words(&found)));
+    }
+    if !vector.entries.agrees(&lent) {
+        return Some(format!("{}, but with other entries", in_words(&found)));
+    }
+    let same = vector.lists.iter().zip(&lists).all(|(after, list)| after.agrees(&list_bytes(list)));
+    (!same).then(|| format!("{}, but with other lists", in_words(&found)))
 }
 
-fn in_words(answer: Result<usize, Refusal>) -> String {
+fn in_words(answer: &Result<Vec<u64>, Refusal>) -> String {
     match answer {
-        Ok(count) => format!("graph {count}"),
+        Ok(numbers) => format!("result {numbers:?}"),
         Err(Refusal { number, place }) => format!("refused {number} place {place}"),
     }
 }
