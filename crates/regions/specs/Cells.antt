@@ -16,7 +16,7 @@ pub data Cell : Type 0 where
   over : (bound : ℕ) → Cell
   at : (bound whole fraction : ℕ) → Cell
 
--- An over clock has no fraction: it counts as 0, which is no rank.
+-- An over clock has no fraction: it counts as 0, which has no place among the non-zero fractions.
 abbrev pub fractionOf : Cell → ℕ
 fractionOf (over m) = 0
 fractionOf (at m w f) = f

@@ -101,7 +101,7 @@ unfolding regionAt
 region-sized es j = record { whole = refl; rank = refl }
 
 -- A list with the bytes of a region from entry j on has that region there.
-region-from : (es : List ℕ) (j : ℕ) (r : Region) → Sized r
+pub region-from : (es : List ℕ) (j : ℕ) (r : Region) → Sized r
     → ((k : ℕ) → k < entryBytes → getD es (entryBytes * j + k) 0 ≡ getD (bytesOf r) k 0) → regionAt es j ≡ r
 unfolding regionAt
 region-from es j r sized bytes =

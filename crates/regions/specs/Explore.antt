@@ -28,7 +28,7 @@ sameList (x ∷ a) (y ∷ b) = eqb x y && sameList a b
 unfoldable pub sameRegion : Region → Region → Bool
 sameRegion a b = eqb (a .location) (b .location) && (sameList (a .whole) (b .whole) && sameList (a .rank) (b .rank))
 
-both-true : (a b : Bool) → (a && b) ≡ true → (a ≡ true) × (b ≡ true)
+pub both-true : (a b : Bool) → (a && b) ≡ true → (a ≡ true) × (b ≡ true)
 both-true true b e = (refl, e)
 both-true false b e = absurd (let z : _≡_ {A = ℕ} 0 1 = cc in omega arith)
 

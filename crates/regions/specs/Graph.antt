@@ -1,6 +1,7 @@
 -- The region graph of a model (document 01, "Regions"): bounds, invariants, available edges, what a region leads to, and what is
 -- reached. A region here is that of the code, in nine bytes.
 use Prim.Native.Nat.{ℕ, max}
+use mathlib.Core.Path.{_≡_}
 use mathlib.Core.Bool.{Bool, true, false, cond, not, _&&_, _||_}
 use mathlib.Core.List.{List, [], _∷_, _++_, List·Memᴰ}
 use lib.Dec.{eqb}
@@ -8,17 +9,13 @@ use Rattle.table.specs.Model.{Model, Edge}
 use Rattle.table.specs.declared.model.Branch.{Branch}
 use Rattle.table.specs.declared.model.Guard.{Guard}
 use Rattle.table.specs.declared.model.Invariant.{Invariant}
+pub use Rattle.regions.specs.Lists.{every}
 use Rattle.regions.specs.Atoms.{atom}
 use Rattle.regions.specs.Packed.{cellOf, clockAt, delayed, afterReset}
 use Rattle.regions.specs.declared.region.Bounds.{Bounds}
 use Rattle.regions.specs.declared.region.Region.{Region}
 use Rattle.regions.specs.declared.region.Verdict.{Verdict}
 use Rattle.regions.specs.declared.region.Verdict.the-variants.{Holds, Fails, Unknown}
-
--- All items of a list are such.
-abbrev pub every : {A : Type 0} → (A → Bool) → List A → Bool
-every p [] = true
-every p (x ∷ l) = p x && every p l
 
 -- ---- Bounds
 
@@ -119,9 +116,18 @@ nextOf m r = delayNext m r ++ gather (edgeNext m r) (m .edges)
 unfoldable pub first : Model → Region
 first m = record { location = m .initial; whole = 0 ∷ 0 ∷ 0 ∷ 0 ∷ []; rank = 0 ∷ 0 ∷ 0 ∷ 0 ∷ [] }
 
+-- ---- Some delay
+
+-- "Whatever r reaches by delay (zero included)": regions that follow one another, and every region passed meets the
+-- invariant. (Invariants bound clocks from above, so a region that breaks its own reaches nothing, not even by zero delay: no
+-- region of the graph does.)
+pub data DelaysTo (m : Model) : Region → Region → Type 0 where
+  stays : {r : Region} → meets (boundsOf m) (m .invariants) r ≡ true → DelaysTo m r r
+  goes : {r p q : Region} → List·Memᴰ p (delayNext m r) → DelaysTo m p q → DelaysTo m r q
+
 -- ---- What is reached, without a word of exploring
 
--- "A region leads by some delay or edge to another": by the next region of a delay, or by a branch of an available edge.
+-- One step: a delay to the region that follows, or a branch of an available edge.
 pub data Leads (m : Model) (r : Region) : Region → Type 0 where
   by-delay : {q : Region} → List·Memᴰ q (delayNext m r) → Leads m r q
   by-edge : {q : Region} {e : Edge} → List·Memᴰ e (m .edges) → List·Memᴰ q (edgeNext m r e) → Leads m r q

@@ -1,17 +1,41 @@
 -- Laws on the definitions of the region layer:
 --   Cells      reset and delay keep cells within their bounds, and ranks without gaps
+--   Fractions  reset, delay and atoms on the fractions of a state are those on the ranks of its region
 --   Graph      what an edge and a delay come to, by the tests of the code
 --   Every      for loops that test every item of a list
 --   Worklist   exploring lists exactly what is reached, once each; more room only adds at the end
 --   Call       what the answer of the graph call says about the regions that are reached
+--   Order      the numbers of the regions: one list has document 01's order, and the graph call gives that one
+--   Numbers    what the number that the graph call answers says about its outcome
 --   Bounds     the bound M is the largest constant of the table, and at most 15; every atom has a verdict
 --   Formed     every region that is reached is well formed
---   View       in a graph that was listed whole, delays and steps lead to numbers of regions
+--   Locations  every region that is reached is at a location that exists, which has a label
+--   Bytes      the entries that the graph call leaves hold its regions, and the bytes after them stay
+--   States     equal states are alike; the atoms, edges and delays of a state are those of its region
+--   Filled     every well-formed region has a state in it
+--   StateCall  for the code of the state call
+--   Filling    for the loops that fill the slices of the graph
+--   Rows       for the code that fills the rows of the edges
+--   Shown      what the slices of the graph then hold
+--   View       numbers and labels of regions; in a graph that was listed whole, delays and steps lead to numbers of regions
+--   Placed     what the answer of the state call says about the state's region
 pub mod Cells
+pub mod Fractions
 pub mod Graph
 pub mod Every
 pub mod Worklist
 pub mod Call
+pub mod Order
+pub mod Numbers
 pub mod Bounds
 pub mod Formed
+pub mod Locations
+pub mod Bytes
+pub mod States
+pub mod Filled
+pub mod StateCall
 pub mod View
+pub mod Placed
+pub mod Filling
+pub mod Rows
+pub mod Shown

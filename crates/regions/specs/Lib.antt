@@ -1,27 +1,48 @@
 -- The definitions of the region layer, in the words of document 01:
+--   Lists      a test of all items of a list
 --   Cells      a clock as a cell; ranks and closing up; reset and delay
 --   Atoms      guard and invariant atoms on a clock
 --   Packed     a region as the code holds it, and the cells that it stands for
 --   Graph      bounds, invariants, available edges, what a region leads to, and what is reached
 --   Edges      the arrays of edges of a model
+--   Limits     invariants as one limit for each location and clock, as exploring tests them
 --   Entries    regions in a list of bytes, nine to an entry
 --   Index      a chained hash index over the first entries
 --   Worklist   numbering what is reached, in the order in which it is met, with a cap
 --   Explore    exploring into entries, step by step
 --   Call       the graph call: its answer, and what the lent entries then hold
+--   Passed     what the layers above need of the table layer
 --   View       the graph as the layers above see it: labels, delays and steps by number
+--   States     states of a model, and how they move: the automaton's own rules on fractions
+--   Placing    the region of a state
+--   Covering   bounds that are enough for a model, and reaching by some delay for any bounds
+--   StateCall  the state call: its answer
+--   Spots      how the code places a state
+--   Shown      the graph in slices, as the layer above goes by it
+--   Filling    how these slices are filled, step by step
 --   Points     the points that document 01 marks ★
--- Laws on these stand in Laws.
+-- Laws on these stand in Laws. RegionTheorem: a region leads by delays and edges exactly where each state in it does.
+pub mod Lists
 pub mod Cells
 pub mod Atoms
 pub mod Packed
 pub mod Graph
 pub mod Edges
+pub mod Limits
 pub mod Entries
 pub mod Index
 pub mod Worklist
 pub mod Explore
 pub mod Call
+pub mod Passed
 pub mod View
+pub mod States
+pub mod Placing
+pub mod Covering
+pub mod StateCall
+pub mod Spots
+pub mod Shown
+pub mod Filling
 pub mod Points
 pub mod Laws
+pub mod RegionTheorem

@@ -1,7 +1,8 @@
--- The points that document 01 marks ★, as far as they are about tables and regions: each row is a question to a definition
--- that the contracts cite, and its answer, and `points-met` proves all rows. The example of "The printed model" is among them, so that
--- what is proved of accepted tables is proved of something; and a row for each refusal from 3 to 13, most of them at a record
--- that meets a higher number too, so that their numbers, places and order stand here without any stage or count.
+-- The points that document 01 marks ★, as far as they are about tables, regions and states: each row is a question to a
+-- definition that the contracts cite, and its answer, and `points-met` proves all rows. The example of "The printed model" is
+-- among them, so that what is proved of accepted tables is proved of something; and a row for each refusal from 3 to 13, most
+-- of them at a record that meets a higher number too, so that their numbers, places and order stand here without any stage or
+-- count. The rows of two small graphs show how regions are numbered.
 use Prim.Native.Nat.{ℕ, zero, suc}
 use mathlib.Core.Path.{_≡_, refl}
 use mathlib.Core.List.{List, [], _∷_}
@@ -12,6 +13,16 @@ use Rattle.table.specs.Refusals.{rowsOf, nextOf, stepAt}
 use Rattle.table.specs.Reading.{itemAt, run, runTable, add, gather, modelOf, readTable, refusal, accepted}
 use Rattle.table.specs.Sound.{All, none, also}
 use Rattle.regions.specs.Cells.{Cell, over, at, reset, cells, delay}
+use Rattle.regions.specs.States.{State}
+use Rattle.regions.specs.Placing.{stateCell, placed}
+use Rattle.regions.specs.Packed as P
+use Rattle.regions.specs.Graph as G
+use Rattle.regions.specs.Graph.{largestConstant, boundsOf, meets, fits, landing, lands, delayNext, edgeNext, first}
+use Rattle.regions.specs.Worklist.{exploreFrom, explore}
+use Rattle.regions.specs.Explore.{sameRegion}
+use Rattle.regions.specs.Call.{Outcome, whole, cut, outcomeOf}
+use Rattle.regions.specs.declared.region.Bounds.{Bounds}
+use Rattle.regions.specs.declared.region.Region.{Region}
 
 pub data Point : Type 0 where
   -- The table is refused, with this number and place.
@@ -22,12 +33,18 @@ pub data Point : Type 0 where
   delayed : (before after : List Cell) → Point
   -- After these clocks come those by a reset of the mask.
   afterReset : (mask : ℕ) (before after : List Cell) → Point
+  -- With these bounds the state lies in this region.
+  lies : Bounds → State → Region → Point
+  -- With room for so many regions the graph call comes to this: all regions, or the first of them, each with its number.
+  graph : (table : List ℕ) (cap : ℕ) → Outcome → Point
 
 abbrev pub Met : Point → Type 0
 Met (refused table number place) = readTable table ≡ refusal number place
 Met (read table m) = readTable table ≡ accepted m
 Met (delayed before after) = delay before ≡ cells after
 Met (afterReset mask before after) = reset mask before ≡ after
+Met (lies bounds s r) = placed bounds s ≡ r
+Met (graph table cap out) = outcomeOf table cap ≡ out
 
 -- The table of document 01's printed model, in its grouping: header, two locations, an invariant atom, an edge with a guard
 -- atom and two branches, end.
@@ -79,6 +96,53 @@ abbrev guardTimes : ℕ → List ℕ
 guardTimes zero = []
 guardTimes (suc n) = 5 ∷ 0 ∷ 4 ∷ 0 ∷ guardTimes n
 
+-- One clock, and M = 1; location 0 with that clock at v/d; and with an integer part.
+abbrev oneClock : Bounds
+oneClock = record { count = 1; bound = 1 ∷ 1 ∷ 1 ∷ 1 ∷ [] }
+
+abbrev clockAt : (v d : ℕ) → State
+clockAt v d = record { location = 0; values = v ∷ []; denominator = d }
+
+abbrev wholeAt : ℕ → Region
+wholeAt w = record { location = 0; whole = w ∷ 0 ∷ 0 ∷ 0 ∷ []; rank = 0 ∷ 0 ∷ 0 ∷ 0 ∷ [] }
+
+-- Four clocks, and M = 1; location 0 with them at values over 6.
+abbrev sixths : (v₀ v₁ v₂ v₃ : ℕ) → State
+sixths v₀ v₁ v₂ v₃ = record { location = 0; values = v₀ ∷ v₁ ∷ v₂ ∷ v₃ ∷ []; denominator = 6 }
+
+-- Two locations, one clock, no constant, so that M is 0, and an edge from location 0 to location 1 that resets nothing.
+abbrev delayAndEdge : List ℕ
+delayAndEdge =
+    1 ∷ 1 ∷ 2 ∷ 0
+    ∷ 2 ∷ 0
+    ∷ 2 ∷ 0
+    ∷ 4 ∷ 0 ∷ 0 ∷ 1 ∷ 0
+    ∷ 6 ∷ 1 ∷ 0 ∷ 1 ∷ 0
+    ∷ 7 ∷ []
+
+-- Five locations and no clock. Location 0 has an edge with branches to 3 and 2, and a later edge to 1; between them in the
+-- table stands the edge of location 3, to 4.
+abbrev edgesAndBranches : List ℕ
+edgesAndBranches =
+    1 ∷ 0 ∷ 5 ∷ 0
+    ∷ 2 ∷ 0
+    ∷ 2 ∷ 0
+    ∷ 2 ∷ 0
+    ∷ 2 ∷ 0
+    ∷ 2 ∷ 0
+    ∷ 4 ∷ 0 ∷ 0 ∷ 2 ∷ 0
+    ∷ 6 ∷ 1 ∷ 0 ∷ 3 ∷ 0
+    ∷ 6 ∷ 1 ∷ 0 ∷ 2 ∷ 0
+    ∷ 4 ∷ 3 ∷ 0 ∷ 1 ∷ 0
+    ∷ 6 ∷ 1 ∷ 0 ∷ 4 ∷ 0
+    ∷ 4 ∷ 0 ∷ 0 ∷ 1 ∷ 0
+    ∷ 6 ∷ 1 ∷ 0 ∷ 1 ∷ 0
+    ∷ 7 ∷ []
+
+-- A location, and clock 0 with an integer part and rank 0.
+abbrev region : (location part : ℕ) → Region
+region location part = record { location = location; whole = part ∷ 0 ∷ 0 ∷ 0 ∷ []; rank = 0 ∷ 0 ∷ 0 ∷ 0 ∷ [] }
+
 abbrev pub points : List Point
 points =
     -- "Empty table: 2 at place 0."
@@ -121,14 +185,35 @@ points =
     ∷ delayed (at 1 0 2 ∷ at 1 0 1 ∷ []) (at 1 1 0 ∷ at 1 0 1 ∷ [])
     -- "Ranks x 1, y 2; reset x: y has rank 1."
     ∷ afterReset 1 (at 1 0 1 ∷ at 1 0 2 ∷ []) (at 1 0 0 ∷ at 1 0 1 ∷ [])
+    -- "Value 2/2 is integer part 1, rank 0; 3/2 with M = 1 is over."
+    ∷ lies oneClock (clockAt 2 2) (wholeAt 1)
+    ∷ lies oneClock (clockAt 3 2) (wholeAt 16)
+    -- Equal fractions have one rank, and an over clock has none: 5/6, 2/6, 9/6, 2/6.
+    ∷ lies (record { count = 4; bound = 1 ∷ 1 ∷ 1 ∷ 1 ∷ [] }) (sixths 5 2 9 2)
+    (record { location = 0; whole = 0 ∷ 0 ∷ 16 ∷ 0 ∷ []; rank = 2 ∷ 1 ∷ 0 ∷ 1 ∷ [] })
+    -- "Its delay region first, then its available edges": 1 is by the delay of region 0, 2 by its edge, 3 by the edge of 1.
+    ∷ graph delayAndEdge 4 (whole (region 0 0 ∷ region 0 16 ∷ region 1 0 ∷ region 1 16 ∷ []))
+    -- "15 leaves the first regions."
+    ∷ graph delayAndEdge 2 (cut (region 0 0 ∷ region 0 16 ∷ []))
+    -- "In table order, branches in order", and "regions are then taken in number order": all that region 0 leads to comes
+    -- before what region 1 leads to.
+    ∷ graph edgesAndBranches 5 (whole (region 0 0 ∷ region 3 0 ∷ region 2 0 ∷ region 1 0 ∷ region 4 0 ∷ []))
     ∷ []
 
 -- All points are met.
 pub points-met : All Met points
 unfolding bodyLength bodyLengths recordOf bodyAt recordAt past rowsOf nextOf stepAt itemAt run runTable add gather modelOf readTable
-    resetIn delay
+    resetIn delay placed stateCell
+    P.clockAt P.delayed P.afterReset largestConstant boundsOf meets fits landing lands delayNext edgeNext G.nextOf first
+    sameRegion exploreFrom explore outcomeOf
 points-met =
     also refl (also refl (also refl (also refl (also refl (also refl
     (also refl (also refl (also refl (also refl (also refl (also refl
     (also refl (also refl (also refl (also refl (also refl (also refl
-    (also refl (also refl (also refl (also refl none)))))))))))))))))))))
+    (also refl (also refl (also refl (also refl (also refl (also refl
+    (also refl (also refl (also refl (also refl none)))))))))))))))))))))))))))
+
+-- The printed model's own row.
+pub printed-read : readTable printed ≡ accepted printedModel
+unfolding bodyLength bodyLengths recordOf bodyAt recordAt past rowsOf nextOf stepAt itemAt run runTable add gather modelOf readTable
+printed-read = refl

@@ -3,8 +3,9 @@
 use Prim.Native.Nat.{ℕ, zero, suc}
 use mathlib.Core.Bool.{Bool, cond}
 use mathlib.Core.List.{List, [], _∷_, map}
-use lib.ListN.{getD}
+use lib.ListN.{length, getD}
 use Rattle.table.specs.Model.{Model, Edge}
+use Rattle.table.specs.Reading.{Answer, refusal, accepted}
 use Rattle.table.specs.declared.model.Branch.{Branch}
 use Rattle.regions.specs.Graph.{boundsOf, landing, available, delayNext}
 use Rattle.regions.specs.Explore.{sameRegion}
@@ -48,3 +49,8 @@ stepsFrom m found r (e ∷ l) = cond (available m e r) (stepOf m found r e ∷ s
 -- The steps of a region: its available edges in table order, branches in order.
 unfoldable pub stepsOf : Model → List Region → Region → List Step
 stepsOf m found r = stepsFrom m found r (m .edges)
+
+-- How many edges a table that was read has; a table that is refused has none (a choice of ours).
+abbrev pub edgesRead : Answer → ℕ
+edgesRead (refusal number place) = 0
+edgesRead (accepted m) = length (m .edges)

@@ -10,7 +10,8 @@ ghost use Rattle.regions.specs.Call.{roomFor, fromAnswer, outcomeOf, gra
 use crate::bounds::bounds_of;
 use crate::entry::ENTRY_BYTES;
 use crate::explore::explore_all;
-use crate::guards::meets_invariant;
+use crate::limits::list_limits;
+use crate::limits::meets_invariant;
 use crate::region::Region;
 use table::Reading;
 use table::Shape;
@@ -47,7 +48,7 @@ fn whole_entries(bytes: usize) -> usize
 }
 
 // The graph of a table that was read.
-fn graph_of(bytes: &[u8], shape: Shape, entries: &mut [u8]) -> Graph
+pub(crate) fn graph_of(bytes: &[u8], shape: Shape, entries: &mut [u8]) -> Graph
     ensures { λ r. ⌜ ((m : Model) → Reads (now (bytes .entry)) shape m
         → (r ≡ graphOf (fromAnswer (roomFor (length (now (entries .entry)))) (accepted m)))
         × (now (entries .exit) ≡ entriesAfter (now (entries .entry)) (fromAnswer (roomFor (length (now (entries .entry)))) (accepted m)))) ⌝ }
@@ -64,16 +65,28 @@ fn graph_of(bytes: &[u8], shape: Shape, entries: &mut [u8]) -> Graph
         &mut actions,
         &mut denominators,
     );
+    let mut limits = [65535u16; 1024];
+    list_limits(bytes, shape, &mut limits);
     let bounds = bounds_of(bytes, shape, &places);
     let start = first_of(shape);
-    if !meets_invariant(bytes, shape, bounds, start) {
+    if !meets_invariant(&limits, bounds, start) {
         return Graph::Refused {
             number: 14,
             place: 0,
         };
     }
     let cap = whole_entries(entries.len());
-    let met = explore_all(bytes, shape, &places, &sources, bounds, start, cap, entries);
+    let met = explore_all(
+        bytes,
+        shape,
+        &limits,
+        &places,
+        &sources,
+        bounds,
+        start,
+        cap,
+        entries,
+    );
     if met.full {
         return Graph::Refused {
             number: 15,

@@ -7,6 +7,7 @@ ghost use Rattle.table.specs.Model.{Model};
 ghost use Rattle.table.specs.Reads.{Reads, ReadsEdge, edgeOf};
 ghost use Rattle.regions.specs.Graph.{landing, gather, boundsOf, edgeNext, delayNext, nextOf};
 ghost use Rattle.regions.specs.Edges.{Arrays};
+ghost use Rattle.regions.specs.Limits.{Limited};
 ghost use Rattle.regions.specs.Worklist.{exploreFrom, explore};
 ghost use Rattle.regions.specs.Entries.{entryBytes, maxEntries};
 ghost use Rattle.regions.specs.Explore.{Room, Kept, Left, AllMet, sameRegion, listed, foundOf};
@@ -14,10 +15,10 @@ ghost use Rattle.regions.specs.declared.region.Region.{Region};
 use crate::entry::read_entry;
 use crate::guards::is_available;
 use crate::guards::landing_of;
-use crate::guards::meets_invariant;
 use crate::index::Lookup;
 use crate::index::add;
 use crate::index::find;
+use crate::limits::meets_invariant;
 use crate::region::Bounds;
 use crate::region::Region;
 use table::Shape;
@@ -103,7 +104,7 @@ fn meet_branches(
 // The targets of an edge are met, where it is available.
 fn meet_edge(
     bytes: &[u8],
-    shape: Shape,
+    limits: &[u16],
     place: usize,
     source: usize,
     bounds: Bounds,
@@ -117,11 +118,11 @@ fn meet_edge(
     requires { ⌜ Room cap (now entries) (now heads) (now nexts) n ⌝ }
     ensures { λ met. ⌜ Kept cap n (now (entries .entry)) (now (heads .entry)) (now (nexts .entry))
         (now (entries .exit)) (now (heads .exit)) (now (nexts .exit)) (met .count) ⌝ }
-    ensures { λ met. ⌜ ((m : Model) (e : ℕ) → Reads (now (bytes .entry)) shape m → ReadsEdge (now (bytes .entry)) place m e
+    ensures { λ met. ⌜ ((m : Model) (e : ℕ) → Limited m (now (limits .entry)) → ReadsEdge (now (bytes .entry)) place m e
         → source ≡ edgeOf m e .source → bounds ≡ boundsOf m
         → AllMet cap n (edgeNext m r (edgeOf m e)) (now (entries .entry)) (now (entries .exit)) met) ⌝ }
 {
-    if is_available(bytes, shape, place, source, bounds, r) {
+    if is_available(bytes, limits, place, source, bounds, r) {
         return meet_branches(bytes, place, bounds, r, n, cap, entries, heads, nexts);
     }
     Met {
@@ -132,8 +133,7 @@ fn meet_edge(
 
 // The region that follows by delay is met, if any does and it meets its invariant.
 fn meet_delay(
-    bytes: &[u8],
-    shape: Shape,
+    limits: &[u16],
     bounds: Bounds,
     r: Region,
     n: usize,
@@ -145,7 +145,7 @@ fn meet_delay(
     requires { ⌜ Room cap (now entries) (now heads) (now nexts) n ⌝ }
     ensures { λ met. ⌜ Kept cap n (now (entries .entry)) (now (heads .entry)) (now (nexts .entry))
         (now (entries .exit)) (now (heads .exit)) (now (nexts .exit)) (met .count) ⌝ }
-    ensures { λ met. ⌜ ((m : Model) → Reads (now (bytes .entry)) shape m → bounds ≡ boundsOf m
+    ensures { λ met. ⌜ ((m : Model) → Limited m (now (limits .entry)) → bounds ≡ boundsOf m
         → AllMet cap n (delayNext m r) (now (entries .entry)) (now (entries .exit)) met) ⌝ }
 {
     let moved = r.delay(bounds);
@@ -156,7 +156,7 @@ fn meet_delay(
             count: n,
         };
     }
-    if !meets_invariant(bytes, shape, bounds, q) {
+    if !meets_invariant(limits, bounds, q) {
         return Met {
             full: false,
             count: n,
@@ -169,6 +169,7 @@ fn meet_delay(
 fn meet_edges(
     bytes: &[u8],
     shape: Shape,
+    limits: &[u16],
     places: &[usize],
     sources: &[usize],
     bounds: Bounds,
@@ -182,7 +183,7 @@ fn meet_edges(
     requires { ⌜ Room cap (now entries) (now heads) (now nexts) n ⌝ }
     ensures { λ met. ⌜ Kept cap n (now (entries .entry)) (now (heads .entry)) (now (nexts .entry))
         (now (entries .exit)) (now (heads .exit)) (now (nexts .exit)) (met .count) ⌝ }
-    ensures { λ met. ⌜ ((m : Model) → Reads (now (bytes .entry)) shape m → Arrays m (now (places .entry)) (now (sources .entry))
+    ensures { λ met. ⌜ ((m : Model) → Reads (now (bytes .entry)) shape m → Limited m (now (limits .entry)) → Arrays m (now (places .entry)) (now (sources .entry))
         → bounds ≡ boundsOf m
         → AllMet cap n (gather (edgeNext m r) (m .edges)) (now (entries .entry)) (now (entries .exit)) met) ⌝ }
 {
@@ -194,7 +195,7 @@ fn meet_edges(
         let source = table::number_at(sources, i);
         let met = meet_edge(
             bytes,
-            shape,
+            limits,
             place,
             source,
             bounds,
@@ -221,6 +222,7 @@ fn meet_edges(
 fn meet_next(
     bytes: &[u8],
     shape: Shape,
+    limits: &[u16],
     places: &[usize],
     sources: &[usize],
     bounds: Bounds,
@@ -234,10 +236,10 @@ fn meet_next(
     requires { ⌜ Room cap (now entries) (now heads) (now nexts) n ⌝ }
     ensures { λ met. ⌜ Kept cap n (now (entries .entry)) (now (heads .entry)) (now (nexts .entry))
         (now (entries .exit)) (now (heads .exit)) (now (nexts .exit)) (met .count) ⌝ }
-    ensures { λ met. ⌜ ((m : Model) → Reads (now (bytes .entry)) shape m → Arrays m (now (places .entry)) (now (sources .entry))
+    ensures { λ met. ⌜ ((m : Model) → Reads (now (bytes .entry)) shape m → Limited m (now (limits .entry)) → Arrays m (now (places .entry)) (now (sources .entry))
         → bounds ≡ boundsOf m → AllMet cap n (nextOf m r) (now (entries .entry)) (now (entries .exit)) met) ⌝ }
 {
-    let met = meet_delay(bytes, shape, bounds, r, n, cap, entries, heads, nexts);
+    let met = meet_delay(limits, bounds, r, n, cap, entries, heads, nexts);
     if met.full {
         return met;
     }
@@ -245,6 +247,7 @@ fn meet_next(
     meet_edges(
         bytes,
         shape,
+        limits,
         places,
         sources,
         bounds,
@@ -261,6 +264,7 @@ fn meet_next(
 fn explore_listed(
     bytes: &[u8],
     shape: Shape,
+    limits: &[u16],
     places: &[usize],
     sources: &[usize],
     bounds: Bounds,
@@ -273,7 +277,7 @@ fn explore_listed(
     ensures { λ met. ⌜ Kept cap 1 (now (entries .entry)) (now (heads .entry)) (now (nexts .entry))
         (now (entries .exit)) (now (heads .exit)) (now (nexts .exit)) (met .count) ⌝ }
     ensures { λ met. ⌜ ((m : Model) (d : Region) → Reads (now (bytes .entry)) shape m
-        → Arrays m (now (places .entry)) (now (sources .entry)) → bounds ≡ boundsOf m
+        → Limited m (now (limits .entry)) → Arrays m (now (places .entry)) (now (sources .entry)) → bounds ≡ boundsOf m
         → exploreFrom sameRegion (nextOf m) (suc cap) cap d (listed (now (entries .entry)) 1) 0
         ≡ foundOf (met .full) (listed (now (entries .exit)) (met .count))) ⌝ }
 {
@@ -284,6 +288,7 @@ fn explore_listed(
         let met = meet_next(
             bytes,
             shape,
+            limits,
             places,
             sources,
             bounds,
@@ -310,6 +315,7 @@ fn explore_listed(
 pub(crate) fn explore_all(
     bytes: &[u8],
     shape: Shape,
+    limits: &[u16],
     places: &[usize],
     sources: &[usize],
     bounds: Bounds,
@@ -320,7 +326,7 @@ pub(crate) fn explore_all(
     requires { ⌜ (cap ≤ maxEntries) × (entryBytes * cap ≤ length (now entries)) ⌝ }
     ensures { λ met. ⌜ Left (now (entries .entry)) (now (entries .exit)) (met .count) ⌝ }
     ensures { λ met. ⌜ ((m : Model) → Reads (now (bytes .entry)) shape m
-        → Arrays m (now (places .entry)) (now (sources .entry)) → bounds ≡ boundsOf m
+        → Limited m (now (limits .entry)) → Arrays m (now (places .entry)) (now (sources .entry)) → bounds ≡ boundsOf m
         → explore sameRegion (nextOf m) cap start ≡ foundOf (met .full) (listed (now (entries .exit)) (met .count))) ⌝ }
 {
     if cap < 1 {
@@ -335,6 +341,7 @@ pub(crate) fn explore_all(
     explore_listed(
         bytes,
         shape,
+        limits,
         places,
         sources,
         bounds,

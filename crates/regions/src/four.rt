@@ -38,7 +38,7 @@ fn and_four(a: bool, b: bool, c: bool, d: bool) -> bool
     d
 }
 
-fn or_four(a: bool, b: bool, c: bool, d: bool) -> bool
+pub(crate) fn or_four(a: bool, b: bool, c: bool, d: bool) -> bool
     ensures { λ r. ⌜ r ≡ (a || (b || (c || (d || false)))) ⌝ }
 {
     if a {

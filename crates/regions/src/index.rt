@@ -79,6 +79,18 @@ pub(crate) fn find(entries: &[u8], head: &[u16], next: &[u16], n: usize, r: Regi
     Lookup::Nothing
 }
 
+// Puts a region that is entry n into the index of the first n.
+pub(crate) fn link_entry(r: Region, n: usize, head: &mut [u16], next: &mut [u16])
+    requires { ⌜ (bucketCount ≤ length (now head)) × (n < maxEntries) × (n < length (now next)) ⌝ }
+    requires { ⌜ getD (now head) (hashOf r) 0 ≤ maxEntries ⌝ }
+    ensures { λ _. ⌜ (now (head .exit) ≡ set (now (head .entry)) (hashOf r) (n + 1))
+        × (now (next .exit) ≡ set (now (next .entry)) n (getD (now (head .entry)) (hashOf r) 0)) ⌝ }
+{
+    let bucket = hash_of(r);
+    put_link(next, n, link_at(head, bucket));
+    put_link(head, bucket, n + 1);
+}
+
 // Stores a region as entry n, and puts it into the index of the first n.
 pub(crate) fn add(r: Region, n: usize, entries: &mut [u8], head: &mut [u16], next: &mut [u16])
     requires { ⌜ Index (now entries) (now head) (now next) n ⌝ }
@@ -86,8 +98,6 @@ pub(crate) fn add(r: Region, n: usize, entries: &mut [u8], head: &mut [u16], nex
     ensures { λ _. ⌜ Added r n (now (entries .entry)) (now (head .entry)) (now (next .entry))
         (now (entries .exit)) (now (head .exit)) (now (next .exit)) ⌝ }
 {
-    let bucket = hash_of(r);
     write_entry(entries, n, r);
-    put_link(next, n, link_at(head, bucket));
-    put_link(head, bucket, n + 1);
+    link_entry(r, n, head, next);
 }

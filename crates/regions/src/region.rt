@@ -44,14 +44,14 @@ pub enum Verdict {
 }
 
 // Byte i of four, and 0 past them.
-fn byte_of(four: [u8; 4], i: usize) -> u8
+pub(crate) fn byte_of(four: [u8; 4], i: usize) -> u8
     ensures { λ r. ⌜ r ≡ getD four i 0 ⌝ }
 {
     if i < 4 { four[i] } else { 0 }
 }
 
 // Clock i of a region. A clock beyond the count takes no part: it counts as over.
-fn clock_at(r: Region, bounds: Bounds, i: usize) -> Clock
+pub(crate) fn clock_at(r: Region, bounds: Bounds, i: usize) -> Clock
     ensures { λ k. ⌜ k ≡ clockAt bounds r i ⌝ }
 {
     let count = bounds.count as usize;
@@ -84,7 +84,7 @@ fn clocks_of(r: Region, bounds: Bounds) -> Four
 }
 
 // A byte of clock i, and 0 beyond the count.
-fn kept(count: u8, i: u8, x: u8) -> u8
+pub(crate) fn kept(count: u8, i: u8, x: u8) -> u8
     ensures { λ r. ⌜ r ≡ byteAt count i x ⌝ }
 {
     if i < count { x } else { 0 }

@@ -23,7 +23,7 @@ use Rattle.regions.specs.declared.region.Verdict.{Verdict}
 use Rattle.regions.specs.declared.region.Verdict.the-variants.{Holds, Fails, Unknown}
 
 -- What all items of a list are, each item of it is.
-all-at : {A : Type 0} {P : A → Type 0} {x : A} (l : List A) → All P l → List·Memᴰ x l → P x
+pub all-at : {A : Type 0} {P : A → Type 0} {x : A} (l : List A) → All P l → List·Memᴰ x l → P x
 all-at {P} (y ∷ l) (also h t) (List·Memᴰ·head e) = subst P (sym e) h
 all-at (y ∷ l) (also h t) (List·Memᴰ·tail n) = all-at l t n
 
@@ -81,10 +81,10 @@ module _ (m : Model) where
       omega arith
 
   -- What is sound in a model that was read, at one of its atoms.
-  sound-guard : Sound m → (e : Edge) (g : Guard) → List·Memᴰ e (m .edges) → List·Memᴰ g (e .guards) → SoundGuard (m .clocks) g
+  pub sound-guard : Sound m → (e : Edge) (g : Guard) → List·Memᴰ e (m .edges) → List·Memᴰ g (e .guards) → SoundGuard (m .clocks) g
   sound-guard s e g n k = all-at (e .guards) (all-at (m .edges) (s .edges) n .guards) k
 
-  sound-invariant : Sound m → (a : Invariant) → List·Memᴰ a (m .invariants) → SoundInvariant (m .clocks) (m .locations) a
+  pub sound-invariant : Sound m → (a : Invariant) → List·Memᴰ a (m .invariants) → SoundInvariant (m .clocks) (m .locations) a
   sound-invariant s a n = all-at (m .invariants) (s .invariants) n
 
   invariants-small : Sound m → largestOf constantOf (m .invariants) ≤ maxConstant

@@ -15,17 +15,14 @@ use Rattle.regions.specs.Packed.{delayed}
 use Rattle.regions.specs.Graph.{every, boundsOf, meets, fits, landing, lands, available, delayNext, gather, edgeNext, nextOf, first}
 use Rattle.regions.specs.Graph.{Leads, by-delay, by-edge, Reached, begun, led}
 use Rattle.regions.specs.Worklist.{Found, complete, full, explore, Reach, here, on}
-use Rattle.regions.specs.Explore.{sameRegion, same-true, same-refl}
+use Rattle.regions.specs.Explore.{both-true, sameRegion, same-true, same-refl}
 use Rattle.regions.specs.Call.{Outcome, refused, cut, whole, fromFound, fromAnswer, outcomeOf}
-use Rattle.regions.specs.Laws.Worklist.{Begins, Different, different-grown, no-more, complete-all, full-room, larger-complete, larger-full}
+use Rattle.regions.specs.Laws.Worklist.{Begins, Different, different-grown, no-more, complete-all, full-room, full-first, larger-complete, larger-full}
+use Rattle.regions.specs.Laws.Worklist.{itemsOf}
 use Rattle.regions.specs.declared.region.Region.{Region}
 
 pub false-true : {A : Type 0} → false ≡ true → A
 false-true e = absurd (let z : _≡_ {A = ℕ} 0 1 = cc in omega arith)
-
-pub both-true : (a b : Bool) → (a && b) ≡ true → (a ≡ true) × (b ≡ true)
-both-true true b e = (refl, e)
-both-true false b e = false-true e
 
 -- ---- What a region leads to, and what is reached
 
@@ -110,8 +107,9 @@ module _ (m : Model) where
     pub different : Different found
     pub all : (r : Region) → Reached m r ↔ List·Memᴰ r found
 
-  -- As many of them as there is room for, and another one is reached.
+  -- As many of them as there is room for, each once, region 0 first, and another one is reached.
   pub record FirstRegions (cap : ℕ) (found : List Region) : Type 0 where
+    pub zeroth : (d : Region) → 0 < cap → getD found 0 d ≡ first m
     pub fills : length found ≡ cap
     pub different : Different found
     pub reached : (r : Region) → List·Memᴰ r found → Reached m r
@@ -133,6 +131,7 @@ module _ (m : Model) where
   cut-of cap found e =
       let a = full-room sameRegion (nextOf m) same-true same-refl cap (first m) found e in
       record {
+        zeroth = full-first sameRegion (nextOf m) cap (first m) found e;
         fills = a .fills;
         different = a .sound .different;
         reached = λ r n. to-reached r (a .sound .reached r n);
@@ -146,7 +145,8 @@ kindOf (refused number place) = 0
 kindOf (cut found) = 1
 kindOf (whole found) = 2
 
-abbrev regionsIn : Outcome → List Region
+-- The regions that an outcome lists.
+abbrev pub regionsIn : Outcome → List Region
 regionsIn (refused number place) = []
 regionsIn (cut found) = found
 regionsIn (whole found) = found
@@ -195,6 +195,25 @@ module _ (table : List ℕ) (cap : ℕ) (found : List Region) where
   cut-ran b (complete l) c g = absurd (omega (arith, ap kindOf g))
   cut-ran b (full l) c g = c ∙ ap full (ap regionsIn g)
 
+  -- What exploring came to.
+  pub whole-explored : (m : Model) → outcomeOf table cap ≡ whole found → readTable table ≡ accepted m
+      → explore sameRegion (nextOf m) cap (first m) ≡ complete found
+  whole-explored m e read =
+      let r = ran table cap (whole found) (omega arith) e in
+      let b = r .begun in
+      let same : b .model ≡ m = cc (b .read, read) in
+      subst (λ k. explore sameRegion (nextOf k) cap (first k) ≡ complete found) same
+      (whole-ran b (r .found) (r .comes) (r .gives))
+
+  pub cut-explored : (m : Model) → outcomeOf table cap ≡ cut found → readTable table ≡ accepted m
+      → explore sameRegion (nextOf m) cap (first m) ≡ full found
+  cut-explored m e read =
+      let r = ran table cap (cut found) (omega arith) e in
+      let b = r .begun in
+      let same : b .model ≡ m = cc (b .read, read) in
+      subst (λ k. explore sameRegion (nextOf k) cap (first k) ≡ full found) same
+      (cut-ran b (r .found) (r .comes) (r .gives))
+
   -- N is answered: the entries are all regions that are reached, each once, region 0 first.
   pub whole-graph : outcomeOf table cap ≡ whole found → (b : Begun table) × AllRegions (b .model) found × (length found ≤ cap)
   whole-graph e =
@@ -203,6 +222,14 @@ module _ (table : List ℕ) (cap : ℕ) (found : List Region) where
       let c = whole-ran b (r .found) (r .comes) (r .gives) in
       let a = complete-all sameRegion (nextOf (b .model)) same-true same-refl cap (first (b .model)) found c in
       (b, whole-of (b .model) cap found c, a .sound .fits)
+
+  -- The same for the model that the table was read as, whose region 0 meets its invariant.
+  pub whole-model : (m : Model) → outcomeOf table cap ≡ whole found → readTable table ≡ accepted m
+      → AllRegions m found × (meets (boundsOf m) (m .invariants) (first m) ≡ true)
+  whole-model m e read =
+      let (b, all, few) = whole-graph e in
+      let same : b .model ≡ m = cc (b .read, read) in
+      subst (λ k. AllRegions k found × (meets (boundsOf k) (k .invariants) (first k) ≡ true)) same (all, b .meets-first)
 
   -- 15 is answered: the entries are as many reached regions as there is room for, each once, and there are more.
   pub cut-graph : outcomeOf table cap ≡ cut found → (b : Begun table) × FirstRegions (b .model) cap found
@@ -256,17 +283,30 @@ pub record MoreReached (m : Model) (cap : ℕ) : Type 0 where
   pub reached : (r : Region) → List·Memᴰ r regions → Reached m r
   pub many : cap < length regions
 
--- "15 leaves the first regions": with more room the same regions come first.
-pub cut-begins : (table : List ℕ) (cap cap′ : ℕ) (found more : List Region) → cap ≤ cap′ → outcomeOf table cap ≡ cut found
-    → outcomeOf table cap′ ≡ whole more → Begins found more
-unfolding outcomeOf
-cut-begins table cap cap′ found more h e e′ =
-    let r = ran table cap (cut found) (omega arith) e in
-    let b = r .begun in
-    let c = cut-ran table cap found b (r .found) (r .comes) (r .gives) in
-    let k : fromFound (explore sameRegion (nextOf (b .model)) cap′ (first (b .model))) ≡ whole more =
-    rw (b .read, b .meets-first) at e′ in
-    rw (whole-ran table cap′ more b _ refl k) at (larger-full sameRegion (nextOf (b .model)) cap cap′ (first (b .model)) found h c)
+module _ (table : List ℕ) (cap cap′ : ℕ) (found : List Region) (h : cap ≤ cap′) (e : outcomeOf table cap ≡ cut found) where
+  items-of : (f : Found Region) → itemsOf f ≡ regionsIn (fromFound f)
+  items-of (complete l) = refl
+  items-of (full l) = refl
+
+  -- "15 leaves the first regions": with more room the same regions come first, be all listed then or not.
+  pub cut-first : Begins found (regionsIn (outcomeOf table cap′))
+  unfolding outcomeOf
+  cut-first =
+      let r = ran table cap (cut found) (omega arith) e in
+      let b = r .begun in
+      let c = cut-ran table cap found b (r .found) (r .comes) (r .gives) in
+      let more = explore sameRegion (nextOf (b .model)) cap′ (first (b .model)) in
+      let out : outcomeOf table cap′ ≡ fromFound more = rw (b .read, b .meets-first) refl in
+      subst (Begins found) (items-of more ∙ sym (ap regionsIn out))
+      (larger-full sameRegion (nextOf (b .model)) cap cap′ (first (b .model)) found h c)
+
+  -- Where all are listed then.
+  pub cut-begins : (more : List Region) → outcomeOf table cap′ ≡ whole more → Begins found more
+  cut-begins more out = subst (Begins found) (ap regionsIn out) cut-first
+
+  -- Where there is no room for all then either.
+  pub cut-begins-cut : (more : List Region) → outcomeOf table cap′ ≡ cut more → Begins found more
+  cut-begins-cut more out = subst (Begins found) (ap regionsIn out) cut-first
 
 module _ (table : List ℕ) (cap : ℕ) (b : Begun table) where
   outcome-is : outcomeOf table cap ≡ fromFound (explore sameRegion (nextOf (b .model)) cap (first (b .model)))

@@ -22,23 +22,23 @@ Proper (at m w f) = (w ≤ m) × (w ≡ m → f ≡ 0)
 abbrev pub NoGap : List Cell → Type 0
 NoGap cs = (f : ℕ) → member f (map fractionOf cs) ≡ true → (k : ℕ) → 0 < k → k ≤ f → member k (map fractionOf cs) ≡ true
 
-both : (b : Bool) → (b ≡ true) ⊎ (b ≡ false)
+pub both : (b : Bool) → (b ≡ true) ⊎ (b ≡ false)
 both true = inl refl
 both false = inr refl
 
-true-false : true ≡ false → ⊥
+pub true-false : true ≡ false → ⊥
 true-false e = let z : _≡_ {A = ℕ} 0 1 = cc in omega arith
 
 -- ---- Cells of a list
 
 -- A cell of a list to which a function was applied comes from one of the list.
-from-map : (g : Cell → Cell) (cs : List Cell) (c : Cell) → List·Memᴰ c (map g cs) → (x : Cell) × List·Memᴰ x cs × (c ≡ g x)
+pub from-map : (g : Cell → Cell) (cs : List Cell) (c : Cell) → List·Memᴰ c (map g cs) → (x : Cell) × List·Memᴰ x cs × (c ≡ g x)
 from-map g [] c n = absurd (List·Memᴰ·not-nil n)
 from-map g (x ∷ cs) c (List·Memᴰ·head p) = (x, List·Memᴰ·head refl, p)
 from-map g (x ∷ cs) c (List·Memᴰ·tail n) = let r = from-map g cs c n in (r .0, List·Memᴰ·tail (r .1), r .2)
 
 -- Where no cell of a list passes a test, each fails it.
-none : (p : Cell → Bool) (cs : List Cell) (x : Cell) → some p cs ≡ false → List·Memᴰ x cs → p x ≡ false
+pub none : (p : Cell → Bool) (cs : List Cell) (x : Cell) → some p cs ≡ false → List·Memᴰ x cs → p x ≡ false
 none p (y ∷ cs) x e (List·Memᴰ·head q) = ap p q ∙ go (p y) e
   where
     go : (b : Bool) → (b || some p cs) ≡ false → b ≡ false
@@ -64,7 +64,7 @@ restarted-proper mask i (x ∷ cs) h c (List·Memᴰ·head p) =
     subst Proper (sym p) (restart-proper (resetIn mask i) x (h x (List·Memᴰ·head refl)))
 restarted-proper mask i (x ∷ cs) h c (List·Memᴰ·tail n) = restarted-proper mask (suc i) cs (λ y t. h y (List·Memᴰ·tail t)) c n
 
-closed-proper : (fs : List ℕ) (c : Cell) → Proper c → Proper (closed fs c)
+pub closed-proper : (fs : List ℕ) (c : Cell) → Proper c → Proper (closed fs c)
 closed-proper fs (over m) h = h
 closed-proper fs (at m w f) h = (h .0, λ e. ap (rank fs) (h .1 e))
 
@@ -140,7 +140,7 @@ has k (x ∷ cs) e =
       | inr t ↦ let r = has k cs (rw t at e) in (r .0, List·Memᴰ·tail (r .1), r .2)
     ]
 
-or-true : (a b : Bool) → b ≡ true → (a || b) ≡ true
+pub or-true : (a b : Bool) → b ≡ true → (a || b) ≡ true
 or-true true b e = refl
 or-true false b e = e
 
@@ -149,7 +149,7 @@ pub gives-own : (k : ℕ) (cs : List Cell) (x : Cell) → List·Memᴰ x cs → 
 gives-own k (y ∷ cs) x (List·Memᴰ·head p) e = rw (eq-eqb k (fractionOf y) (e ∙ ap fractionOf p)) refl
 gives-own k (y ∷ cs) x (List·Memᴰ·tail n) e = or-true (eqb k (fractionOf y)) _ (gives-own k cs x n e)
 
-to-map : (g : Cell → Cell) (cs : List Cell) (x : Cell) → List·Memᴰ x cs → List·Memᴰ (g x) (map g cs)
+pub to-map : (g : Cell → Cell) (cs : List Cell) (x : Cell) → List·Memᴰ x cs → List·Memᴰ (g x) (map g cs)
 to-map g (y ∷ cs) x (List·Memᴰ·head p) = List·Memᴰ·head (ap g p)
 to-map g (y ∷ cs) x (List·Memᴰ·tail n) = List·Memᴰ·tail (to-map g cs x n)
 
@@ -166,7 +166,7 @@ had g k cs e =
     let s = from-map g cs (r .0) (r .1) in
     (s .0, s .1, r .2 ∙ ap fractionOf (s .2))
 
-closed-rank : (fs : List ℕ) (c : Cell) → fractionOf (closed fs c) ≡ rank fs (fractionOf c)
+pub closed-rank : (fs : List ℕ) (c : Cell) → fractionOf (closed fs c) ≡ rank fs (fractionOf c)
 closed-rank fs (over m) = refl
 closed-rank fs (at m w f) = refl
 
@@ -191,7 +191,7 @@ ranked fs (suc g) k p h = go (ranked fs g k p) (member (suc g) fs) refl h
     go rest true e q = elim (split q) [ inl t ↦ (suc g, e, t ∙ up e) | inr t ↦ rest t ]
     go rest false e q = rest q
 
-close-no-gap : (cs : List Cell) → NoGap (close cs)
+pub close-no-gap : (cs : List Cell) → NoGap (close cs)
 close-no-gap cs f e k p h =
     let fs = map fractionOf cs in
     let r = had (closed fs) f cs e in
@@ -205,7 +205,7 @@ reset-no-gap mask cs = close-no-gap (restarted mask 0 cs)
 -- ---- Delay opens no gap between ranks
 
 -- Where some cell of a list passes a test, here is one.
-one : (p : Cell → Bool) (cs : List Cell) → some p cs ≡ true → (x : Cell) × List·Memᴰ x cs × (p x ≡ true)
+pub one : (p : Cell → Bool) (cs : List Cell) → some p cs ≡ true → (x : Cell) × List·Memᴰ x cs × (p x ≡ true)
 one p [] e = absurd (true-false (sym e))
 one p (x ∷ cs) e =
     elim (both (p x)) [
@@ -271,7 +271,7 @@ leave-no-gap cs h =
     ]
 
 -- No rank is above the highest.
-most : (cs : List Cell) (x : Cell) → List·Memᴰ x cs → fractionOf x ≤ highest cs
+pub most : (cs : List Cell) (x : Cell) → List·Memᴰ x cs → fractionOf x ≤ highest cs
 most (y ∷ cs) x (List·Memᴰ·head p) = let e : fractionOf x ≡ fractionOf y = ap fractionOf p in omega arith
 most (y ∷ cs) x (List·Memᴰ·tail n) = omega (arith, most cs x n)
 

@@ -20,10 +20,11 @@ use Rattle.regions.specs.Packed.{overPart, cellOf, clockOf, clockAt, unp
 use Rattle.regions.specs.Packed.{cell-over, cell-at, clock-within, clock-beyond}
 use Rattle.regions.specs.Graph.{largestConstant, boundsOf, meets, landing, available, delayNext, gather, edgeNext, first}
 use Rattle.regions.specs.Graph.{by-delay, by-edge, Reached, begun, led}
+use Rattle.regions.specs.Explore.{both-true}
 use Rattle.regions.specs.Laws.Bounds.{constants-small}
 use Rattle.regions.specs.Laws.Cells.{Proper, NoGap, reset-proper, delay-proper, reset-no-gap, delay-no-gap, delay-cases, gives-own, has}
 use Rattle.regions.specs.Laws.Worklist.{Different, no-more}
-use Rattle.regions.specs.Laws.Call.{false-true, both-true, gathered, kept}
+use Rattle.regions.specs.Laws.Call.{false-true, gathered, kept}
 use Rattle.regions.specs.declared.clock.Clock.{Clock}
 use Rattle.regions.specs.declared.region.Region.{Region}
 use Rattle.regions.specs.declared.region.Bounds.{Bounds}
@@ -90,15 +91,20 @@ pub record Formed (bounds : Bounds) (r : Region) : Type 0 where
   pub proper : (c : Cell) → List·Memᴰ c (unpack bounds r) → Proper c
   pub no-gap : NoGap (unpack bounds r)
 
-abbrev boundOf : Cell → ℕ
+-- The bound that a cell carries.
+abbrev pub boundOf : Cell → ℕ
 boundOf (over m) = m
 boundOf (at m w f) = m
+
+-- Four cells by their numbers.
+abbrev pub cellsBy : (ℕ → Cell) → List Cell
+cellsBy c = c 0 ∷ c 1 ∷ c 2 ∷ c 3 ∷ []
 
 -- ---- Cells that are written and read again
 
 module _ (bounds : Bounds) where
   -- What cell i of a list that is read is, and what it must be to be written.
-  abbrev Read : ℕ → Cell → Type 0
+  abbrev pub Read : ℕ → Cell → Type 0
   Read i c = (i < bounds .count → boundOf c ≡ getD (bounds .bound) i 0) × (bounds .count ≤ i → c ≡ over 0)
 
   abbrev Fit : ℕ → Cell → Type 0
@@ -111,7 +117,8 @@ module _ (bounds : Bounds) where
       go true = refl
       go false = refl
 
-  is-read : (r : Region) (i : ℕ) → Read i (cellOf (clockAt bounds r i))
+  -- A clock of a region, as it is read.
+  pub is-read : (r : Region) (i : ℕ) → Read i (cellOf (clockAt bounds r i))
   is-read r i = (
     λ h. bound-kept (clockAt bounds r i) ∙ ap (λ (k : Clock). k .bound) (sym (clock-within bounds r i _ _ _ h refl refl refl)),
     λ h. ap cellOf (sym (clock-beyond bounds r i h)),
@@ -174,8 +181,8 @@ module _ (bounds : Bounds) where
   over-byte (over m) h p e = refl
   over-byte (at m w f) h p e = let low = p .0 in absurd (omega (arith, low, h, e))
 
-  inside : (i : ℕ) → (i < bounds .count) ⊎ (bounds .count ≤ i)
-  inside i =
+  pub within : (i : ℕ) → (i < bounds .count) ⊎ (bounds .count ≤ i)
+  within i =
       elim (both (ltb i (bounds .count))) [
         | inl e ↦ inl (ltb-true i (bounds .count) e)
         | inr e ↦ inr (ltb-false i (bounds .count) e)
@@ -196,21 +203,21 @@ module _ (bounds : Bounds) where
 
     again-rank : fractionOf c ≡ fractionOf (cellOf (clockAt bounds r i))
     again-rank =
-        elim (inside i) [
+        elim (within i) [
           | inl h ↦ ap fractionOf (sym (again h))
           | inr h ↦ fit .1 h ∙ sym (ap fractionOf (is-read r i .1 h))
         ]
 
     again-proper : Proper (cellOf (clockAt bounds r i))
     again-proper =
-        elim (inside i) [
+        elim (within i) [
           | inl h ↦ subst Proper (sym (again h)) p
           | inr h ↦ subst Proper (sym (is-read r i .1 h)) tt
         ]
 
     again-over : getD (r .whole) i 0 ≡ overPart → getD (r .rank) i 0 ≡ 0
     again-over e =
-        elim (inside i) [
+        elim (within i) [
           | inl h ↦ rank-is ∙ byte-within i _ h ∙ over-byte c (low-bound h) p (sym (whole-is ∙ byte-within i _ h) ∙ e)
           | inr h ↦ rank-is ∙ byte-beyond i _ h
         ]
@@ -288,6 +295,35 @@ module _ (bounds : Bounds) where
               written-ranks g;
         }
 
+  -- Cells as they are read, written as a region: it is well formed, and they are what is read there.
+  module _ (small : Small bounds) (l : ℕ) (c : ℕ → Cell) (read : (i : ℕ) → Read i (c i))
+      (p : (x : Cell) → List·Memᴰ x (cellsBy c) → Proper x) (g : NoGap (cellsBy c)) where
+    fit : (i : ℕ) → Fit i (c i)
+    fit i = read-fit (λ x. x) (λ x. refl) refl i (c i) (read i)
+
+    pub cells-formed : Formed bounds (pack bounds l (cellsBy c))
+    cells-formed = written-formed small l (c 0) (c 1) (c 2) (c 3) (fit 0) (fit 1) (fit 2) (fit 3) p g
+
+    cell-again : (i : ℕ) → List·Memᴰ (c i) (cellsBy c)
+        → getD (pack bounds l (cellsBy c) .whole) i 0 ≡ byteAt (bounds .count) i (clockOf (c i) .whole)
+        → getD (pack bounds l (cellsBy c) .rank) i 0 ≡ byteAt (bounds .count) i (clockOf (c i) .rank)
+        → cellOf (clockAt bounds (pack bounds l (cellsBy c)) i) ≡ c i
+    cell-again i n ew er =
+        elim (within i) [
+          | inl h ↦
+              let few = few-ranks (cellsBy c) (fractionOf (c i)) g (gives-own (fractionOf (c i)) (cellsBy c) (c i) n refl) in
+              again small (pack bounds l (cellsBy c)) i (c i) ew er (fit i) (p (c i) n) few h
+          | inr h ↦ is-read (pack bounds l (cellsBy c)) i .1 h ∙ sym (read i .1 h)
+        ]
+
+    pub cells-again : unpack bounds (pack bounds l (cellsBy c)) ≡ cellsBy c
+    cells-again =
+        let e₀ = cell-again 0 (List·Memᴰ·head refl) refl refl in
+        let e₁ = cell-again 1 (List·Memᴰ·tail (List·Memᴰ·head refl)) refl refl in
+        let e₂ = cell-again 2 (List·Memᴰ·tail (List·Memᴰ·tail (List·Memᴰ·head refl))) refl refl in
+        let e₃ = cell-again 3 (List·Memᴰ·tail (List·Memᴰ·tail (List·Memᴰ·tail (List·Memᴰ·head refl)))) refl refl in
+        λ j. e₀ j ∷ e₁ j ∷ e₂ j ∷ e₃ j ∷ []
+
 -- ---- Delay and reset keep a region well formed
 
 module _ (bounds : Bounds) (r : Region) (small : Small bounds) (formed : Formed bounds r) where
@@ -363,7 +399,7 @@ module _ (m : Model) (few : m .clocks ≤ 4) (low : largestConstant m ≤ 15) wh
   zero-cell : (i : ℕ) → getD (first m .whole) i 0 ≡ 0 → getD (first m .rank) i 0 ≡ 0
       → Proper (cellOf (clockAt (boundsOf m) (first m) i)) × (fractionOf (cellOf (clockAt (boundsOf m) (first m) i)) ≡ 0)
   zero-cell i ew er =
-      elim (inside (boundsOf m) i) [
+      elim (within (boundsOf m) i) [
         | inl h ↦
             let e : cellOf (clockAt (boundsOf m) (first m) i) ≡ at (getD (boundsOf m .bound) i 0) 0 0 =
             ap cellOf (sym (clock-within (boundsOf m) (first m) i _ 0 0 h refl (sym ew) (sym er))) in
@@ -441,25 +477,27 @@ module _ (bounds : Bounds) (r : Region) (small : Small bounds) (formed : Formed 
   listed-cell (suc (suc (suc (suc i)))) h = absurd (omega arith)
 
   -- A clock that is not over, as a cell.
-  cell-is : (i : ℕ) → i < bounds .count → (getD (r .whole) i 0 ≡ overPart → ⊥)
+  pub cell-is : (i : ℕ) → i < bounds .count → (getD (r .whole) i 0 ≡ overPart → ⊥)
       → cellOf (clockAt bounds r i) ≡ at (getD (bounds .bound) i 0) (getD (r .whole) i 0) (getD (r .rank) i 0)
   cell-is i h e =
       ap cellOf (sym (clock-within bounds r i _ _ _ h refl refl refl))
       ∙ cell-at (record { bound = getD (bounds .bound) i 0; whole = getD (r .whole) i 0; rank = getD (r .rank) i 0 }) e
 
-  cell-is-over : (i : ℕ) → i < bounds .count → getD (r .whole) i 0 ≡ overPart → cellOf (clockAt bounds r i) ≡ over (getD (bounds .bound) i 0)
+  -- One that is over.
+  pub cell-is-over : (i : ℕ) → i < bounds .count → getD (r .whole) i 0 ≡ overPart → cellOf (clockAt bounds r i) ≡ over (getD (bounds .bound) i 0)
   cell-is-over i h e =
       ap cellOf (sym (clock-within bounds r i _ _ _ h refl refl refl))
       ∙ cell-over (record { bound = getD (bounds .bound) i 0; whole = getD (r .whole) i 0; rank = getD (r .rank) i 0 }) e
 
-  over-or : (i : ℕ) → (getD (r .whole) i 0 ≡ overPart) ⊎ (getD (r .whole) i 0 ≡ overPart → ⊥)
+  pub over-or : (i : ℕ) → (getD (r .whole) i 0 ≡ overPart) ⊎ (getD (r .whole) i 0 ≡ overPart → ⊥)
   over-or i =
       elim (both (eqb (getD (r .whole) i 0) overPart)) [
         | inl e ↦ inl (eqb-true (getD (r .whole) i 0) overPart e)
         | inr e ↦ inr (eqb-false (getD (r .whole) i 0) overPart e)
       ]
 
-  proper-at : (i : ℕ) → i < bounds .count → (getD (r .whole) i 0 ≡ overPart → ⊥)
+  -- A clock that is not over is at most at its bound, and there it has rank 0.
+  pub proper-at : (i : ℕ) → i < bounds .count → (getD (r .whole) i 0 ≡ overPart → ⊥)
       → (getD (r .whole) i 0 ≤ getD (bounds .bound) i 0) × (getD (r .whole) i 0 ≡ getD (bounds .bound) i 0 → getD (r .rank) i 0 ≡ 0)
   proper-at i h e = subst Proper (cell-is i h e) (formed .proper _ (listed-cell i (omega (arith, small .few, h))))
 
@@ -472,7 +510,7 @@ module _ (bounds : Bounds) (r : Region) (small : Small bounds) (formed : Formed 
 
   rank-is-byte : (i : ℕ) → fractionOf (cellOf (clockAt bounds r i)) ≡ getD (r .rank) i 0
   rank-is-byte i =
-      elim (inside bounds i) [
+      elim (within bounds i) [
         | inl h ↦ elim (over-or i) [
           | inl e ↦ ap fractionOf (cell-is-over i h e) ∙ sym (formed .over-rank i e)
           | inr e ↦ ap fractionOf (cell-is i h e)
@@ -491,7 +529,7 @@ module _ (bounds : Bounds) (r : Region) (small : Small bounds) (formed : Formed 
   -- With a rank, every smaller one from 1 on is that of some clock.
   pub formed-no-gap : (i k : ℕ) → 0 < k → k ≤ getD (r .rank) i 0 → (j : ℕ) × (getD (r .rank) j 0 ≡ k)
   formed-no-gap i k p q =
-      elim (inside bounds i) [
+      elim (within bounds i) [
         | inr h ↦ absurd (omega (arith, p, q, formed .beyond i h .1))
         | inl h ↦
             let m = listed-cell i (omega (arith, small .few, h)) in
@@ -503,7 +541,7 @@ module _ (bounds : Bounds) (r : Region) (small : Small bounds) (formed : Formed 
   -- A rank is at most 4.
   pub formed-rank : (i : ℕ) → getD (r .rank) i 0 ≤ 4
   formed-rank i =
-      elim (inside bounds i) [
+      elim (within bounds i) [
         | inr h ↦ omega (arith, formed .beyond i h .1)
         | inl h ↦
             let m = listed-cell i (omega (arith, small .few, h)) in

@@ -1,5 +1,5 @@
--- Laws on the graph as the layers above see it: in a graph that was listed whole, delays and steps lead to numbers of regions, and the
--- region of that number is the one that follows, or the one landed in.
+-- Laws on the graph as the layers above see it: numbers of regions, and labels. In a graph that was listed whole, delays and
+-- steps lead to numbers of regions, and the region of that number is the one that follows, or the one landed in.
 use Prim.Native.Nat.{ℕ, zero, suc, _≤_, _<_}
 use native.Mathlib.Omega.{arith}
 use mathlib.Core.Path.{_≡_, refl, sym, _∙_, ap, subst}
@@ -9,10 +9,16 @@ use lib.ListN.{length, getD}
 use Rattle.table.specs.Model.{Model, Edge}
 use Rattle.table.specs.declared.model.Branch.{Branch}
 use Rattle.regions.specs.Graph.{boundsOf, landing, available, delayNext, gather, edgeNext, Leads, by-delay, by-edge, Reached, led}
+use Rattle.regions.specs.Graph.{DelaysTo, stays, goes}
+use Rattle.regions.specs.States.{State}
+use Rattle.regions.specs.Placing.{placed}
 use Rattle.regions.specs.Explore.{sameRegion, same-true, same-refl}
-use Rattle.regions.specs.View.{numberIn}
+use Rattle.regions.specs.View.{numberIn, labelOf}
 use Rattle.regions.specs.Laws.Call.{AllRegions, false-true, gathers}
 use Rattle.regions.specs.Laws.Graph.{edge-some}
+use Rattle.regions.specs.Laws.Locations.{delay-location}
+use Rattle.regions.specs.Laws.Worklist.{Different, member}
+use Rattle.regions.specs.declared.region.Bounds.{Bounds}
 use Rattle.regions.specs.declared.region.Region.{Region}
 
 -- A number of a list, whose region is this one.
@@ -32,6 +38,35 @@ has-number (q ∷ l) r n = go (sameRegion r q) refl n (λ t. has-number l r t)
     go false e (List·Memᴰ·head p) later = false-true (sym e ∙ ap (sameRegion r) (sym p) ∙ same-refl r)
     go false e (List·Memᴰ·tail t) later =
         let k = later t in record { inside = omega (arith, k .inside); is = λ d. k .is d }
+
+-- What has a number in a list is one of its regions.
+pub number-listed : (found : List Region) (r : Region) → numberIn found r < length found → List·Memᴰ r found
+unfolding numberIn
+number-listed [] r h = absurd (omega arith)
+number-listed (q ∷ l) r h = go (sameRegion r q) refl h (number-listed l r)
+  where
+    go : (b : Bool) → sameRegion r q ≡ b → cond b 0 (suc (numberIn l r)) < suc (length l)
+        → (numberIn l r < length l → List·Memᴰ r l) → List·Memᴰ r (q ∷ l)
+    go true e h later = List·Memᴰ·head (same-true r q e)
+    go false e h later = List·Memᴰ·tail (later (omega arith))
+
+-- In a list of different regions the region with a number has that number.
+pub number-at : (found : List Region) → Different found → (d : Region) (j : ℕ) → j < length found
+    → numberIn found (getD found j d) ≡ j
+number-at found different d j h =
+    let k = has-number found (getD found j d) (member d found j h) in
+    different d (numberIn found (getD found j d)) j (k .inside) h (k .is d)
+
+-- The label of a region is that of each of its states.
+pub label-placed : (m : Model) (bounds : Bounds) (s : State) → labelOf m (placed bounds s) ≡ getD (m .labels) (s .location) 0
+unfolding labelOf placed
+label-placed m bounds s = refl
+
+-- A delay keeps the label.
+pub delays-label : (m : Model) (r q : Region) → DelaysTo m r q → labelOf m q ≡ labelOf m r
+unfolding labelOf
+delays-label m r q (stays h) = refl
+delays-label m r q (goes {p} n d) = delays-label m p q d ∙ ap (λ (l : ℕ). getD (m .labels) l 0) (delay-location m r p n)
 
 module _ (m : Model) (found : List Region) (all : AllRegions m found) where
   leads-inside : (r q : Region) → List·Memᴰ r found → Leads m r q → NumberOf found q (numberIn found q)

@@ -1,21 +1,21 @@
--- The laws of exploring (`Worklist`).
--- For a program that keeps what is found in an array: each step of its loops (`begin`, `turn`, `over`, `meet-..`) and its search
--- for an item (`known-..`). Where exploring is complete it found all that is reached, each item once (`complete-all`); where it
--- is full there is more (`full-room`); so it is complete exactly where there is room for all (`complete-iff`). With more room
--- the items keep their numbers (`larger-..`).
--- The proofs go over how exploring went (`Met`, `Explored`), where the tests and the fuel are gone.
-use Prim.Native.Nat.{ℕ, zero, suc, _+_, _≤_, _<_}
+-- The laws of exploring (`Worklist`). For a program that keeps what is found in an array: each step of its loops (`begin`,
+-- `turn`, `over`, `meet-..`) and its search for an item (`known-..`). Where exploring is complete it found all that is
+-- reached, each item once (`complete-all`); where it is full there is more (`full-room`); so it is complete exactly where
+-- there is room for all (`complete-iff`). With more room the items keep their numbers (`larger-..`). The numbers are those of
+-- taking the items in number order (`Taken`), and one list has them (`taken-all-one`, `complete-taken`, `full-taken`). The
+-- proofs go over how exploring went (`Met`, `Explored`), where the tests and the fuel are gone.
+use Prim.Native.Nat.{ℕ, zero, suc, _+_, _-_, _≤_, _<_}
 use native.Mathlib.Omega.{arith}
 use native.Mathlib.Nat.{not-suc-le-zero, le-of-suc-le-suc}
 use mathlib.Core.Logic.{_⊎_, inl, inr, ⊎-elim, _↔_}
 use mathlib.Core.Path.{_≡_, refl, sym, ap, subst, _∙_}
-use mathlib.Core.Bool.{Bool, true, false, _||_}
+use mathlib.Core.Bool.{Bool, true, false, cond, _||_}
 use mathlib.Core.List.{List, [], _∷_, _++_, append-assoc, append-nil, List·Memᴰ, List·Memᴰ·head, List·Memᴰ·tail}
 use mathlib.Core.List.{List·Memᴰ·not-nil, List·Memᴰ·append-cases, List·Memᴰ·eq-of-singleton}
 use mathlib.Core.List.{Memᴰ·cast, Memᴰ·append-left, Memᴰ·append-right}
 use lib.Dec.{ltb}
 use lib.ListN.{length, getD, length-append, List·getD-append}
-use lib.Seq.{getD-at}
+use lib.Seq.{getD-at, getD-append-add}
 use borrow.Author.Tests.{ltb-true, ltb-false, lt-ltb, le-ltb}
 use Rattle.regions.specs.Worklist.{Found, complete, full, known, meet, andThen, exploreFrom, explore, Reach, here, on}
 
@@ -344,7 +344,164 @@ module _ {X : Type 0} (same : X → X → Bool) (next : X → List X) where
       → explore same next cap start ≡ full found → Begins found (itemsOf (explore same next cap′ start))
   larger-full cap cap′ start found h e = rw e at (widens cap cap′ start h)
 
+  -- ---- The order of the numbers
+
+  -- The new ones of a list, in order: those that are neither among the known items nor earlier in the list.
+  abbrev pub newOnes : List X → List X → List X
+  newOnes found [] = []
+  newOnes found (x ∷ l) = cond (known same x found) (newOnes found l) (x ∷ newOnes (found ++ (x ∷ [])) l)
+
+  -- What is listed once the items with numbers below i were taken, in number order: the start at first; taking item i adds
+  -- the new ones of what it leads to, in order, at the end.
+  pub data Taken (start : X) : ℕ → List X → Type 0 where
+    at-first : Taken start 0 (start ∷ [])
+    and-next : {i : ℕ} {l : List X} → i < length l → Taken start i l
+        → Taken start (suc i) (l ++ newOnes l (next (getD l i start)))
+
+  -- There is at most one such list for each i.
+  pub taken-one : {start : X} {i : ℕ} {a b : List X} → Taken start i a → Taken start i b → a ≡ b
+  taken-one at-first at-first = refl
+  taken-one {start} (and-next {i} h s) (and-next g t) = ap (λ l. l ++ newOnes l (next (getD l i start))) (taken-one s t)
+
+  -- Where all that is listed was taken, nothing is taken after it.
+  taken-last : {start : X} {i j : ℕ} {a b : List X} → Taken start i a → length a ≤ i → Taken start j b → j ≤ i
+  taken-last s h at-first = omega arith
+  taken-last {start} {i} s h (and-next {i = j} {l} g t) =
+      elim (below j i) [
+        | inl p ↦ p
+        | inr p ↦
+            let low = taken-last s h t in
+            let e : j ≡ i = omega arith in
+            let same-list = taken-one s (subst (λ k. Taken start k l) e t) in
+            absurd (omega (arith, ap length same-list, h, g, e))
+      ]
+
+  -- So there is at most one list of which all was taken.
+  pub taken-all-one : {start : X} {a b : List X} → Taken start (length a) a → Taken start (length b) b → a ≡ b
+  taken-all-one {start} {a} {b} s t =
+      let up = taken-last s (omega arith) t in
+      let down = taken-last t (omega arith) s in
+      let e : length b ≡ length a = omega arith in
+      taken-one s (subst (λ k. Taken start k b) e t)
+
+  new-listed : (found l : List X) (y : X) → List·Memᴰ y (newOnes found l) → List·Memᴰ y l
+  new-listed found [] y n = n
+  new-listed found (x ∷ l) y n =
+      elim (both (known same x found)) [
+        | inl e ↦ List·Memᴰ·tail (new-listed found l y (rw e at n))
+        | inr e ↦ go (rw e at n) (new-listed (found ++ (x ∷ [])) l y)
+      ]
+    where
+      go : List·Memᴰ y (x ∷ newOnes (found ++ (x ∷ [])) l) → (List·Memᴰ y (newOnes (found ++ (x ∷ [])) l) → List·Memᴰ y l)
+          → List·Memᴰ y (x ∷ l)
+      go (List·Memᴰ·head p) later = List·Memᴰ·head p
+      go (List·Memᴰ·tail k) later = List·Memᴰ·tail (later k)
+
+  -- Each item but the start is led to by one of smaller number.
+  pub taken-from : {start : X} {i : ℕ} {l : List X} → Taken start i l → (j : ℕ) → 0 < j → j < length l
+      → (k : ℕ) × (k < j) × List·Memᴰ (getD l j start) (next (getD l k start))
+  taken-from at-first j p h = absurd (omega arith)
+  taken-from {start} (and-next {i} {l} g t) j p h =
+      elim (below j (length l)) [
+        | inl q ↦
+            let (k, low, n) = taken-from t j p q in
+            (k, low, rw (old j q, old k (omega arith)) n)
+        | inr q ↦
+            let o : ℕ = j - length l in
+            let at : j ≡ length l + o = omega arith in
+            let inside : o < length more = omega (arith, length-append l more, at, h) in
+            let e : getD (l ++ more) j start ≡ getD more o start =
+            ap (λ x. getD (l ++ more) x start) at ∙ getD-append-add l more o start in
+            (i, omega arith, rw (e, old i g) (new-listed l (next (getD l i start)) _ (member start more o inside)))
+      ]
+    where
+      more : List X
+      more = newOnes l (next (getD l i start))
+
+      old : (k : ℕ) → k < length l → getD (l ++ more) k start ≡ getD l k start
+      old k h = List·getD-append l more start k h
+
+  met-new-ones : {cap : ℕ} {found l more : List X} → Met cap found l (complete more) → more ≡ found ++ newOnes found l
+  met-new-ones (met-none {found}) = sym (append-nil found)
+  met-new-ones (met-known e m) = rw e (met-new-ones m)
+  met-new-ones (met-new {found} {l} {x} e h m) =
+      rw e (met-new-ones m ∙ append-assoc found (x ∷ []) (newOnes (found ++ (x ∷ [])) l))
+
+  met-first-ones : {cap : ℕ} {found l more : List X} → Met cap found l (full more)
+      → Begins more (found ++ newOnes found l) × (length more < length (found ++ newOnes found l))
+  met-first-ones (met-known e m) = rw e (met-first-ones m)
+  met-first-ones {more} (met-new {found} {l} {x} e h m) =
+      rw e (subst (λ k. Begins more k × (length more < length k)) (append-assoc found (x ∷ []) (newOnes (found ++ (x ∷ [])) l))
+      (met-first-ones m))
+  met-first-ones (met-full {found} {l} {x} e h) =
+      rw e (
+        record { rest = x ∷ newOnes (found ++ (x ∷ [])) l; split = refl },
+        omega (arith, length-append found (x ∷ newOnes (found ++ (x ∷ [])) l)),
+      )
+
+  explored-taken : {cap : ℕ} {start : X} {found more : List X} {i : ℕ} → Explored cap start found i (complete more)
+      → i ≤ length found → Taken start i found → Taken start (length more) more
+  explored-taken {start} (ended {found} {i} h) g t =
+      let e : i ≡ length found = omega arith in
+      subst (λ k. Taken start k found) e t
+  explored-taken {start} (turned {found} {i} h m rest) g t =
+      explored-taken rest (omega (arith, longer (met-begins m)))
+      (subst (Taken start (suc i)) (sym (met-new-ones m)) (and-next h t))
+
+  -- A longer list that is such, and begins with this one.
+  pub record Further (start : X) (found : List X) : Type 0 where
+    pub count : ℕ
+    pub list : List X
+    pub taken : Taken start count list
+    pub begins : Begins found list
+    pub longer : length found < length list
+
+  explored-further : {cap : ℕ} {start : X} {found more : List X} {i : ℕ} → Explored cap start found i (full more)
+      → Taken start i found → Further start more
+  explored-further {start} (stopped {found} {i} h m) t =
+      let f = met-first-ones m in
+      record {
+        count = suc i;
+        list = found ++ newOnes found (next (getD found i start));
+        taken = and-next h t;
+        begins = f .0;
+        longer = f .1;
+      }
+  explored-further {start} (turned {i} h m rest) t =
+      explored-further rest (subst (Taken start (suc i)) (sym (met-new-ones m)) (and-next h t))
+
+  -- Complete: the list is the one of which all was taken.
+  pub complete-taken : (cap : ℕ) (start : X) (found : List X) → explore same next cap start ≡ complete found
+      → Taken start (length found) found
+  complete-taken zero start found e = absurd (complete-full (sym e ∙ no-room start))
+  complete-taken (suc cap) start found e =
+      let ran : Explored (suc cap) start (start ∷ []) 0 (complete found) =
+      rw e at (explored-start (suc cap) start (omega arith)) in
+      explored-taken ran (omega arith) at-first
+
+  -- Full: the list begins a longer one that is taken.
+  pub full-taken : (cap : ℕ) (start : X) (found : List X) → explore same next cap start ≡ full found → Further start found
+  full-taken zero start found e =
+      rw (full-items (sym e ∙ no-room start)) (record {
+        count = 0;
+        list = start ∷ [];
+        taken = at-first;
+        begins = record { rest = start ∷ []; split = refl };
+        longer = omega arith;
+      })
+  full-taken (suc cap) start found e =
+      let ran : Explored (suc cap) start (start ∷ []) 0 (full found) =
+      rw e at (explored-start (suc cap) start (omega arith)) in
+      explored-further ran at-first
+
   -- ---- What is found
+
+  -- Where there is any room, the start comes first.
+  pub full-first : (cap : ℕ) (start : X) (found : List X) → explore same next cap start ≡ full found
+      → (d : X) → 0 < cap → getD found 0 d ≡ start
+  full-first cap start found e d h =
+      let ran : Explored cap start (start ∷ []) 0 (full found) = rw e at (explored-start cap start h) in
+      unmoved d (explored-begins ran) 0 (omega arith)
 
   -- All items of a list are reached.
   abbrev pub Reached : X → List X → Type 0

@@ -5,6 +5,7 @@ use native.Mathlib.Omega.{arith}
 use Rattle.table.specs.Model.{Model}
 use Rattle.table.specs.Reads.{Reads}
 use Rattle.regions.specs.Edges.{Arrays}
+use Rattle.regions.specs.Limits.{Limited}
 use Rattle.regions.specs.Graph.{boundsOf, nextOf}
 use Rattle.regions.specs.Worklist.{meet, exploreFrom}
 use Rattle.regions.specs.Explore.{sameRegion, listed, Kept, kept-none, kept-on, turn-full, turn-on, turn-over}
@@ -13,19 +14,19 @@ use Rattle.regions.proofs.explore.explore_listed.Statement.{statement}
 use Rattle.regions.proofs.explore.explore_listed.Tie as tie
 
 abbrev Inv-loop : tie.InvT-loop
-Inv-loop bytes shape places sources bounds cap entries₀ heads₀ nexts₀ count₀ i₀ entries heads nexts count i = Kept cap 1 entries₀ heads₀ nexts₀ entries heads nexts count
-    × ((m : Model) (d : Region) → Reads bytes shape m → Arrays m places sources → bounds ≡ boundsOf m
+Inv-loop bytes shape limits places sources bounds cap entries₀ heads₀ nexts₀ count₀ i₀ entries heads nexts count i = Kept cap 1 entries₀ heads₀ nexts₀ entries heads nexts count
+    × ((m : Model) (d : Region) → Reads bytes shape m → Limited m limits → Arrays m places sources → bounds ≡ boundsOf m
     → exploreFrom sameRegion (nextOf m) (suc cap) cap d (listed entries₀ 1) 0 ≡ exploreFrom sameRegion (nextOf m) (suc cap - i) cap d (listed entries count) i)
 
 abbrev μ-loop : tie.MeasureT-loop
-μ-loop bytes shape places sources bounds cap entries₀ heads₀ nexts₀ count₀ i₀ entries heads nexts count i = cap - i
+μ-loop bytes shape limits places sources bounds cap entries₀ heads₀ nexts₀ count₀ i₀ entries heads nexts count i = cap - i
 
 loop-holds : tie.Need-loop-holds Inv-loop μ-loop
 loop-holds c =
-    let args = c .before .before .before .before .before .before .args in
-    let pre = c .before .before .before .before .before .before .pre in (
+    let args = c .before .before .before .before .before .before .before .args in
+    let pre = c .before .before .before .before .before .before .before .pre in (
       kept-none args.cap 1 args.entries.now args.heads.now args.nexts.now pre,
-      λ m d reads arrays same. ap
+      λ m d reads limited arrays same. ap
           (λ (k : ℕ). exploreFrom sameRegion (nextOf m) k args.cap d (listed args.entries.now 1) 0) (omega arith),
     )
 
@@ -59,19 +60,19 @@ same-length-3 c =
 
 returns : tie.Need-returns Inv-loop μ-loop
 returns c =
-    let args = c .before .before .before .before .before .before .before .before .before .before .before .before .before .before .before .before .before .before .before .before .before .args in
+    let args = c .before .before .before .before .before .before .before .before .before .before .before .before .before .before .before .before .before .before .before .before .before .before .args in
     let loop = c .before .before .before .before .before .before .before .before .before .before .before .before .before .before .loop in
     let meet-next = c .before .before .before .before .before .before .before .meet-next in
     let loop-test = c .before .before .before .before .before .before .before .before .before .before .before .before .before .loop-test in
     let read-entry = c .before .before .before .before .before .before .before .before .before .before .before .read-entry in (
       kept-on args.cap 1 args.entries.now args.heads.now args.nexts.now loop.entries loop.heads loop.nexts
-          meet-next.last.1.1.1.1.1.1.1.1.0 meet-next.last.1.1.1.1.1.1.1.1.1.0 meet-next.last.1.1.1.1.1.1.1.1.1.1.0 loop.count
+          meet-next.last.1.1.1.1.1.1.1.1.1.0 meet-next.last.1.1.1.1.1.1.1.1.1.1.0 meet-next.last.1.1.1.1.1.1.1.1.1.1.1.0 loop.count
           meet-next.result.count loop.inv.0 meet-next.ensures.0,
-      λ m d reads arrays same. loop.inv.1 m d reads arrays same
+      λ m d reads limited arrays same. loop.inv.1 m d reads limited arrays same
           ∙ turn-full (nextOf m) args.cap d loop.entries loop.count loop.i loop-test.taken loop.inv.0.room.room
-          meet-next.last.1.1.1.1.1.1.1.1.0 meet-next.result
+          meet-next.last.1.1.1.1.1.1.1.1.1.0 meet-next.result
           (ap (λ (q : Region). meet sameRegion args.cap (listed loop.entries loop.count) (nextOf m q)) (sym read-entry.ensures)
-          ∙ meet-next.ensures.1 m reads arrays same) (c .if1 .taken),
+          ∙ meet-next.ensures.1 m reads limited arrays same) (c .if1 .taken),
     )
 
 add-i : tie.Need-add-i Inv-loop μ-loop
@@ -88,19 +89,19 @@ loop-less c =
 
 loop-again : tie.Need-loop-again Inv-loop μ-loop
 loop-again c =
-    let args = c .before .before .before .before .before .before .before .before .before .before .before .before .before .before .before .before .before .before .before .before .before .args in
+    let args = c .before .before .before .before .before .before .before .before .before .before .before .before .before .before .before .before .before .before .before .before .before .before .args in
     let loop = c .before .before .before .before .before .before .before .before .before .before .before .before .before .before .loop in
     let meet-next = c .before .before .before .before .before .before .before .meet-next in
     let loop-test = c .before .before .before .before .before .before .before .before .before .before .before .before .before .loop-test in
     let read-entry = c .before .before .before .before .before .before .before .before .before .before .before .read-entry in (
       kept-on args.cap 1 args.entries.now args.heads.now args.nexts.now loop.entries loop.heads loop.nexts
-          meet-next.last.1.1.1.1.1.1.1.1.0 meet-next.last.1.1.1.1.1.1.1.1.1.0 meet-next.last.1.1.1.1.1.1.1.1.1.1.0 loop.count
+          meet-next.last.1.1.1.1.1.1.1.1.1.0 meet-next.last.1.1.1.1.1.1.1.1.1.1.0 meet-next.last.1.1.1.1.1.1.1.1.1.1.1.0 loop.count
           meet-next.result.count loop.inv.0 meet-next.ensures.0,
-      λ m d reads arrays same. loop.inv.1 m d reads arrays same
+      λ m d reads limited arrays same. loop.inv.1 m d reads limited arrays same
           ∙ turn-on (nextOf m) args.cap d loop.entries loop.count loop.i loop-test.taken loop.inv.0.room.room
-          meet-next.last.1.1.1.1.1.1.1.1.0 meet-next.result
+          meet-next.last.1.1.1.1.1.1.1.1.1.0 meet-next.result
           (ap (λ (q : Region). meet sameRegion args.cap (listed loop.entries loop.count) (nextOf m q)) (sym read-entry.ensures)
-          ∙ meet-next.ensures.1 m reads arrays same) (c .if1 .left),
+          ∙ meet-next.ensures.1 m reads limited arrays same) (c .if1 .left),
     )
 
 same-length-4 : tie.Need-same-length-4 Inv-loop μ-loop
@@ -115,9 +116,9 @@ same-length-6 c = c .before .loop .inv .0 .links
 returns-2 : tie.Need-returns-2 Inv-loop μ-loop
 returns-2 c =
     let loop = c .before .loop in
-    let args = c .before .before .before .before .before .before .before .before .args in (
+    let args = c .before .before .before .before .before .before .before .before .before .args in (
       loop.inv.0,
-      λ m d reads arrays same. loop.inv.1 m d reads arrays same
+      λ m d reads limited arrays same. loop.inv.1 m d reads limited arrays same
           ∙ turn-over (nextOf m) args.cap d loop.entries loop.count loop.i (c .loop-test .left),
     )
 

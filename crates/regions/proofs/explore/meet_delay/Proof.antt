@@ -23,7 +23,7 @@ returns c =
     let pre = c .before .before .before .before .before .before .before .before .pre in
     let delay = c .before .before .before .delay in (
       kept-none args.cap args.n args.entries.now args.heads.now args.nexts.now pre,
-      λ m reads same. ap
+      λ m limited same. ap
           (λ (qs : List Region). meet sameRegion args.cap (listed args.entries.now args.n) qs)
           (delay-none m args.r (ap (λ (x : Bounds). delayed x args.r .any) (sym same)
           ∙ ap (λ (x : Moved). x .any) (sym delay.ensures) ∙ not-true _ (c .if1 .taken))),
@@ -40,14 +40,14 @@ returns-2 c =
     let if1 = c .before .before .if1 in
     let meets-invariant = c .before .meets-invariant in (
       kept-none args.cap args.n args.entries.now args.heads.now args.nexts.now pre,
-      λ m reads same. ap
+      λ m limited same. ap
           (λ (qs : List Region). meet sameRegion args.cap (listed args.entries.now args.n) qs)
           (delay-breaks m args.r
           (ap (λ (x : Bounds). delayed x args.r .any) (sym same) ∙ ap (λ (x : Moved). x .any) (sym delay.ensures)
           ∙ not-false _ if1.left)
           (ap (λ (x : Bounds). meets x (m .invariants) (delayed x args.r .region)) (sym same)
           ∙ ap (λ (x : Moved). meets args.bounds (m .invariants) (x .region)) (sym delay.ensures)
-          ∙ sym (meets-invariant.ensures m reads) ∙ not-true meets-invariant.result (c .if2 .taken))),
+          ∙ sym (meets-invariant.ensures m limited) ∙ not-true meets-invariant.result (c .if2 .taken))),
     )
 
 meet-one-requires : tie.Need-meet-one-requires
@@ -73,13 +73,13 @@ returns-3 c =
     let meets-invariant = c .before .before .before .before .before .before .before .before .before .before .before .meets-invariant in
     let if2 = c .before .before .before .before .before .before .before .before .before .before .if2 in (
       meet-one.ensures.0,
-      λ m reads same. ap
+      λ m limited same. ap
           (λ (qs : List Region). meet sameRegion args.cap (listed args.entries.now args.n) qs)
           (delay-some m args.r (ap (λ (x : Bounds). delayed x args.r .any) (sym same)
           ∙ ap (λ (x : Moved). x .any) (sym delay.ensures) ∙ not-false _ if1.left)
           (ap (λ (x : Bounds). meets x (m .invariants) (delayed x args.r .region)) (sym same)
           ∙ ap (λ (x : Moved). meets args.bounds (m .invariants) (x .region)) (sym delay.ensures)
-          ∙ sym (meets-invariant.ensures m reads) ∙ not-false meets-invariant.result if2.left)
+          ∙ sym (meets-invariant.ensures m limited) ∙ not-false meets-invariant.result if2.left)
           ∙ ap (λ (x : Bounds). delayed x args.r .region ∷ []) (sym same) ∙ ap (λ (x : Moved). x .region ∷ []) (sym delay.ensures))
           ∙ meet-one.ensures.1,
     )

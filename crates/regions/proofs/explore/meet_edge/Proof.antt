@@ -32,9 +32,9 @@ returns c =
     let meet-branches = c .before .before .before .before .before .before .meet-branches in
     let is-available = c .before .before .before .before .before .before .before .before .before .before .before .is-available in
     let if1 = c .before .before .before .before .before .before .before .before .before .before .if1 in
-    let args = c .before .before .before .before .before .before .before .before .before .before .before .before .before .before .before .before .args in (
+    let args = c .before .before .before .before .before .before .before .before .before .before .before .before .before .before .before .before .before .args in (
       meet-branches.ensures.0,
-      λ m e reads edge from same. let taken = sym (is-available.ensures m e reads edge from same)
+      λ m e limited edge from same. let taken = sym (is-available.ensures m e limited edge from same)
           ∙ if1.taken in ap (λ (qs : List Region). meet sameRegion args.cap (listed args.entries.now args.n) qs)
           (edge-some m (edgeOf m e) args.r taken
           ∙ ap (λ (x : Bounds). gather (λ b. landing x args.r b ∷ []) (edgeOf m e .branches)) (sym same))
@@ -43,11 +43,11 @@ returns c =
 
 returns-2 : tie.Need-returns-2
 returns-2 c =
-    let args = c .before .before .before .before .before .before .args in
-    let pre = c .before .before .before .before .before .before .pre in (
+    let args = c .before .before .before .before .before .before .before .args in
+    let pre = c .before .before .before .before .before .before .before .pre in (
       kept-none args.cap args.n args.entries.now args.heads.now args.nexts.now pre,
-      λ m e reads edge from same. let left = sym
-          (c .before .is-available .ensures m e reads edge from same)
+      λ m e limited edge from same. let left = sym
+          (c .before .is-available .ensures m e limited edge from same)
           ∙ c .if1 .left in ap (λ (qs : List Region). meet sameRegion args.cap (listed args.entries.now args.n) qs)
           (edge-none m (edgeOf m e) args.r left),
     )

@@ -6,8 +6,10 @@ use native.Mathlib.Omega.{arith}
 use lib.ListN.{length, take}
 use Rattle.table.specs.Model.{Model}
 use Rattle.table.specs.Access.{noEdge}
-use Rattle.table.specs.Reads.{Reads, ReadsEdge, counts-read}
+use Rattle.table.specs.Reading.{readTable, accepted}
+use Rattle.table.specs.Reads.{ReadsEdge, counts-read}
 use Rattle.regions.specs.Edges.{Arrays}
+use Rattle.regions.specs.Limits.{Limited}
 use Rattle.regions.specs.Graph.{gather, boundsOf, edgeNext}
 use Rattle.regions.specs.Explore.{Kept, AllMet, kept-none, kept-on, loop-on, loop-full, loop-over}
 use borrow.Author.Needs.{needs}
@@ -15,17 +17,17 @@ use Rattle.regions.proofs.explore.meet_edges.Statement.{statement}
 use Rattle.regions.proofs.explore.meet_edges.Tie as tie
 
 abbrev Inv-loop : tie.InvT-loop
-Inv-loop bytes shape places sources bounds r n cap entries₀ heads₀ nexts₀ edges listed₀ i₀ entries heads nexts listed i = Kept cap n entries₀ heads₀ nexts₀ entries heads nexts listed
-    × ((m : Model) → Reads bytes shape m → Arrays m places sources → bounds ≡ boundsOf m → AllMet cap n (gather (edgeNext m r) (take i (m .edges))) entries₀ entries (record { full = false; count = listed }))
+Inv-loop bytes limits places sources bounds r n cap entries₀ heads₀ nexts₀ edges listed₀ i₀ entries heads nexts listed i = Kept cap n entries₀ heads₀ nexts₀ entries heads nexts listed
+    × ((m : Model) → readTable bytes ≡ accepted m → edges ≡ length (m .edges) → Limited m limits → Arrays m places sources → bounds ≡ boundsOf m → AllMet cap n (gather (edgeNext m r) (take i (m .edges))) entries₀ entries (record { full = false; count = listed }))
 
 abbrev μ-loop : tie.MeasureT-loop
-μ-loop bytes shape places sources bounds r n cap entries₀ heads₀ nexts₀ edges listed₀ i₀ entries heads nexts listed i = edges - i
+μ-loop bytes limits places sources bounds r n cap entries₀ heads₀ nexts₀ edges listed₀ i₀ entries heads nexts listed i = edges - i
 
 loop-holds : tie.Need-loop-holds Inv-loop μ-loop
 loop-holds c =
-    let args = c .before .before .before .before .before .before .args in
-    let pre = c .before .before .before .before .before .before .pre in
-    (kept-none args.cap args.n args.entries.now args.heads.now args.nexts.now pre, λ m reads arrays same. refl)
+    let args = c .before .before .before .before .before .before .before .args in
+    let pre = c .before .before .before .before .before .before .before .pre in
+    (kept-none args.cap args.n args.entries.now args.heads.now args.nexts.now pre, λ m answer few limited arrays same. refl)
 
 number-at-requires : tie.Need-number-at-requires Inv-loop μ-loop
 number-at-requires c κs = search needs
@@ -58,7 +60,7 @@ same-length-3 c =
 
 returns : tie.Need-returns Inv-loop μ-loop
 returns c =
-    let args = c .before .before .before .before .before .before .before .before .before .before .before .before .before .before .before .before .before .before .before .before .before .args in
+    let args = c .before .before .before .before .before .before .before .before .before .before .before .before .before .before .before .before .before .before .before .before .before .before .args in
     let loop = c .before .before .before .before .before .before .before .before .before .before .before .before .before .before .loop in
     let meet-edge = c .before .before .before .before .before .before .before .meet-edge in
     let loop-test = c .before .before .before .before .before .before .before .before .before .before .before .before .before .loop-test in
@@ -67,18 +69,18 @@ returns c =
       kept-on args.cap args.n args.entries.now args.heads.now args.nexts.now loop.entries loop.heads loop.nexts
           meet-edge.last.1.1.1.1.1.1.1.1.0 meet-edge.last.1.1.1.1.1.1.1.1.1.0 meet-edge.last.1.1.1.1.1.1.1.1.1.1.0 loop.listed
           meet-edge.result.count loop.inv.0 meet-edge.ensures.0,
-      λ m reads arrays same. let few = counts-read args.bytes.now args.shape m reads .edges in let here : loop.i < length
+      λ m reads limited arrays same. let few = counts-read args.bytes.now args.shape m reads .edges in let here : loop.i < length
           (m .edges) = omega (arith, loop-test.taken) in let edge : ReadsEdge args.bytes.now number-at.result m loop.i = record
           { answer = reads .answer; place-is = number-at.ensures ∙ arrays .place loop.i here } in let one = meet-edge.ensures.1 m
-          loop.i reads edge (number-at2.ensures ∙ arrays .source loop.i here) same in loop-full (edgeNext m args.r) (m .edges)
-          loop.i noEdge args.cap args.n loop.listed args.entries.now loop.entries (loop.inv.1 m reads arrays same) here
+          loop.i limited edge (number-at2.ensures ∙ arrays .source loop.i here) same in loop-full (edgeNext m args.r) (m .edges)
+          loop.i noEdge args.cap args.n loop.listed args.entries.now loop.entries (loop.inv.1 m (reads .answer) few limited arrays same) here
           meet-edge.last.1.1.1.1.1.1.1.1.0 meet-edge.result (c .if1 .taken) one,
     )
 
 add-i : tie.Need-add-i Inv-loop μ-loop
 add-i c =
     let loop-test = c .before .before .before .before .before .before .before .before .before .before .before .before .before .loop-test in
-    let good = c .before .before .before .before .before .before .before .before .before .before .before .before .before .before .before .before .before .before .before .before .before .good in
+    let good = c .before .before .before .before .before .before .before .before .before .before .before .before .before .before .before .before .before .before .before .before .before .before .good in
     omega (arith, loop-test.taken, good.1.0)
 
 loop-less : tie.Need-loop-less Inv-loop μ-loop
@@ -88,7 +90,7 @@ loop-less c =
 
 loop-again : tie.Need-loop-again Inv-loop μ-loop
 loop-again c =
-    let args = c .before .before .before .before .before .before .before .before .before .before .before .before .before .before .before .before .before .before .before .before .before .args in
+    let args = c .before .before .before .before .before .before .before .before .before .before .before .before .before .before .before .before .before .before .before .before .before .before .args in
     let loop = c .before .before .before .before .before .before .before .before .before .before .before .before .before .before .loop in
     let meet-edge = c .before .before .before .before .before .before .before .meet-edge in
     let loop-test = c .before .before .before .before .before .before .before .before .before .before .before .before .before .loop-test in
@@ -97,31 +99,34 @@ loop-again c =
       kept-on args.cap args.n args.entries.now args.heads.now args.nexts.now loop.entries loop.heads loop.nexts
           meet-edge.last.1.1.1.1.1.1.1.1.0 meet-edge.last.1.1.1.1.1.1.1.1.1.0 meet-edge.last.1.1.1.1.1.1.1.1.1.1.0 loop.listed
           meet-edge.result.count loop.inv.0 meet-edge.ensures.0,
-      λ m reads arrays same. let few = counts-read args.bytes.now args.shape m reads .edges in let here : loop.i < length
+      λ m answer few limited arrays same. let here : loop.i < length
           (m .edges) = omega (arith, loop-test.taken) in let edge : ReadsEdge args.bytes.now number-at.result m loop.i = record
-          { answer = reads .answer; place-is = number-at.ensures ∙ arrays .place loop.i here } in let one = meet-edge.ensures.1 m
-          loop.i reads edge (number-at2.ensures ∙ arrays .source loop.i here) same in loop-on (edgeNext m args.r) (m .edges) loop.i
-          noEdge args.cap args.n loop.listed args.entries.now loop.entries (loop.inv.1 m reads arrays same) here
+          { answer = answer; place-is = number-at.ensures ∙ arrays .place loop.i here } in let one = meet-edge.ensures.1 m
+          loop.i limited edge (number-at2.ensures ∙ arrays .source loop.i here) same in loop-on (edgeNext m args.r) (m .edges) loop.i
+          noEdge args.cap args.n loop.listed args.entries.now loop.entries (loop.inv.1 m answer few limited arrays same) here
           meet-edge.last.1.1.1.1.1.1.1.1.0 meet-edge.result (c .if1 .left) one,
     )
 
 same-length-4 : tie.Need-same-length-4 Inv-loop μ-loop
-same-length-4 c = c .before .loop .inv .0 .entries
+same-length-4 c =
+    c .before .loop .inv .0 .entries
 
 same-length-5 : tie.Need-same-length-5 Inv-loop μ-loop
-same-length-5 c = c .before .loop .inv .0 .buckets
+same-length-5 c =
+    c .before .loop .inv .0 .buckets
 
 same-length-6 : tie.Need-same-length-6 Inv-loop μ-loop
-same-length-6 c = c .before .loop .inv .0 .links
+same-length-6 c =
+    c .before .loop .inv .0 .links
 
 returns-2 : tie.Need-returns-2 Inv-loop μ-loop
 returns-2 c =
     let loop = c .before .loop in
-    let args = c .before .before .before .before .before .before .before .before .args in (
+    let args = c .before .before .before .before .before .before .before .before .before .args in (
       loop.inv.0,
-      λ m reads arrays same. let few = counts-read args.bytes.now args.shape m reads .edges in loop-over
+      λ m reads limited arrays same. let few = counts-read args.bytes.now args.shape m reads .edges in loop-over
           (edgeNext m args.r) (m .edges) loop.i noEdge args.cap args.n loop.listed args.entries.now loop.entries
-          (loop.inv.1 m reads arrays same) (omega (arith, c .loop-test .left)),
+          (loop.inv.1 m (reads .answer) few limited arrays same) (omega (arith, c .loop-test .left)),
     )
 
 pub meet-edges-spec : {M : Type 1} → statement M

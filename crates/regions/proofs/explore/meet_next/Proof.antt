@@ -8,7 +8,7 @@ use Rattle.regions.proofs.explore.meet_next.Tie as tie
 
 meet-delay-requires : tie.Need-meet-delay-requires
 meet-delay-requires c κs =
-    let pre = c .before .before .before .before .before .before .before .before .before .pre in
+    let pre = c .before .before .before .before .before .before .before .before .before .before .pre in
     pre
 
 same-length : tie.Need-same-length
@@ -30,11 +30,11 @@ returns : tie.Need-returns
 unfolding nextOf
 returns c =
     let meet-delay = c .before .before .before .before .before .before .before .meet-delay in
-    let args = c .before .before .before .before .before .before .before .before .before .before .before .before .before .before .before .before .before .args in (
+    let args = c .before .before .before .before .before .before .before .before .before .before .before .before .before .before .before .before .before .before .args in (
       meet-delay.ensures.0,
-      λ m reads arrays same. met-full args.cap args.n (delayNext m args.r)
-          (gather (edgeNext m args.r) (m .edges)) args.entries.now meet-delay.last.1.1.1.1.1.1.0 meet-delay.result (c .if1 .taken)
-          (meet-delay.ensures.1 m reads same),
+      λ m reads limited arrays same. met-full args.cap args.n (delayNext m args.r)
+          (gather (edgeNext m args.r) (m .edges)) args.entries.now meet-delay.last.1.1.1.1.1.0 meet-delay.result (c .if1 .taken)
+          (meet-delay.ensures.1 m limited same),
     )
 
 meet-edges-requires : tie.Need-meet-edges-requires
@@ -63,19 +63,19 @@ same-length-6 c =
 returns-2 : tie.Need-returns-2
 unfolding nextOf
 returns-2 c =
-    let args = c .before .before .before .before .before .before .before .before .before .before .before .before .before .before .before .before .before .before .before .before .before .before .before .before .before .before .before .args in
+    let args = c .before .before .before .before .before .before .before .before .before .before .before .before .before .before .before .before .before .before .before .before .before .before .before .before .before .before .before .before .args in
     let meet-delay = c .before .before .before .before .before .before .before .before .before .before .before .before .before .before .before .before .before .meet-delay in
     let meet-edges = c .before .before .before .before .before .before .meet-edges in
     let if1 = c .before .before .before .before .before .before .before .before .before .before .if1 in (
-      kept-on args.cap args.n args.entries.now args.heads.now args.nexts.now meet-delay.last.1.1.1.1.1.1.0
-          meet-delay.last.1.1.1.1.1.1.1.0 meet-delay.last.1.1.1.1.1.1.1.1.0 meet-edges.last.1.1.1.1.1.1.1.1.0
-          meet-edges.last.1.1.1.1.1.1.1.1.1.0 meet-edges.last.1.1.1.1.1.1.1.1.1.1.0 meet-delay.result.count meet-edges.result.count
+      kept-on args.cap args.n args.entries.now args.heads.now args.nexts.now meet-delay.last.1.1.1.1.1.0
+          meet-delay.last.1.1.1.1.1.1.0 meet-delay.last.1.1.1.1.1.1.1.0 meet-edges.last.1.1.1.1.1.1.1.1.1.0
+          meet-edges.last.1.1.1.1.1.1.1.1.1.1.0 meet-edges.last.1.1.1.1.1.1.1.1.1.1.1.0 meet-delay.result.count meet-edges.result.count
           meet-delay.ensures.0 meet-edges.ensures.0,
-      λ m reads arrays same. met-on args.cap args.n meet-delay.result.count (delayNext m args.r)
-          (gather (edgeNext m args.r) (m .edges)) args.entries.now meet-delay.last.1.1.1.1.1.1.0 meet-edges.last.1.1.1.1.1.1.1.1.0
-          meet-edges.result (meet-delay.ensures.1 m reads same
-          ∙ ap (λ (b : Bool). foundOf b (listed meet-delay.last.1.1.1.1.1.1.0 meet-delay.result.count)) if1.left)
-          (meet-edges.ensures.1 m reads arrays same),
+      λ m reads limited arrays same. met-on args.cap args.n meet-delay.result.count (delayNext m args.r)
+          (gather (edgeNext m args.r) (m .edges)) args.entries.now meet-delay.last.1.1.1.1.1.0 meet-edges.last.1.1.1.1.1.1.1.1.1.0
+          meet-edges.result (meet-delay.ensures.1 m limited same
+          ∙ ap (λ (b : Bool). foundOf b (listed meet-delay.last.1.1.1.1.1.0 meet-delay.result.count)) if1.left)
+          (meet-edges.ensures.1 m reads limited arrays same),
     )
 
 pub meet-next-spec : {M : Type 1} → statement M

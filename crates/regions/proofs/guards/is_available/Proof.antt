@@ -14,18 +14,18 @@ cast-location c = search needs
 
 returns : tie.Need-returns
 returns c =
-    let args = c .before .before .before .args in
-    λ m e reads edge from same. sym (not-source m (edgeOf m e) args.r (λ h. c .if1 .taken (from ∙ h)))
+    let args = c .before .before .before .before .args in
+    λ m e limited edge from same. sym (not-source m (edgeOf m e) args.r (λ h. c .if1 .taken (from ∙ h)))
 
 meets-guards-requires : tie.Need-meets-guards-requires
 meets-guards-requires c κs = search needs
 
 returns-2 : tie.Need-returns-2
 returns-2 c =
-    let args = c .before .before .before .before .before .args in
+    let args = c .before .before .before .before .before .before .args in
     let if1 = c .before .before .if1 in
     let meets-guards = c .before .meets-guards in
-    λ m e reads edge from same. sym
+    λ m e limited edge from same. sym
     (not-guards m (edgeOf m e) args.r (sym from ∙ if1.left)
     (ap (λ (x : Bounds). every (satisfies x args.r) (edgeOf m e .guards)) (sym same) ∙ sym (meets-guards.ensures m e edge)
     ∙ not-true meets-guards.result (c .if2 .taken)))
@@ -35,10 +35,10 @@ lands-all-requires c κs = search needs
 
 returns-3 : tie.Need-returns-3
 returns-3 c =
-    let args = c .before .before .before .before .before .before .args in
+    let args = c .before .before .before .before .before .before .before .args in
     let if1 = c .before .before .before .if1 in
     let meets-guards = c .before .before .meets-guards in
-    λ m e reads edge from same. c .lands-all .ensures m e reads edge
+    λ m e limited edge from same. c .lands-all .ensures m e limited edge
     ∙ ap (λ (x : Bounds). lands x (m .invariants) (edgeOf m e) args.r) same
     ∙ sym (when-fits m (edgeOf m e) args.r (sym from ∙ if1.left)
     (ap (λ (x : Bounds). every (satisfies x args.r) (edgeOf m e .guards)) (sym same) ∙ sym (meets-guards.ensures m e edge)

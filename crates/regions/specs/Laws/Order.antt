@@ -1,0 +1,47 @@
+-- The numbers of the regions (document 01: "Region 0 is the initial location with all clocks 0. Regions are then taken in
+-- number order: its delay region first, then its available edges in table order, branches in order. A region met first gets
+-- the next number."), without a word of exploring, of room or of fuel: `InOrder` says it of a list, at most one list is such
+-- (`order-one`), and the graph call lists that one (`whole-order`) or begins it (`cut-order`).
+use Prim.Native.Nat.{ℕ, _<_}
+use mathlib.Core.Path.{_≡_}
+use mathlib.Core.List.{List, List·Memᴰ}
+use lib.ListN.{length, getD}
+use Rattle.table.specs.Model.{Model}
+use Rattle.table.specs.Reading.{accepted, readTable}
+use Rattle.regions.specs.Graph.{nextOf, first}
+use Rattle.regions.specs.Explore.{sameRegion}
+use Rattle.regions.specs.Call.{cut, whole, outcomeOf}
+use Rattle.regions.specs.Laws.Worklist.{Taken, Further, taken-one, taken-all-one, taken-from, complete-taken, full-taken}
+use Rattle.regions.specs.Laws.Call.{whole-explored, cut-explored}
+use Rattle.regions.specs.declared.region.Region.{Region}
+
+-- The regions that are listed once those with numbers below i were taken: region 0 at first; then each region that is taken,
+-- in number order, adds at the end those of `nextOf` that are not listed yet, in order (`Taken`).
+abbrev pub ListedAfter : Model → ℕ → List Region → Type 0
+ListedAfter m i l = Taken sameRegion (nextOf m) (first m) i l
+
+-- All that is listed was taken.
+abbrev pub InOrder : Model → List Region → Type 0
+InOrder m found = ListedAfter m (length found) found
+
+module _ (m : Model) where
+  -- At most one list is such.
+  pub order-one : (a b : List Region) → InOrder m a → InOrder m b → a ≡ b
+  order-one a b s t = taken-all-one sameRegion (nextOf m) s t
+
+  pub listed-one : (i : ℕ) (a b : List Region) → ListedAfter m i a → ListedAfter m i b → a ≡ b
+  listed-one i a b s t = taken-one sameRegion (nextOf m) s t
+
+  -- A region with a number from 1 on is led to by one of smaller number.
+  pub order-from : (found : List Region) → InOrder m found → (j : ℕ) → 0 < j → j < length found
+      → (k : ℕ) × (k < j) × List·Memᴰ (getD found j (first m)) (nextOf m (getD found k (first m)))
+  order-from found s j p h = taken-from sameRegion (nextOf m) s j p h
+
+module _ (table : List ℕ) (cap : ℕ) (found : List Region) (m : Model) (read : readTable table ≡ accepted m) where
+  -- N is answered: the regions have document 01's numbers.
+  pub whole-order : outcomeOf table cap ≡ whole found → InOrder m found
+  whole-order e = complete-taken sameRegion (nextOf m) cap (first m) found (whole-explored table cap found m e read)
+
+  -- 15 is answered: they begin a longer list with document 01's numbers.
+  pub cut-order : outcomeOf table cap ≡ cut found → Further sameRegion (nextOf m) (first m) found
+  cut-order e = full-taken sameRegion (nextOf m) cap (first m) found (cut-explored table cap found m e read)

@@ -1,0 +1,45 @@
+// Numbers stored in the slices of the graph.
+ghost use Prim.Native.Nat.{_+_, _%_, _≤_};
+ghost use mathlib.Core.Path.{_≡_};
+ghost use mathlib.Core.Bool.{cond};
+ghost use lib.ListN.{length, set};
+ghost use Rattle.regions.specs.Filling.{threeSet};
+
+// Stores a number, its lowest 16 bits, where the list has room for it.
+pub(crate) fn store(list: &mut [u16], at: usize, v: usize)
+    ensures { λ _. ⌜ now (list .exit) ≡ set (now (list .entry)) at (v % 65536) ⌝ }
+{
+    if at < list.len() {
+        list[at] = (v % 65536) as u16;
+    }
+}
+
+// Stores 1 for true, and 0 for false, where the list has room for it.
+pub(crate) fn mark(list: &mut [u8], at: usize, b: bool)
+    ensures { λ _. ⌜ now (list .exit) ≡ set (now (list .entry)) at (cond b 1 0) ⌝ }
+{
+    if at < list.len() {
+        if b {
+            list[at] = 1;
+        } else {
+            list[at] = 0;
+        }
+    }
+}
+
+// Stores three numbers from a place on.
+pub(crate) fn store_three(list: &mut [u16], at: usize, a: usize, b: usize, c: usize)
+    requires { ⌜ at + 3 ≤ length (now list) ⌝ }
+    ensures { λ _. ⌜ now (list .exit) ≡ threeSet (now (list .entry)) at (a % 65536) (b % 65536) (c % 65536) ⌝ }
+{
+    store(list, at, a);
+    store(list, at + 1, b);
+    store(list, at + 2, c);
+}
+
+// A number, or the most that it may be.
+pub(crate) fn at_most(n: usize, most: usize) -> usize
+    ensures { λ r. ⌜ (r ≤ most) × (n ≤ most → r ≡ n) ⌝ }
+{
+    if n < most { n } else { most }
+}
