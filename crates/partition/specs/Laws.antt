@@ -1,0 +1,17 @@
+-- Laws on the definitions of this layer:
+--   Delays     the regions listed as reached by delay are those that are
+--   Instances  both structures are closed, and the region of a state is a placing
+--   Compare    comparing two items over slices that hold a structure is comparing them in it
+--   Rounds     what the code of the rounds and the judge keeps, one law for each turn of a loop
+--   Shown      the slices that the region layer fills hold the region graph
+--   Calls      what the answers of the calls say, and how the steps of their code are put together
+--   Success    when the calls succeed; one model and one list of regions; the pair call agrees with the lists
+--   Numbers    the numbers that the calls refuse with, none of which is 0
+pub mod Delays
+pub mod Instances
+pub mod Compare
+pub mod Rounds
+pub mod Shown
+pub mod Calls
+pub mod Success
+pub mod Numbers

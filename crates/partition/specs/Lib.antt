@@ -1,0 +1,24 @@
+-- The partition layer: the region graph and the states of a model as structures, the partition call, the pair call and the judging
+-- call, and what the blocks say about states:
+--   Instances     the region graph of a model as a finite structure, all its states as one, and the block number of a state
+--   Held          a finite structure in slices, as the code of the rounds goes by it
+--   Compare       comparing two items, computed over those slices
+--   Rounds        what the code of the rounds and the judge keeps
+--   Calls         the three calls: their answers, and what the lent lists then hold
+--   Promises      what each call promises, in one record
+--   Demand3       two states have different block numbers exactly when no bisimulation over all states relates them
+--   Demand3Calls  demand 3, entire, from what the partition call and the pair call promise
+--   JudgingCall   a proposal is accepted exactly when it is a bisimulation, from what the judging call promises
+--   Example       demand 3 at document 01's printed model: two states related, two parted
+-- Laws on these stand in Laws.
+pub mod Instances
+pub mod Held
+pub mod Calls
+pub mod Promises
+pub mod Compare
+pub mod Rounds
+pub mod Laws
+pub mod Demand3
+pub mod Demand3Calls
+pub mod JudgingCall
+pub mod Example

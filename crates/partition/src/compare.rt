@@ -1,0 +1,373 @@
+// Comparing two items under a block list: the two conditions of document 01, over the graph in slices.
+ghost use Prim.Native.Nat.{_<_, _≤_};
+ghost use mathlib.Core.Path.{_≡_};
+ghost use mathlib.Core.Bool.{true, cond};
+ghost use Rattle.bisimulation.specs.Structures.{Closed};
+ghost use Rattle.bisimulation.specs.Finite.{Finite, structure, related, matches, next};
+ghost use Rattle.partition.specs.Held.{Held, mostItems, mostEdges, weightAt, targetAt};
+ghost use Rattle.partition.specs.Compare.{reachesRelated, delaysAnswered, weighed, balanced, balancedOver, edgesAlike};
+ghost use Rattle.partition.specs.Compare.{answers, someAnswers, edgeAnswered, edgesAnswered, answered};
+use crate::slices::at16;
+use crate::slices::at64;
+use crate::slices::is_set;
+
+// Do two items have the same number?
+pub(crate) fn is_related(x: usize, y: usize, list: &[u64]) -> bool
+    ensures { λ r. ⌜ r ≡ related (now (list .entry)) x y ⌝ }
+{
+    at64(list, x) == at64(list, y)
+}
+
+// Does y reach an item related to c by delay?
+fn reaches_related(n: usize, c: usize, y: usize, list: &[u64], nexts: &[u16]) -> bool
+    ensures { λ r. ⌜ r ≡ reachesRelated n (now (list .entry)) (now (nexts .entry)) c y ⌝ }
+{
+    let mut at = y;
+    let mut left = n;
+    while 0 < left {
+        if is_related(c, at, list) {
+            return true;
+        }
+        let next = at16(nexts, at);
+        if n <= next {
+            return false;
+        }
+        at = next;
+        left = left - 1;
+    }
+    is_related(c, at, list)
+}
+
+// Is each item that x reaches by delay related to one that y reaches?
+fn delays_match(n: usize, x: usize, y: usize, list: &[u64], nexts: &[u16]) -> bool
+    ensures { λ r. ⌜ r ≡ delaysAnswered n (now (list .entry)) (now (nexts .entry)) x y ⌝ }
+{
+    let mut at = x;
+    let mut left = n;
+    while 0 < left {
+        if !reaches_related(n, at, y, list, nexts) {
+            return false;
+        }
+        let next = at16(nexts, at);
+        if n <= next {
+            return true;
+        }
+        at = next;
+        left = left - 1;
+    }
+    reaches_related(n, at, y, list, nexts)
+}
+
+// Where branch i of edge e leads from item x.
+fn target_at(x: usize, e: usize, i: usize, resets: &[u16], spots: &[u16], rows: &[u16]) -> usize
+    requires { ⌜ (x < mostItems) × (e < mostEdges) × (i < 65536) ⌝ }
+    ensures { λ r. ⌜ r ≡ targetAt (now (resets .entry)) (now (spots .entry)) (now (rows .entry)) x e i ⌝ }
+{
+    let mask = at16(rows, 32 * e + 4 + 3 * i);
+    let spot = at16(rows, 32 * e + 5 + 3 * i);
+    let clocks = at16(resets, 16 * x + mask);
+    at16(spots, 64 * clocks + spot)
+}
+
+// The weight of branch i of edge e at item x, where it leads to the block of c, and else 0.
+fn weigh_one(
+    c: usize,
+    x: usize,
+    e: usize,
+    i: usize,
+    list: &[u64],
+    resets: &[u16],
+    spots: &[u16],
+    rows: &[u16],
+) -> u64
+    requires { ⌜ (x < mostItems) × (e < mostEdges) × (i < 65536) ⌝ }
+    ensures { λ r. ⌜ (r ≡ cond (related (now (list .entry)) (targetAt (now (resets .entry)) (now (spots .entry)) (now (rows .entry)) x e i) c)
+        (weightAt (now (rows .entry)) e i) 0) × (r < 65536) ⌝ }
+{
+    let target = target_at(x, e, i, resets, spots, rows);
+    if is_related(target, c, list) {
+        return at16(rows, 32 * e + 3 + 3 * i) as u64;
+    }
+    0
+}
+
+// The weight of edge e at item x that lands in the block of c.
+fn weigh(
+    c: usize,
+    x: usize,
+    e: usize,
+    list: &[u64],
+    resets: &[u16],
+    spots: &[u16],
+    rows: &[u16],
+) -> u64
+    requires { ⌜ (x < mostItems) × (e < mostEdges) ⌝ }
+    ensures { λ r. ⌜ (r ≡ weighed (now (list .entry)) (now (resets .entry)) (now (spots .entry)) (now (rows .entry)) c x e)
+        × (r < 4294967296) ⌝ }
+{
+    let count = at16(rows, 32 * e + 2);
+    let mut total = 0u64;
+    let mut i = count;
+    while 0 < i {
+        i = i - 1;
+        total = total + weigh_one(c, x, e, i, list, resets, spots, rows);
+    }
+    total
+}
+
+// Do edge e at x and edge f at y give the block of c the same share?
+fn is_balanced(
+    x: usize,
+    e: usize,
+    y: usize,
+    f: usize,
+    c: usize,
+    list: &[u64],
+    resets: &[u16],
+    spots: &[u16],
+    rows: &[u16],
+) -> bool
+    requires { ⌜ (x < mostItems) × (e < mostEdges) × (y < mostItems) × (f < mostEdges) ⌝ }
+    ensures { λ r. ⌜ r ≡ balanced (now (list .entry)) (now (resets .entry)) (now (spots .entry)) (now (rows .entry)) x e y f c ⌝ }
+{
+    let one = weigh(c, x, e, list, resets, spots, rows);
+    let other = weigh(c, y, f, list, resets, spots, rows);
+    one * (at16(rows, 32 * f + 1) as u64) == other * (at16(rows, 32 * e + 1) as u64)
+}
+
+// Do they so at each target of edge g at z?
+fn is_balanced_over(
+    z: usize,
+    g: usize,
+    x: usize,
+    e: usize,
+    y: usize,
+    f: usize,
+    list: &[u64],
+    resets: &[u16],
+    spots: &[u16],
+    rows: &[u16],
+) -> bool
+    requires { ⌜ (z < mostItems) × (g < mostEdges) × (x < mostItems) × (e < mostEdges) × (y < mostItems) × (f < mostEdges) ⌝ }
+    ensures { λ r. ⌜ r ≡ balancedOver (now (list .entry)) (now (resets .entry)) (now (spots .entry)) (now (rows .entry)) z g x e y f ⌝ }
+{
+    let count = at16(rows, 32 * g + 2);
+    let mut i = 0;
+    while i < count {
+        let c = target_at(z, g, i, resets, spots, rows);
+        if !is_balanced(x, e, y, f, c, list, resets, spots, rows) {
+            return false;
+        }
+        i = i + 1;
+    }
+    true
+}
+
+// Have edge e at x and edge f at y the same action, and the same share for every block?
+fn edges_alike(
+    x: usize,
+    e: usize,
+    y: usize,
+    f: usize,
+    list: &[u64],
+    resets: &[u16],
+    spots: &[u16],
+    rows: &[u16],
+) -> bool
+    requires { ⌜ (x < mostItems) × (e < mostEdges) × (y < mostItems) × (f < mostEdges) ⌝ }
+    ensures { λ r. ⌜ r ≡ edgesAlike (now (list .entry)) (now (resets .entry)) (now (spots .entry)) (now (rows .entry)) x e y f ⌝ }
+{
+    if at16(rows, 32 * e) != at16(rows, 32 * f) {
+        return false;
+    }
+    if !is_balanced_over(x, e, x, e, y, f, list, resets, spots, rows) {
+        return false;
+    }
+    is_balanced_over(y, f, x, e, y, f, list, resets, spots, rows)
+}
+
+// Is edge f available at y and alike to edge e at x?
+fn edge_answers(
+    x: usize,
+    e: usize,
+    y: usize,
+    f: usize,
+    list: &[u64],
+    flags: &[u8],
+    resets: &[u16],
+    spots: &[u16],
+    rows: &[u16],
+) -> bool
+    requires { ⌜ (x < mostItems) × (e < mostEdges) × (y < mostItems) × (f < mostEdges) ⌝ }
+    ensures { λ r. ⌜ r ≡ answers (now (list .entry)) (now (flags .entry)) (now (resets .entry)) (now (spots .entry)) (now (rows .entry)) x e y f ⌝ }
+{
+    if !is_set(flags, 128 * y + f) {
+        return false;
+    }
+    edges_alike(x, e, y, f, list, resets, spots, rows)
+}
+
+// Does some edge at y answer to edge e at x? The edge itself is tried first.
+fn some_answers(
+    k: usize,
+    x: usize,
+    e: usize,
+    y: usize,
+    list: &[u64],
+    flags: &[u8],
+    resets: &[u16],
+    spots: &[u16],
+    rows: &[u16],
+) -> bool
+    requires { ⌜ (k ≤ mostEdges) × (x < mostItems) × (e < k) × (y < mostItems) ⌝ }
+    ensures { λ r. ⌜ r ≡ someAnswers k (now (list .entry)) (now (flags .entry)) (now (resets .entry)) (now (spots .entry)) (now (rows .entry)) x e y ⌝ }
+{
+    if edge_answers(x, e, y, e, list, flags, resets, spots, rows) {
+        return true;
+    }
+    let mut f = 0;
+    while f < k {
+        if edge_answers(x, e, y, f, list, flags, resets, spots, rows) {
+            return true;
+        }
+        f = f + 1;
+    }
+    false
+}
+
+// Is edge e not available at x, or does some edge at y answer to it?
+fn edge_matches(
+    k: usize,
+    x: usize,
+    y: usize,
+    e: usize,
+    list: &[u64],
+    flags: &[u8],
+    resets: &[u16],
+    spots: &[u16],
+    rows: &[u16],
+) -> bool
+    requires { ⌜ (k ≤ mostEdges) × (x < mostItems) × (y < mostItems) × (e < k) ⌝ }
+    ensures { λ r. ⌜ r ≡ edgeAnswered k (now (list .entry)) (now (flags .entry)) (now (resets .entry)) (now (spots .entry)) (now (rows .entry)) x y e ⌝ }
+{
+    if !is_set(flags, 128 * x + e) {
+        return true;
+    }
+    some_answers(k, x, e, y, list, flags, resets, spots, rows)
+}
+
+// Has each edge available at x an answer at y?
+fn edges_match(
+    k: usize,
+    x: usize,
+    y: usize,
+    list: &[u64],
+    flags: &[u8],
+    resets: &[u16],
+    spots: &[u16],
+    rows: &[u16],
+) -> bool
+    requires { ⌜ (k ≤ mostEdges) × (x < mostItems) × (y < mostItems) ⌝ }
+    ensures { λ r. ⌜ r ≡ edgesAnswered k (now (list .entry)) (now (flags .entry)) (now (resets .entry)) (now (spots .entry)) (now (rows .entry)) x y ⌝ }
+{
+    let mut e = 0;
+    while e < k {
+        if !edge_matches(k, x, y, e, list, flags, resets, spots, rows) {
+            return false;
+        }
+        e = e + 1;
+    }
+    true
+}
+
+// The two conditions, from x to y.
+fn is_matched(
+    n: usize,
+    k: usize,
+    x: usize,
+    y: usize,
+    list: &[u64],
+    nexts: &[u16],
+    flags: &[u8],
+    resets: &[u16],
+    spots: &[u16],
+    rows: &[u16],
+) -> bool
+    requires { ⌜ (k ≤ mostEdges) × (x < mostItems) × (y < mostItems) ⌝ }
+    ensures { λ r. ⌜ r ≡ answered n k (now (list .entry)) (now (nexts .entry)) (now (flags .entry)) (now (resets .entry))
+        (now (spots .entry)) (now (rows .entry)) x y ⌝ }
+{
+    if !delays_match(n, x, y, list, nexts) {
+        return false;
+    }
+    edges_match(k, x, y, list, flags, resets, spots, rows)
+}
+
+// Are x and y items, of so many items and edges as there may be?
+fn are_items(n: usize, k: usize, x: usize, y: usize) -> bool
+    ensures { λ r. ⌜ (r ≡ true → (k ≤ mostEdges) × (x < mostItems) × (y < mostItems)) ⌝ }
+    ensures { λ r. ⌜ (n ≤ mostItems → k ≤ mostEdges → x < n → y < n → r ≡ true) ⌝ }
+{
+    if 4096 < n {
+        return false;
+    }
+    if 128 < k {
+        return false;
+    }
+    if n <= x {
+        return false;
+    }
+    y < n
+}
+
+// Do both conditions hold from item x to item y?
+pub(crate) fn matches_all(
+    n: usize,
+    k: usize,
+    x: usize,
+    y: usize,
+    list: &[u64],
+    labels: &[u16],
+    nexts: &[u16],
+    flags: &[u8],
+    resets: &[u16],
+    spots: &[u16],
+    rows: &[u16],
+) -> bool
+    ensures { λ r. ⌜ ((F : Finite) → Held F n k (now (labels .entry)) (now (nexts .entry)) (now (flags .entry)) (now (resets .entry))
+        (now (spots .entry)) (now (rows .entry)) → Closed (structure F) → x < n → y < n → r ≡ matches F (now (list .entry)) x y) ⌝ }
+{
+    if !are_items(n, k, x, y) {
+        return false;
+    }
+    is_matched(n, k, x, y, list, nexts, flags, resets, spots, rows)
+}
+
+// Is item y related to item x in the next round? The list says how items are related in this one.
+pub(crate) fn is_next(
+    n: usize,
+    k: usize,
+    x: usize,
+    y: usize,
+    list: &[u64],
+    labels: &[u16],
+    nexts: &[u16],
+    flags: &[u8],
+    resets: &[u16],
+    spots: &[u16],
+    rows: &[u16],
+) -> bool
+    ensures { λ r. ⌜ ((F : Finite) → Held F n k (now (labels .entry)) (now (nexts .entry)) (now (flags .entry)) (now (resets .entry))
+        (now (spots .entry)) (now (rows .entry)) → Closed (structure F) → x < n → y < n → r ≡ next F (now (list .entry)) x y) ⌝ }
+{
+    if !are_items(n, k, x, y) {
+        return false;
+    }
+    if !is_related(x, y, list) {
+        return false;
+    }
+    if !is_matched(n, k, x, y, list, nexts, flags, resets, spots, rows) {
+        return false;
+    }
+    is_matched(n, k, y, x, list, nexts, flags, resets, spots, rows)
+}
