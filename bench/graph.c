@@ -1,5 +1,5 @@
-/* How long the graph call takes: a model in the manner of a radio link, and tables made to be slow. Each line gives the model, the
- * answer, and the best time of several runs. */
+/* How long the graph call and the partition call take: models in the manner of a radio link, and tables made to be slow. Each line
+ * gives the model, the answer, and the best time of several runs. */
 #define _POSIX_C_SOURCE 199309L
 #include <stdio.h>
 #include <string.h>
@@ -33,6 +33,21 @@ static void run(const char *name) {
         if (took < best) best = took;
     }
     printf("%-44s refusal %2llu  N %4llu  %9.3f ms\n", name, (unsigned long long)answer.refusal, (unsigned long long)answer.value, best);
+}
+
+static uint64_t first[TERKWABU_MAX_REGIONS], second[TERKWABU_MAX_REGIONS];
+
+static void run_reduce(const char *name) {
+    double best = 1e9;
+    terkwabu_answer answer = {0};
+    for (int i = 0; i < 5; i++) {
+        double start = now();
+        answer = terkwabu_reduce(table, size, entries, sizeof entries, first, TERKWABU_MAX_REGIONS, second, TERKWABU_MAX_REGIONS);
+        double took = now() - start;
+        if (took < best) best = took;
+    }
+    printf("%-44s refusal %2llu  N %4llu  blocks %4llu  rounds %4llu  %9.3f ms\n", name, (unsigned long long)answer.refusal,
+           (unsigned long long)answer.value, (unsigned long long)answer.blocks, (unsigned long long)answer.rounds, best);
 }
 
 /* A link that sends, waits for an answer and retries: n locations in a ring, three clocks, timeouts of up to 6. */
@@ -69,8 +84,10 @@ static void wide_model(int branches, int atoms) {
 int main(void) {
     link_model(4);
     run("link, 4 locations");
+    run_reduce("the same, reduced");
     link_model(12);
     run("link, 12 locations");
+    run_reduce("the same, reduced");
     wide_model(8, 1);
     run("128 edges of 8 branches, 1 invariant atom");
     wide_model(8, 128);

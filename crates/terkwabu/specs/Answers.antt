@@ -1,8 +1,17 @@
 -- What a call answers to a C host: numbers only. Document 01 leaves the form to us; every choice has in common that the refusal's
 -- number and place, or the result, can be read off.
 use Prim.Native.Nat.{ℕ}
+use mathlib.Core.Bool.{Bool, cond}
 use Rattle.regions.specs.declared.call.Graph.{Graph}
 use Rattle.regions.specs.declared.call.Graph.the-variants.{Refused, Regions}
+use Rattle.regions.specs.declared.states.Placing.{Placing}
+use Rattle.regions.specs.declared.states.Placing.the-variants as P
+use Rattle.partition.specs.declared.calls.Reduction.{Reduction}
+use Rattle.partition.specs.declared.calls.Reduction.the-variants as B
+use Rattle.partition.specs.declared.calls.Pairing.{Pairing}
+use Rattle.partition.specs.declared.calls.Pairing.the-variants as S
+use Rattle.partition.specs.declared.calls.Judgement.{Judgement}
+use Rattle.partition.specs.declared.calls.Judgement.the-variants as J
 use Rattle.terkwabu.specs.declared.answer.Answer.{Answer}
 
 -- A refusal is a number, which is not 0, and a place; everything else is then 0.
@@ -13,3 +22,26 @@ refusedAs number place = record { refusal = number; place = place; value = 0; bl
 abbrev pub ofGraph : Graph → Answer
 ofGraph (Refused number place) = refusedAs number place
 ofGraph (Regions n) = record { refusal = 0; place = 0; value = n; blocks = 0; rounds = 0 }
+
+-- The state call: the region's number is the value.
+abbrev pub ofPlacing : Placing → Answer
+ofPlacing (P.Refused number place) = refusedAs number place
+ofPlacing (P.Region number) = record { refusal = 0; place = 0; value = number; blocks = 0; rounds = 0 }
+
+-- The partition call: N is the value, and the counts of blocks and rounds have fields of their own.
+abbrev pub ofReduction : Reduction → Answer
+ofReduction (B.Refused number place) = refusedAs number place
+ofReduction (B.Blocks n blocks rounds) = record { refusal = 0; place = 0; value = n; blocks = blocks; rounds = rounds }
+
+-- The pair call: 1 where the two regions share a block, 0 where not.
+abbrev pub oneIf : Bool → ℕ
+oneIf holds = cond holds 1 0
+
+abbrev pub ofPairing : Pairing → Answer
+ofPairing (S.Refused number place) = refusedAs number place
+ofPairing (S.Shared holds) = record { refusal = 0; place = 0; value = oneIf holds; blocks = 0; rounds = 0 }
+
+-- The judging call: 1 where the proposal is accepted.
+abbrev pub ofJudgement : Judgement → Answer
+ofJudgement (J.Refused number place) = refusedAs number place
+ofJudgement J.Accepted = record { refusal = 0; place = 0; value = 1; blocks = 0; rounds = 0 }

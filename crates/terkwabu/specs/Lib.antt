@@ -1,3 +1,5 @@
 -- The definitions of the C interface:
 --   Answers    the numbers that a call's answer is given in
+--   Laws       what a host reads off an answer
 pub mod Answers
+pub mod Laws

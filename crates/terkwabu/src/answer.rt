@@ -1,7 +1,11 @@
 // What every call answers: numbers only. What does not apply is 0.
 ghost use mathlib.Core.Path.{_≡_};
-ghost use Rattle.terkwabu.specs.Answers.{ofGraph};
+ghost use Rattle.terkwabu.specs.Answers.{ofGraph, ofPlacing, ofReduction, ofPairing, ofJudgement, oneIf};
+use partition::Judgement;
+use partition::Pairing;
+use partition::Reduction;
 use regions::Graph;
+use regions::Placing;
 
 // `refusal` is 0 where nothing is refused.
 #[repr(C)]
@@ -29,6 +33,105 @@ pub(crate) fn of_graph(graph: Graph) -> Answer
             refusal: 0,
             place: 0,
             value: n as u64,
+            blocks: 0,
+            rounds: 0,
+        },
+    }
+}
+
+// The answer of the state call.
+pub(crate) fn of_placing(placing: Placing) -> Answer
+    ensures { λ r. ⌜ r ≡ ofPlacing placing ⌝ }
+{
+    match placing {
+        Placing::Refused { number, place } => Answer {
+            refusal: number as u64,
+            place: place as u64,
+            value: 0,
+            blocks: 0,
+            rounds: 0,
+        },
+        Placing::Region(number) => Answer {
+            refusal: 0,
+            place: 0,
+            value: number as u64,
+            blocks: 0,
+            rounds: 0,
+        },
+    }
+}
+
+// The answer of the partition call.
+pub(crate) fn of_reduction(reduction: Reduction) -> Answer
+    ensures { λ r. ⌜ r ≡ ofReduction reduction ⌝ }
+{
+    match reduction {
+        Reduction::Refused { number, place } => Answer {
+            refusal: number as u64,
+            place: place as u64,
+            value: 0,
+            blocks: 0,
+            rounds: 0,
+        },
+        Reduction::Blocks {
+            regions,
+            blocks,
+            rounds,
+        } => Answer {
+            refusal: 0,
+            place: 0,
+            value: regions as u64,
+            blocks: blocks as u64,
+            rounds: rounds as u64,
+        },
+    }
+}
+
+// 1 for true, 0 for false.
+fn one_if(holds: bool) -> u64
+    ensures { λ r. ⌜ r ≡ oneIf holds ⌝ }
+{
+    if holds { 1 } else { 0 }
+}
+
+// The answer of the pair call.
+pub(crate) fn of_pairing(pairing: Pairing) -> Answer
+    ensures { λ r. ⌜ r ≡ ofPairing pairing ⌝ }
+{
+    match pairing {
+        Pairing::Refused { number, place } => Answer {
+            refusal: number as u64,
+            place: place as u64,
+            value: 0,
+            blocks: 0,
+            rounds: 0,
+        },
+        Pairing::Shared(holds) => Answer {
+            refusal: 0,
+            place: 0,
+            value: one_if(holds),
+            blocks: 0,
+            rounds: 0,
+        },
+    }
+}
+
+// The answer of the judging call.
+pub(crate) fn of_judgement(judgement: Judgement) -> Answer
+    ensures { λ r. ⌜ r ≡ ofJudgement judgement ⌝ }
+{
+    match judgement {
+        Judgement::Refused { number, place } => Answer {
+            refusal: number as u64,
+            place: place as u64,
+            value: 0,
+            blocks: 0,
+            rounds: 0,
+        },
+        Judgement::Accepted => Answer {
+            refusal: 0,
+            place: 0,
+            value: 1,
             blocks: 0,
             rounds: 0,
         },

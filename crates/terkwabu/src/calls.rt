@@ -2,9 +2,15 @@
 ghost use mathlib.Core.Path.{_≡_};
 ghost use lib.ListN.{length};
 ghost use Rattle.regions.specs.Call.{roomFor, outcomeOf, graphOf, entriesAfter};
-ghost use Rattle.terkwabu.specs.Answers.{ofGraph};
+ghost use Rattle.terkwabu.specs.Answers.{ofGraph, ofPlacing, ofReduction, ofPairing, ofJudgement};
+ghost use Rattle.partition.specs.Calls.{reduceOf, listAfter, pairOf, pairListAfter, judgeOf};
+ghost use Rattle.regions.specs.StateCall.{asked, placeOf};
 use crate::answer::Answer;
 use crate::answer::of_graph;
+use crate::answer::of_judgement;
+use crate::answer::of_pairing;
+use crate::answer::of_placing;
+use crate::answer::of_reduction;
 
 // The graph call: explores the regions of a table into the lent entries. The value is N.
 #[no_mangle]
@@ -14,4 +20,75 @@ pub extern "C" fn terkwabu_graph(table: &[u8], entries: &mut [u8]) -> Answer
         ≡ entriesAfter (now (entries .entry)) (outcomeOf (now (table .entry)) (roomFor (length (now (entries .entry))))) ⌝ }
 {
     of_graph(regions::explore_table(table, entries))
+}
+
+// The state call: explores the regions of a table into the lent entries, and finds the region of a state, at a location, with four
+// values over a denominator. The value is the region's number.
+#[no_mangle]
+pub extern "C" fn terkwabu_place(
+    table: &[u8],
+    entries: &mut [u8],
+    location: u64,
+    v0: u64,
+    v1: u64,
+    v2: u64,
+    v3: u64,
+    denominator: u64,
+) -> Answer
+    ensures { λ r. ⌜ r ≡ ofPlacing (placeOf (now (table .entry)) (roomFor (length (now (entries .entry))))
+        (asked location v0 v1 v2 v3 denominator)) ⌝ }
+    ensures { λ r. ⌜ now (entries .exit)
+        ≡ entriesAfter (now (entries .entry)) (outcomeOf (now (table .entry)) (roomFor (length (now (entries .entry))))) ⌝ }
+{
+    of_placing(regions::place_state(table, entries, location, v0, v1, v2, v3, denominator))
+}
+
+// The partition call: the blocks of a table's regions, in both lists. The value is N.
+#[no_mangle]
+pub extern "C" fn terkwabu_reduce(
+    table: &[u8],
+    entries: &mut [u8],
+    first: &mut [u64],
+    second: &mut [u64],
+) -> Answer
+    ensures { λ r. ⌜ r ≡ ofReduction (reduceOf (now (table .entry)) (roomFor (length (now (entries .entry)))) (now (first .entry)) (now (second .entry))) ⌝ }
+    ensures { λ r. ⌜ now (entries .exit)
+        ≡ entriesAfter (now (entries .entry)) (outcomeOf (now (table .entry)) (roomFor (length (now (entries .entry))))) ⌝ }
+    ensures { λ r. ⌜ now (first .exit)
+        ≡ listAfter (now (table .entry)) (roomFor (length (now (entries .entry)))) (now (first .entry)) (now (second .entry)) (now (first .entry)) ⌝ }
+    ensures { λ r. ⌜ now (second .exit)
+        ≡ listAfter (now (table .entry)) (roomFor (length (now (entries .entry)))) (now (first .entry)) (now (second .entry)) (now (second .entry)) ⌝ }
+{
+    of_reduction(partition::reduce_table(table, entries, first, second))
+}
+
+// The pair call: whether two regions share a block; the blocks in both lists. The value is 1 where they do, 0 where not.
+#[no_mangle]
+pub extern "C" fn terkwabu_pair(
+    table: &[u8],
+    entries: &mut [u8],
+    first: &mut [u64],
+    second: &mut [u64],
+    r: u64,
+    s: u64,
+) -> Answer
+    ensures { λ a. ⌜ a ≡ ofPairing (pairOf (now (table .entry)) (roomFor (length (now (entries .entry)))) (now (first .entry)) (now (second .entry)) r s) ⌝ }
+    ensures { λ a. ⌜ now (entries .exit)
+        ≡ entriesAfter (now (entries .entry)) (outcomeOf (now (table .entry)) (roomFor (length (now (entries .entry))))) ⌝ }
+    ensures { λ a. ⌜ now (first .exit)
+        ≡ pairListAfter (now (table .entry)) (roomFor (length (now (entries .entry)))) (now (first .entry)) (now (second .entry)) (now (first .entry)) r s ⌝ }
+    ensures { λ a. ⌜ now (second .exit)
+        ≡ pairListAfter (now (table .entry)) (roomFor (length (now (entries .entry)))) (now (first .entry)) (now (second .entry)) (now (second .entry)) r s ⌝ }
+{
+    of_pairing(partition::pair_table(table, entries, first, second, r, s))
+}
+
+// The judging call: is a proposed partition a bisimulation? The value is 1 where it is accepted.
+#[no_mangle]
+pub extern "C" fn terkwabu_judge(table: &[u8], entries: &mut [u8], proposal: &[u64]) -> Answer
+    ensures { λ r. ⌜ r ≡ ofJudgement (judgeOf (now (table .entry)) (roomFor (length (now (entries .entry)))) (now (proposal .entry))) ⌝ }
+    ensures { λ r. ⌜ now (entries .exit)
+        ≡ entriesAfter (now (entries .entry)) (outcomeOf (now (table .entry)) (roomFor (length (now (entries .entry))))) ⌝ }
+{
+    of_judgement(partition::judge_table(table, entries, proposal))
 }

@@ -4,3 +4,7 @@ mod calls;
 
 pub use answer::Answer;
 pub use calls::terkwabu_graph;
+pub use calls::terkwabu_judge;
+pub use calls::terkwabu_pair;
+pub use calls::terkwabu_place;
+pub use calls::terkwabu_reduce;
