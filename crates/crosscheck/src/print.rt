@@ -15,3 +15,9 @@ pub(crate) fn digest(text: &[u8], n: u64) {
     io::write_all(STDOUT_FILENO, text);
     io::print_decimal(STDOUT_FILENO, n);
 }
+
+// A refusal: its number and place.
+pub(crate) fn refused(n: u8, place: usize) {
+    number(b"refused ", n as usize);
+    number(b" place ", place);
+}

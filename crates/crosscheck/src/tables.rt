@@ -3,19 +3,19 @@ ghost use Prim.Native.Nat.{_≤_, _<_};
 ghost use lib.ListN.{length};
 use crate::digest::mix;
 use crate::digest::mix_list;
+use crate::lists::filler;
 use crate::print;
 use table::Reading;
 use table::Shape;
 
 // Fills array k before the call.
-fn fill(list: &mut [usize], fill: u8, k: usize)
+fn fill(list: &mut [usize], byte: u8, k: usize)
     requires { ⌜ k < 4 ⌝ }
     requires { ⌜ length (now list) ≤ 160 ⌝ }
 {
-    let first = (fill as usize) + 256 * k;
     let mut i = 0;
     while i < list.len() {
-        list[i] = first + 1024 * i;
+        list[i] = filler(byte, k, i);
         i = i + 1;
     }
 }
@@ -162,8 +162,7 @@ fn run_over(
     let reading = table::read(bytes);
     match reading {
         Reading::Refused { number, place } => {
-            print::number(b"refused ", number as usize);
-            print::number(b" place ", place);
+            print::refused(number, place);
             print_lent(places, sources, actions, denominators);
         }
         Reading::Accepted(shape) => {

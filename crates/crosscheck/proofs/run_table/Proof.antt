@@ -14,8 +14,8 @@ slice-aggregate-bytes c =
     let pre = c .before .before .pre in
     sym (length-take-le args.size args.buffer.now pre)
 
-read-full-requires : tie.Need-read-full-requires
-read-full-requires c κs = search needs
+read-requires : tie.Need-read-requires
+read-requires c κs = search needs
 
 same-length : tie.Need-same-length
 same-length c = search needs
@@ -38,7 +38,7 @@ run-table-spec =
     (tie.spec
     slice-relend-prefix-bytes
     slice-aggregate-bytes
-    read-full-requires
+    read-requires
     same-length
     returns
     run-call-requires

@@ -1,34 +1,25 @@
 -- `fill` is safe and ends: the list keeps its length, and the measure is what is left of it. Assumes nothing.
+use lib.ListN.{length}
 use Prim.Native.Nat.{_-_}
 use mathlib.Core.Path.{_≡_}
-use lib.ListN.{length}
 use borrow.Author.Needs.{needs}
 use Rattle.crosscheck.proofs.tables.fill.Statement.{statement}
 use Rattle.crosscheck.proofs.tables.fill.Tie as tie
 
 abbrev Inv-loop : tie.InvT-loop
-Inv-loop list₀ fill k first i₀ list i = length list ≡ length list₀
+Inv-loop list₀ byte k i₀ list i = length list ≡ length list₀
 
 abbrev μ-loop : tie.MeasureT-loop
-μ-loop list₀ fill k first i₀ list i = length list₀ - i
-
-mul-first : tie.Need-mul-first Inv-loop μ-loop
-mul-first c = search needs
-
-add-first : tie.Need-add-first Inv-loop μ-loop
-add-first c = search needs
+μ-loop list₀ byte k i₀ list i = length list₀ - i
 
 loop-holds : tie.Need-loop-holds Inv-loop μ-loop
 loop-holds c = search needs
 
+filler-requires : tie.Need-filler-requires Inv-loop μ-loop
+filler-requires c κs = search needs
+
 mul-list : tie.Need-mul-list Inv-loop μ-loop
 mul-list c = search needs
-
-add-list : tie.Need-add-list Inv-loop μ-loop
-add-list c = search needs
-
-mul-list-2 : tie.Need-mul-list-2 Inv-loop μ-loop
-mul-list-2 c = search needs
 
 slice-write-list : tie.Need-slice-write-list Inv-loop μ-loop
 slice-write-list c = search needs
@@ -54,12 +45,9 @@ fill-spec =
     (tie.spec
     Inv-loop
     μ-loop
-    mul-first
-    add-first
     loop-holds
+    filler-requires
     mul-list
-    add-list
-    mul-list-2
     slice-write-list
     add-i
     loop-less

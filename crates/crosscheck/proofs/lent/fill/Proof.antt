@@ -3,8 +3,8 @@ use Prim.Native.Nat.{_-_}
 use mathlib.Core.Path.{_≡_}
 use lib.ListN.{length}
 use borrow.Author.Needs.{needs}
-use Rattle.crosscheck.proofs.graphs.fill.Statement.{statement}
-use Rattle.crosscheck.proofs.graphs.fill.Tie as tie
+use Rattle.crosscheck.proofs.lent.fill.Statement.{statement}
+use Rattle.crosscheck.proofs.lent.fill.Tie as tie
 
 abbrev Inv-loop : tie.InvT-loop
 Inv-loop lent₀ byte i₀ lent i = length lent ≡ length lent₀

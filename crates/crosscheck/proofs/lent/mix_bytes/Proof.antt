@@ -2,8 +2,8 @@
 use Prim.Native.Nat.{_-_}
 use lib.ListN.{length}
 use borrow.Author.Needs.{needs}
-use Rattle.crosscheck.proofs.graphs.mix_bytes.Statement.{statement}
-use Rattle.crosscheck.proofs.graphs.mix_bytes.Tie as tie
+use Rattle.crosscheck.proofs.lent.mix_bytes.Statement.{statement}
+use Rattle.crosscheck.proofs.lent.mix_bytes.Tie as tie
 
 abbrev Inv-loop : tie.InvT-loop
 Inv-loop list now₀ i₀ now i = Unit
