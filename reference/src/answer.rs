@@ -148,3 +148,8 @@ fn lists_digest(lists: &Lists) -> u64 {
     }
     digest.value
 }
+
+/// The answer of the listing: its length in bytes and the digest of all of them.
+pub fn listing_line(text: &[u8]) -> String {
+    format!("listing {} digest {}", text.len(), bytes_digest(text))
+}

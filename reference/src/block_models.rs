@@ -33,7 +33,7 @@ pub fn fan(clocks: u8, locations: std::ops::RangeInclusive<u8>) -> Edge {
 }
 
 /// Puts a list in any order.
-fn shuffle<T>(rng: &mut Rng, list: &mut [T]) {
+pub fn shuffle<T>(rng: &mut Rng, list: &mut [T]) {
     for last in (1..list.len()).rev() {
         let other = rng.below(last + 1);
         list.swap(last, other);

@@ -1,8 +1,8 @@
 // The collection of stored cases for the test program: which there are for the reading of tables, how they
 // are written, what they expect, and the checks that the collection makes on itself. The cases of the graph
 // call are collected in graph_cases.rs and follow these, then come those of the state call, collected in
-// place_cases.rs, and those of the calls on blocks, collected in partition_cases.rs, pair_cases.rs and
-// judge_cases.rs.
+// place_cases.rs, those of the calls on blocks, collected in partition_cases.rs, pair_cases.rs and
+// judge_cases.rs, and those of the listing, collected in listing_cases.rs.
 
 use crate::answer::{self, Answer};
 use crate::block_cases::{BlockCases, CALL_JUDGE, CALL_PAIR, CALL_PARTITION};
@@ -11,6 +11,7 @@ use crate::damage;
 use crate::generate;
 use crate::graph_cases;
 use crate::judge_cases;
+use crate::listing_cases;
 use crate::meetings;
 use crate::pair_cases;
 use crate::partition_cases;
@@ -171,15 +172,28 @@ const ON_BLOCKS: [OnBlocks; 3] = [
 ];
 
 /// The highest call whose cases can be written.
-pub const HIGHEST_CALL: u8 = CALL_JUDGE;
+pub const HIGHEST_CALL: u8 = listing_cases::CALL_LISTING;
 
-/// Makes all cases up to a call and writes them to the two files. Summaries go to standard error.
-pub fn write(
-    vectors_folder: &str,
-    input_file: &str,
-    output_file: &str,
-    highest_call: u8,
-) -> Result<(), String> {
+/// The cases of several calls, one call after the other, and their summaries.
+struct Whole {
+    count: usize,
+    input: Vec<u8>,
+    output: String,
+    summaries: Vec<String>,
+}
+
+impl Whole {
+    /// Takes the cases of a call.
+    fn take(&mut self, count: usize, input: &[u8], output: &str, summary: String) {
+        self.count += count;
+        self.input.extend_from_slice(input);
+        self.output.push_str(output);
+        self.summaries.push(summary);
+    }
+}
+
+/// The cases of the reading of tables.
+fn make(vectors_folder: &str) -> Result<Cases, String> {
     let mut cases = Cases::new();
     generate::add_cases(&mut cases);
     borders::add_cases(&mut cases);
@@ -187,36 +201,49 @@ pub fn write(
     damage::add_cases(&mut cases);
     add_vectors(&mut cases, vectors_folder)?;
     cases.check();
-    let mut summaries = vec![cases.summary()];
-    let (mut count, mut input, mut output) = (cases.count, cases.input, cases.output);
+    Ok(cases)
+}
+
+/// Makes all cases up to a call. The tables of a folder, if one is given, join those of the listing.
+fn make_all(vectors_folder: &str, highest_call: u8, tables: Option<&str>) -> Result<Whole, String> {
+    let mut whole = Whole { count: 0, input: Vec::new(), output: String::new(), summaries: Vec::new() };
+    let cases = make(vectors_folder)?;
+    whole.take(cases.count, &cases.input, &cases.output, cases.summary());
     if highest_call >= graph_cases::CALL_GRAPH {
         let graph = graph_cases::make(vectors_folder)?;
-        summaries.push(graph.summary());
-        count += graph.count;
-        input.extend(graph.input);
-        output.push_str(&graph.output);
+        whole.take(graph.count, &graph.input, &graph.output, graph.summary());
     }
     if highest_call >= place_cases::CALL_PLACE {
         let place = place_cases::make(vectors_folder)?;
-        summaries.push(place.summary());
-        count += place.count;
-        input.extend(place.input);
-        output.push_str(&place.output);
+        whole.take(place.count, &place.input, &place.output, place.summary());
     }
     for (call, make, summary) in ON_BLOCKS {
         if highest_call >= call {
             let blocks = make(vectors_folder)?;
-            summaries.push(summary(&blocks));
-            count += blocks.count;
-            input.extend(blocks.input);
-            output.push_str(&blocks.output);
+            whole.take(blocks.count, &blocks.input, &blocks.output, summary(&blocks));
         }
     }
+    if highest_call >= listing_cases::CALL_LISTING {
+        let listing = listing_cases::make(vectors_folder, tables)?;
+        whole.take(listing.count, &listing.input, &listing.output, listing.summary());
+    }
+    Ok(whole)
+}
+
+/// Makes all cases up to a call and writes them to the two files. Summaries go to standard error.
+pub fn write(
+    vectors_folder: &str,
+    input_file: &str,
+    output_file: &str,
+    highest_call: u8,
+    tables: Option<&str>,
+) -> Result<(), String> {
+    let whole = make_all(vectors_folder, highest_call, tables)?;
+    let input = [(whole.count as u32).to_le_bytes().to_vec(), whole.input].concat();
     assert!(input.len() < WHOLE_BUDGET, "{} bytes of cases in all", input.len());
-    let input = [(count as u32).to_le_bytes().to_vec(), input].concat();
     fs::write(input_file, input).map_err(|error| format!("{input_file}: {error}"))?;
-    fs::write(output_file, &output).map_err(|error| format!("{output_file}: {error}"))?;
-    for summary in summaries {
+    fs::write(output_file, &whole.output).map_err(|error| format!("{output_file}: {error}"))?;
+    for summary in whole.summaries {
         eprintln!("{summary}");
     }
     Ok(())

@@ -1,7 +1,9 @@
-// The outside test vectors of all calls but the listing: reading them, and holding the calls to them.
+// The outside test vectors of all calls but the listing: reading them, and holding the calls to them. Those of
+// the listing stand in listing_vectors.rs.
 
 use crate::explore;
 use crate::json::{self, Value};
+use crate::listing_vectors;
 use crate::partition::{self, Lists, Question};
 use crate::place::{self, State};
 use crate::sha256::sha256;
@@ -12,8 +14,8 @@ use std::path::Path;
 /// A file of vectors and the call whose lines count in it.
 #[derive(Clone, Copy)]
 pub struct File {
-    name: &'static str,
-    call: &'static str,
+    pub name: &'static str,
+    pub call: &'static str,
 }
 
 /// The files that hold lines of the graph call: refusals 1 to 13, and the graph.
@@ -90,6 +92,15 @@ const SHOWN: usize = 10;
 
 /// The vectors of the file's call in a file of the folder. Lines of other calls are passed over.
 pub fn load(folder: &str, file: File) -> Result<Vec<Vector>, String> {
+    load_lines(folder, file, vector)
+}
+
+/// The lines of a file of the folder that `read` gives something for.
+pub fn load_lines<T>(
+    folder: &str,
+    file: File,
+    read: fn(File, usize, &str) -> Result<Option<T>, String>,
+) -> Result<Vec<T>, String> {
     let path = Path::new(folder).join(file.name);
     let text = fs::read_to_string(&path).map_err(|error| format!("{}: {error}", path.display()))?;
     let mut vectors = Vec::new();
@@ -99,7 +110,7 @@ pub fn load(folder: &str, file: File) -> Result<Vec<Vector>, String> {
         }
         let line = index + 1;
         let vector =
-            vector(file, line, content).map_err(|what| format!("{}: line {line}: {what}", path.display()))?;
+            read(file, line, content).map_err(|what| format!("{}: line {line}: {what}", path.display()))?;
         vectors.extend(vector);
     }
     if vectors.is_empty() {
@@ -201,7 +212,7 @@ fn numbers_of(value: &Value) -> Option<Vec<u64>> {
     value.list().and_then(|items| items.iter().map(Value::number).collect())
 }
 
-fn size_of(value: Option<&Value>, name: &str) -> Result<usize, String> {
+pub fn size_of(value: Option<&Value>, name: &str) -> Result<usize, String> {
     let number = value.and_then(Value::number).ok_or_else(|| format!("{name} is no number"))?;
     usize::try_from(number).map_err(|_| format!("{name} is too large"))
 }
@@ -229,7 +240,7 @@ fn can_refuse(call: &str, number: u64) -> bool {
     }
 }
 
-fn bytes_of(digits: &str) -> Result<Vec<u8>, String> {
+pub fn bytes_of(digits: &str) -> Result<Vec<u8>, String> {
     let digits: Option<Vec<u32>> = digits.chars().map(|digit| digit.to_digit(16)).collect();
     let digits = digits.ok_or("bytes with a letter that is no hexadecimal digit")?;
     if digits.len() % 2 != 0 {
@@ -244,27 +255,34 @@ pub fn check(folder: &str) -> Result<bool, String> {
     for file in [TABLE_FILE, GRAPH_FILE, PLACE_FILE, PARTITION_FILE, PAIR_FILE, JUDGE_FILE] {
         all &= check_file(folder, file)?;
     }
+    all &= listing_vectors::check(folder)?;
     Ok(all)
 }
 
 fn check_file(folder: &str, file: File) -> Result<bool, String> {
     let vectors = load(folder, file)?;
+    Ok(report(file, vectors.iter().map(|vector| (vector.line, difference(vector)))))
+}
+
+/// Prints how many lines of a file agree, and the first that do not. True if all agree.
+pub fn report(file: File, differences: impl Iterator<Item = (usize, Option<String>)>) -> bool {
     let file = file.name;
-    let mut disagreeing = 0;
-    for vector in &vectors {
-        if let Some(difference) = difference(vector) {
+    let (mut lines, mut disagreeing) = (0, 0);
+    for (line, difference) in differences {
+        lines += 1;
+        if let Some(difference) = difference {
             disagreeing += 1;
             if disagreeing <= SHOWN {
-                println!("{file}: line {}: {difference}", vector.line);
+                println!("{file}: line {line}: {difference}");
             }
         }
     }
     if disagreeing == 0 {
-        println!("{file}: {} lines agree", vectors.len());
+        println!("{file}: {lines} lines agree");
     } else {
-        println!("{file}: {disagreeing} of {} lines disagree", vectors.len());
+        println!("{file}: {disagreeing} of {lines} lines disagree");
     }
-    Ok(disagreeing == 0)
+    disagreeing == 0
 }
 
 /// How the call differs from what a line asks for.

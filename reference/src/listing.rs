@@ -1,0 +1,118 @@
+// The listing: the text that the program prints for a table. A refusal prints its line.
+
+use crate::explore::{self, MOST_REGIONS};
+use crate::links::{Graph, Step};
+use crate::region::{Region, ENTRY};
+use crate::rounds::{self, Rounds};
+use crate::table::{self, Refusal};
+use std::collections::{BTreeMap, BTreeSet};
+
+/// How many entries the program lends.
+pub const ENTRIES_OF_PROGRAM: usize = 2_048;
+/// A whole in the parts in which shares are printed.
+const WHOLE: u64 = 10_000;
+
+/// What is printed for a table with so many bytes lent for entries, all bytes of it.
+pub fn printed(table: &[u8], lent: usize) -> Vec<u8> {
+    listing(table, lent).unwrap_or_else(refusal_line).into_bytes()
+}
+
+/// The line of a refusal.
+pub fn refusal_line(refusal: Refusal) -> String {
+    format!("refused {} place {}\n", refusal.number, refusal.place)
+}
+
+/// The listing of a table with so many bytes lent for entries, or a refusal of 1 to 15.
+pub fn listing(table: &[u8], lent: usize) -> Result<String, Refusal> {
+    let model = table::read(table)?;
+    let mut entries = vec![0; lent.min(MOST_REGIONS * ENTRY)];
+    let regions = explore::regions(&model, &mut entries)?;
+    let graph = Graph::of(&model, &regions);
+    let rounds = rounds::run(&graph);
+    Ok(text(&regions, model.clocks.into(), &graph, &rounds))
+}
+
+/// The whole listing: the first line, the regions, the blocks.
+fn text(regions: &[Region], clocks: usize, graph: &Graph, rounds: &Rounds) -> String {
+    let members = members(&rounds.last);
+    let mut text = format!("regions {} blocks {} rounds {}\n", regions.len(), members.len(), rounds.count);
+    for (number, region) in regions.iter().enumerate() {
+        text.push_str(&region_line(number, *region, rounds.last[number], clocks));
+    }
+    for (block, members) in members.iter().enumerate() {
+        text.push_str(&block_lines(block as u32, members, graph, &rounds.last));
+    }
+    text
+}
+
+/// The regions of each block, rising.
+fn members(blocks: &[u32]) -> Vec<Vec<usize>> {
+    let mut members = vec![Vec::new(); rounds::count_of(blocks)];
+    for (region, &block) in blocks.iter().enumerate() {
+        members[block as usize].push(region);
+    }
+    members
+}
+
+/// A line: its fields parted by one blank.
+fn line(fields: &[String]) -> String {
+    fields.join(" ") + "\n"
+}
+
+fn region_line(number: usize, region: Region, block: u32, clocks: usize) -> String {
+    let mut fields = vec![format!("region {number} {} {block}", region.location)];
+    fields.extend((0..clocks).map(|clock| clock_field(region, clock)));
+    line(&fields)
+}
+
+fn clock_field(region: Region, clock: usize) -> String {
+    match (region.is_over(clock), region.rank[clock]) {
+        (true, _) => ">".to_string(),
+        (false, 0) => region.whole[clock].to_string(),
+        (false, rank) => format!("{}+{rank}", region.whole[clock]),
+    }
+}
+
+/// The lines of a block. Its lowest region speaks for it.
+fn block_lines(block: u32, members: &[usize], graph: &Graph, blocks: &[u32]) -> String {
+    let lowest = members[0];
+    let mut text = line(&[format!("block {block} {} {}", graph.labels[lowest], members.len())]);
+    let reached = reached(lowest, graph, blocks);
+    if !reached.is_empty() {
+        let mut fields = vec![format!("delay {block}")];
+        fields.extend(reached.iter().map(u32::to_string));
+        text.push_str(&line(&fields));
+    }
+    for step in &graph.steps[lowest] {
+        text.push_str(&step_line(block, step, blocks));
+    }
+    text
+}
+
+/// The other blocks that a region reaches by any delay, rising.
+fn reached(region: usize, graph: &Graph, blocks: &[u32]) -> BTreeSet<u32> {
+    let mut reached = BTreeSet::new();
+    let mut here = region;
+    while let Some(next) = graph.next[here] {
+        reached.insert(blocks[next]);
+        here = next;
+    }
+    reached.remove(&blocks[region]);
+    reached
+}
+
+fn step_line(block: u32, step: &Step, blocks: &[u32]) -> String {
+    let mut weights: BTreeMap<u32, u64> = BTreeMap::new();
+    for landing in &step.landings {
+        *weights.entry(blocks[landing.target]).or_default() += landing.weight;
+    }
+    let mut fields = vec![format!("step {block} {}", step.action)];
+    let share = |(target, weight): (&u32, &u64)| format!("{target}:{}", parts(*weight, step.denominator));
+    fields.extend(weights.iter().map(share));
+    line(&fields)
+}
+
+/// A share in ten-thousandths, half rounded up.
+fn parts(weight: u64, denominator: u64) -> u64 {
+    (2 * WHOLE * weight + denominator) / (2 * denominator)
+}
