@@ -73,7 +73,7 @@ pub record Added (r : Region) (n : ℕ) (es heads nexts es′ heads′ nexts′ 
 
 -- ---- The last number that passes a test: it is below n and passes, and none that passes is after it
 
-last-most : (p : ℕ → Bool) (n : ℕ) → last p n ≤ n
+pub last-most : (p : ℕ → Bool) (n : ℕ) → last p n ≤ n
 unfolding last
 last-most p zero = omega arith
 last-most p (suc n) = go (p n) (last-most p n)
@@ -82,7 +82,7 @@ last-most p (suc n) = go (p n) (last-most p n)
     go true h = omega arith
     go false h = omega arith
 
-last-passes : (p : ℕ → Bool) (n j : ℕ) → last p n ≡ suc j → p j ≡ true
+pub last-passes : (p : ℕ → Bool) (n j : ℕ) → last p n ≡ suc j → p j ≡ true
 unfolding last
 last-passes p zero j e = absurd (omega arith)
 last-passes p (suc n) j e = go (p n) refl e (last-passes p n j)
@@ -91,7 +91,7 @@ last-passes p (suc n) j e = go (p n) refl e (last-passes p n j)
     go true h e rest = let same : j ≡ n = omega arith in ap p same ∙ h
     go false h e rest = rest e
 
-last-covers : (p : ℕ → Bool) (n j : ℕ) → j < n → p j ≡ true → j < last p n
+pub last-covers : (p : ℕ → Bool) (n j : ℕ) → j < n → p j ≡ true → j < last p n
 unfolding last
 last-covers p zero j h t = absurd (omega arith)
 last-covers p (suc n) j h t = go (p n) refl (last-covers p n j)

@@ -17,6 +17,8 @@
 --   Filling    for the loops that fill the slices of the graph
 --   Rows       for the code that fills the rows of the edges
 --   Shown      what the slices of the graph then hold
+--   Reach      for the code that lists what a region reaches by delay
+--   Sight      for the code that says what is known of one region
 --   View       numbers and labels of regions; in a graph that was listed whole, delays and steps lead to numbers of regions
 --   Placed     what the answer of the state call says about the state's region
 pub mod Cells
@@ -39,3 +41,5 @@ pub mod Placed
 pub mod Filling
 pub mod Rows
 pub mod Shown
+pub mod Reach
+pub mod Sight

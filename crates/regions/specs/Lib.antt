@@ -19,8 +19,9 @@
 --   StateCall  the state call: its answer
 --   Spots      how the code places a state
 --   Shown      the graph in slices, as the layer above goes by it
+--   Sight      one region by itself, as the layer above asks for it
 --   Filling    how these slices are filled, step by step
---   Points     the points that document 01 marks ★
+--   Example    document 01's printed model: its table, and the model that it is read as
 -- Laws on these stand in Laws. RegionTheorem: a region leads by delays and edges exactly where each state in it does.
 pub mod Lists
 pub mod Cells
@@ -42,7 +43,8 @@ pub mod Covering
 pub mod StateCall
 pub mod Spots
 pub mod Shown
+pub mod Sight
 pub mod Filling
-pub mod Points
+pub mod Example
 pub mod Laws
 pub mod RegionTheorem

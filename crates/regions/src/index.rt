@@ -48,7 +48,7 @@ pub(crate) fn hash_of(r: Region) -> usize
 }
 
 // The link at a place.
-fn link_at(links: &[u16], i: usize) -> usize
+pub(crate) fn link_at(links: &[u16], i: usize) -> usize
     requires { ⌜ i < length (now links) ⌝ }
     ensures { λ r. ⌜ r ≡ getD (now (links .entry)) i 0 ⌝ }
 {

@@ -100,7 +100,7 @@ fn show_nexts(
 }
 
 // Puts the first n entries into an index of none.
-fn link_all(entries: &[u8], n: usize, heads: &mut [u16], links: &mut [u16])
+pub(crate) fn link_all(entries: &[u8], n: usize, heads: &mut [u16], links: &mut [u16])
     requires { ⌜ Index (now entries) (now heads) (now links) 0 ⌝ }
     requires { ⌜ (n ≤ maxEntries) × (entryBytes * n ≤ length (now entries)) × (n ≤ length (now links)) ⌝ }
     ensures { λ _. ⌜ Index (now (entries .entry)) (now (heads .exit)) (now (links .exit)) n ⌝ }

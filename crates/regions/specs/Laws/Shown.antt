@@ -19,6 +19,7 @@ use Rattle.regions.specs.View.{numberIn, labelOf, delayNumbers}
 use Rattle.regions.specs.Shown.{Shown, followers, shownRegion, branchOf}
 use Rattle.regions.specs.Filling.{Blocks, RowsTo, bare, Distinct, Grouped, Numbers, Targeted}
 use Rattle.regions.specs.Call.{Outcome, whole, fromAnswer, outcomeOf, graphOf, entriesAfter}
+use Rattle.regions.specs.Laws.Bounds.{all-at}
 use Rattle.regions.specs.Laws.Bytes.{listed-whole, entries-length}
 use Rattle.regions.specs.Laws.Call.{AllRegions, whole-graph, whole-model}
 use Rattle.regions.specs.Laws.Locations.{reached-location}
@@ -174,3 +175,11 @@ module _ (table es es′ : List ℕ) (m : Model) (cap : ℕ) (read : readTable t
 -- A model that was read has at most 128 edges.
 pub few-edges : (table : List ℕ) (m : Model) → readTable table ≡ accepted m → length (m .edges) ≤ 128
 few-edges table m read = sound table m read .few-edges
+
+-- And an edge of it at most 8 branches; and it has at most four clocks.
+pub few-branches : (table : List ℕ) (m : Model) → readTable table ≡ accepted m → (e : ℕ) → e < length (m .edges)
+    → length (edgeOf m e .branches) ≤ 8
+few-branches table m read e h = all-at (m .edges) (sound table m read .edges) (member noEdge (m .edges) e h) .few-branches
+
+pub few-clocks : (table : List ℕ) (m : Model) → readTable table ≡ accepted m → m .clocks ≤ 4
+few-clocks table m read = sound table m read .clocks
