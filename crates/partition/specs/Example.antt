@@ -8,7 +8,7 @@ use mathlib.Core.Path.{_≡_, refl, _∙_, ap, ap₂}
 use mathlib.Core.Bool.{true, false}
 use mathlib.Core.List.{List, [], _∷_}
 use Rattle.regions.specs.Passed.{resetIn}
-use Rattle.regions.specs.Points.{printed, printedModel, printed-read}
+use Rattle.regions.specs.Example.{printed, printedModel, printed-read}
 use Rattle.regions.specs.Cells.{delay}
 use Rattle.regions.specs.Atoms.{atom}
 use Rattle.regions.specs.Packed.{clockAt, delayed, afterReset}

@@ -1,12 +1,13 @@
 -- The two structures of a model (document 01, "Bisimulation and rounds": "The items are the regions of the graph or all
 -- states of the model"): the region graph, as a finite structure, and all states. A state is placed at its region's number.
-use Prim.Native.Nat.{ℕ, zero, suc, _<_}
+use Prim.Native.Nat.{ℕ, _<_}
 use mathlib.Core.Path.{_≡_}
 use mathlib.Core.Bool.{true}
-use mathlib.Core.List.{List, [], _∷_, map}
+use mathlib.Core.List.{List, map}
 use lib.ListN.{length, getD}
 use Rattle.regions.specs.Passed.{Model, edgeOf, Branch as ModelBranch}
-use Rattle.regions.specs.Graph.{boundsOf, landing, available, delayNext, gather, first}
+use Rattle.regions.specs.Graph.{boundsOf, landing, available, first}
+unfoldable pub use Rattle.regions.specs.Sight.{delaysFrom}
 use Rattle.regions.specs.View.{numberIn, labelOf}
 use Rattle.regions.specs.States.{State, IsState, Same, Delays, target, enabled}
 use Rattle.regions.specs.RegionTheorem.{regionIn}
@@ -19,11 +20,6 @@ use Rattle.bisimulation.specs.Finite.{Finite, lastBlocks}
 -- The region with a number; past the last, region 0 (a choice of ours).
 abbrev pub regionOf : Model → List Region → ℕ → Region
 regionOf m found x = getD found x (first m)
-
--- "Whatever r reaches by delay (zero included)": the region itself, then what follows it, so many times.
-unfoldable pub delaysFrom : Model → ℕ → Region → List Region
-delaysFrom m zero r = r ∷ []
-delaysFrom m (suc more) r = r ∷ gather (delaysFrom m more) (delayNext m r)
 
 -- A branch of an edge at a region: its weight, and the number of the region that it lands in.
 abbrev pub landsAt : Model → List Region → Region → ModelBranch → Branch ℕ

@@ -6,7 +6,9 @@
 --   Shown      the slices that the region layer fills hold the region graph
 --   Calls      what the answers of the calls say, and how the steps of their code are put together
 --   Success    when the calls succeed; one model and one list of regions; the pair call agrees with the lists
+--   View       what is said of one item of the graph
 --   Numbers    the numbers that the calls refuse with, none of which is 0
+--   Left       what a partition call that succeeded left, for the layer above
 pub mod Delays
 pub mod Instances
 pub mod Compare
@@ -14,4 +16,6 @@ pub mod Rounds
 pub mod Shown
 pub mod Calls
 pub mod Success
+pub mod View
 pub mod Numbers
+pub mod Left

@@ -4,6 +4,8 @@
 --   Held          a finite structure in slices, as the code of the rounds goes by it
 --   Compare       comparing two items, computed over those slices
 --   Rounds        what the code of the rounds and the judge keeps
+--   Passed        what the layer above needs of the layers beneath
+--   View          one region of the graph by itself, for the layer above
 --   Calls         the three calls: their answers, and what the lent lists then hold
 --   Promises      what each call promises, in one record
 --   Demand3       two states have different block numbers exactly when no bisimulation over all states relates them
@@ -13,6 +15,8 @@
 -- Laws on these stand in Laws.
 pub mod Instances
 pub mod Held
+pub mod Passed
+pub mod View
 pub mod Calls
 pub mod Promises
 pub mod Compare

@@ -1,5 +1,5 @@
 // The partition layer: the partition call, the pair call and the judging call. Regions are compared under a block list over the
-// graph in slices; rounds, numbering and judging go by that comparison.
+// graph in slices; rounds, numbering and judging go by that comparison. For the layer above: one region by itself.
 mod calls;
 mod compare;
 mod judge;
@@ -7,6 +7,7 @@ mod numbering;
 mod rounds;
 mod slices;
 mod stores;
+mod view;
 
 pub use calls::Judgement;
 pub use calls::Pairing;
@@ -14,3 +15,9 @@ pub use calls::Reduction;
 pub use calls::judge_table;
 pub use calls::pair_table;
 pub use calls::reduce_table;
+pub use view::Checked;
+pub use view::Entry;
+pub use view::Showing;
+pub use view::check_table;
+pub use view::entry_at;
+pub use view::show_item;
