@@ -1,0 +1,21 @@
+-- Laws on the definitions of this layer:
+--   Writing  bytes put one after the other
+--   Decimal  the digits of a number
+--   Texts    texts one after the other
+--   Buffers  a text in a buffer
+--   Joined   the parts of the listing, joined, are the listing
+--   Sense    what the definitions fall back on never occurs in what a call left
+--   Lengths  how long texts are
+--   Blocks   blocks in a list of block numbers
+--   Rising   the loops of a block's lines: the numbers that pass a test, and the branches of a row
+--   Parts    for the code of the parts
+pub mod Writing
+pub mod Decimal
+pub mod Texts
+pub mod Buffers
+pub mod Joined
+pub mod Sense
+pub mod Lengths
+pub mod Blocks
+pub mod Rising
+pub mod Parts
