@@ -1,14 +1,17 @@
 /* The calls of Terkwabu for C hosts.
  *
- * Each call takes a model table (docs/FORMAT.md) and lent bytes for region entries, and answers with numbers only. For every
- * table and every lent length the answer and the lent bytes are proved to be what the definitions in the specs/ folders of
- * crates/table, crates/regions, crates/bisimulation, crates/partition and crates/terkwabu say.
+ * terkwabu_graph, terkwabu_place, terkwabu_reduce, terkwabu_pair and terkwabu_judge take a model table (docs/FORMAT.md) and lent bytes
+ * for region entries, and explore the table's regions into these. Two more calls put text into a lent buffer: terkwabu_part a part of
+ * the listing, from what terkwabu_reduce left, and terkwabu_refusal_line the line of a refusal. All calls answer with numbers only.
+ * For every table, every number and every lent length the answer and all lent memory are proved to be what the definitions in the
+ * specs/ folders of crates/table, crates/regions, crates/bisimulation, crates/partition, crates/listing and crates/terkwabu say.
  *
- * A slice is a pointer and a length, counted in elements: bytes for tables and entries, numbers of 64 bits for block lists and
- * proposals. The pointer must be aligned, valid for that many elements and not null, also where the length is 0; nothing that is lent
+ * A slice is a pointer and a length, counted in elements: bytes for tables, entries and buffers, numbers of 64 bits for block lists
+ * and proposals. The pointer must be aligned, valid for that many elements and not null, also where the length is 0; nothing that is lent
  * may overlap anything else that the call is given. A call keeps nothing, shares nothing with other calls, and may run beside others; it
- * takes no memory but the stack: less than 128 KB for terkwabu_graph and terkwabu_place; the others ran within 1.5 MB, and are
- * meant for threads with 2 MB.
+ * takes no memory but the stack: less than 128 KB for terkwabu_graph and terkwabu_place; terkwabu_reduce, terkwabu_pair and
+ * terkwabu_judge ran within 1.5 MB, and are meant for threads with 2 MB; terkwabu_part has arrays of about 105 KB, and is meant for
+ * threads with 256 KB.
  */
 #ifndef TERKWABU_H
 #define TERKWABU_H
@@ -26,7 +29,11 @@ extern "C" {
 /* No model has more regions than these and is accepted. */
 #define TERKWABU_MAX_REGIONS 4096
 
-/* refusal is 0 where nothing is refused. What does not apply is 0; on a refusal everything but refusal and place is 0. */
+/* A buffer of so many bytes is enough for every part of a listing, and for every refusal's line. */
+#define TERKWABU_PART_BYTES 65536
+
+/* refusal is 0 where nothing is refused. What does not apply is 0; on a refusal everything but refusal and place is 0. Where nothing is
+ * refused, place is used by terkwabu_part and terkwabu_refusal_line alone: how many bytes a buffer that is too short should have. */
 typedef struct {
     uint64_t refusal, place, value, blocks, rounds;
 } terkwabu_answer;
@@ -57,6 +64,38 @@ terkwabu_answer terkwabu_pair(const uint8_t *table, size_t table_len, uint8_t *e
  * length is not N, 18 where it is no bisimulation. The proposal is never changed. */
 terkwabu_answer terkwabu_judge(const uint8_t *table, size_t table_len, uint8_t *entries, size_t entries_len,
                                const uint64_t *proposal, size_t proposal_len);
+
+/* Puts a part of the listing, the printed model, into the buffer: part 0 is the first line, then comes a part for each region and one
+ * for each block. entries, list and the three counts are to be those that terkwabu_reduce left for this table: regions is its value (N),
+ * blocks and rounds are its blocks and rounds, and list is either of the two. Then the bytes of all parts, joined in the order of their
+ * numbers, are the listing. Only the buffer is written to. The answer:
+ *
+ *   refusal above 0                   reading refuses the table, 1 to 13, at place; the buffer is as it was
+ *   value above 0                     so many bytes were written at the buffer's front; those after them are as they were
+ *   refusal and value 0, place not    the buffer is too short: place is how many bytes the part takes; the buffer is as it was
+ *   refusal, value and place 0        there is no such part; the buffer is as it was
+ *
+ * To get the whole listing, ask for part 0, 1, 2 and so on until refusal, value and place are all 0. A buffer of TERKWABU_PART_BYTES is
+ * never too short, and a table that terkwabu_reduce took is not refused here, so that with both value 0 is the end:
+ *
+ *   r = terkwabu_reduce(table, table_len, entries, entries_len, first, first_len, second, second_len);
+ *   for (part = 0; r.refusal == 0; part++) {
+ *       p = terkwabu_part(table, table_len, entries, entries_len, first, first_len, r.value, r.blocks, r.rounds, part, buffer,
+ *                         TERKWABU_PART_BYTES);
+ *       if (p.value == 0) break;
+ *       fwrite(buffer, 1, p.value, stdout);
+ *   }
+ *
+ * Other entries, lists and counts are taken as they are: nothing out of bounds is read, and where the counts cannot be those of what is
+ * lent (more than 4,096 regions, entries or a list too short for them, no block, more blocks than regions) there is no part. */
+terkwabu_answer terkwabu_part(const uint8_t *table, size_t table_len, const uint8_t *entries, size_t entries_len,
+                              const uint64_t *list, size_t list_len, uint64_t regions, uint64_t blocks, uint64_t rounds,
+                              uint64_t part, uint8_t *buffer, size_t buffer_len);
+
+/* Puts the line of a refusal, such as "refused 5 place 0" and a line feed, into the buffer: where terkwabu_reduce refuses a table with
+ * 1 to 15, this line is its listing. Any two numbers are taken. value is how many bytes were written; where it is 0 the buffer is too
+ * short, place is how many bytes the line takes (never above 128), and the buffer is as it was. refusal is always 0. */
+terkwabu_answer terkwabu_refusal_line(uint64_t number, uint64_t place, uint8_t *buffer, size_t buffer_len);
 
 #ifdef __cplusplus
 }

@@ -12,6 +12,8 @@ use Rattle.partition.specs.declared.calls.Pairing.{Pairing}
 use Rattle.partition.specs.declared.calls.Pairing.the-variants as S
 use Rattle.partition.specs.declared.calls.Judgement.{Judgement}
 use Rattle.partition.specs.declared.calls.Judgement.the-variants as J
+use Rattle.listing.specs.declared.parts.Part.{Part}
+use Rattle.listing.specs.declared.parts.Part.the-variants as T
 use Rattle.terkwabu.specs.declared.answer.Answer.{Answer}
 
 -- A refusal is a number, which is not 0, and a place; everything else is then 0.
@@ -45,3 +47,11 @@ ofPairing (S.Shared holds) = record { refusal = 0; place = 0; value = oneIf hold
 abbrev pub ofJudgement : Judgement → Answer
 ofJudgement (J.Refused number place) = refusedAs number place
 ofJudgement J.Accepted = record { refusal = 0; place = 0; value = 1; blocks = 0; rounds = 0 }
+
+-- The part call, and the line of a refusal: the value is how many bytes were written. Where none were, it is 0, and the place, which is
+-- no place in a table then (a choice of ours), is how many bytes the part takes, and 0 where there is no such part.
+abbrev pub ofPart : Part → Answer
+ofPart (T.Refused number place) = refusedAs number place
+ofPart (T.Written k) = record { refusal = 0; place = 0; value = k; blocks = 0; rounds = 0 }
+ofPart (T.Short k) = record { refusal = 0; place = k; value = 0; blocks = 0; rounds = 0 }
+ofPart T.End = record { refusal = 0; place = 0; value = 0; blocks = 0; rounds = 0 }

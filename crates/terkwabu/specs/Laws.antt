@@ -2,15 +2,17 @@
 -- value is how many they are; it is 15 exactly where there was no room for all; from 1 to 14 nothing was changed. And off one
 -- of the state call: the refusal is 0 exactly where a region's number is answered, and then the value is that number. And off
 -- those of the partition call, the pair call and the judging call: the refusal is 0 exactly on success, and then the fields
--- are what was answered.
-use Prim.Native.Nat.{ℕ, _≤_}
+-- are what was answered. And off those of the part call: value and place say what was written, and what the part calls of a
+-- host left in its buffers, joined, is the listing (`host-joined`).
+use Prim.Native.Nat.{ℕ, suc, _+_, _≤_, _<_}
 use native.Mathlib.Omega.{arith}
 use mathlib.Core.Logic.{_⊎_, inl, inr, _↔_}
-use mathlib.Core.Path.{_≡_, refl, ap}
-use mathlib.Core.Bool.{Bool, false}
-use mathlib.Core.List.{List}
-use lib.ListN.{length}
-use Rattle.regions.specs.Call.{Outcome, refused, cut, whole, outcomeOf, graphOf}
+use mathlib.Core.Path.{_≡_, refl, _∙_, ap}
+use mathlib.Core.Bool.{Bool, true, false, cond}
+use mathlib.Core.List.{List, [], _∷_}
+use lib.Dec.{leb}
+use lib.ListN.{length, take}
+use Rattle.regions.specs.Call.{Outcome, refused, cut, whole, roomFor, outcomeOf, graphOf}
 use Rattle.regions.specs.Passed.{Model, readTable, accepted}
 use Rattle.regions.specs.States.{State, Same}
 use Rattle.regions.specs.StateCall.{isNotTaken, ownState, placeOf}
@@ -20,6 +22,7 @@ use Rattle.regions.specs.declared.region.Region.{Region}
 use Rattle.regions.specs.declared.states.Placing.{Placing}
 use Rattle.regions.specs.declared.states.Placing.the-variants as P
 use Rattle.partition.specs.Calls.{reduceOf, pairOf, judgeOf}
+use Rattle.partition.specs.Promises.{Reduced}
 use Rattle.partition.specs.Laws.Numbers.{reduce-numbers, pair-numbers, judge-numbers}
 use Rattle.partition.specs.declared.calls.Reduction.{Reduction}
 use Rattle.partition.specs.declared.calls.Reduction.the-variants as B
@@ -27,7 +30,13 @@ use Rattle.partition.specs.declared.calls.Pairing.{Pairing}
 use Rattle.partition.specs.declared.calls.Pairing.the-variants as S
 use Rattle.partition.specs.declared.calls.Judgement.{Judgement}
 use Rattle.partition.specs.declared.calls.Judgement.the-variants as J
-use Rattle.terkwabu.specs.Answers.{ofGraph, ofPlacing, ofReduction, oneIf, ofPairing, ofJudgement}
+use Rattle.listing.specs.Text.{upTo}
+use Rattle.listing.specs.Printed.{listing}
+use Rattle.listing.specs.Parts.{textOf, partOf, fitted, bytesIn, bufferAfter, mostBytes}
+use Rattle.listing.specs.Laws.Joined.{upto-same, joined-most}
+use Rattle.listing.specs.declared.parts.Part.{Part}
+use Rattle.listing.specs.declared.parts.Part.the-variants as T
+use Rattle.terkwabu.specs.Answers.{ofGraph, ofPlacing, ofReduction, oneIf, ofPairing, ofJudgement, ofPart}
 use Rattle.terkwabu.specs.declared.answer.Answer.{Answer}
 
 module _ (table : List ℕ) (cap : ℕ) where
@@ -170,3 +179,64 @@ module _ (table : List ℕ) (cap : ℕ) (proposal : List ℕ) where
   -- The value is then 1.
   pub value-judged : judgeOf table cap proposal ≡ J.Accepted → judging .value ≡ 1
   value-judged t = ap (λ o. ofJudgement o .value) t
+
+-- ---- The part call
+
+-- The value is how many bytes were written.
+pub value-part : (p : Part) → ofPart p .value ≡ bytesIn p
+value-part (T.Refused number place) = refl
+value-part (T.Written k) = refl
+value-part (T.Short k) = refl
+value-part T.End = refl
+
+module _ (table entries list : List ℕ) (regions blocks rounds part room : ℕ) where
+  -- The answer of the part call, and the text of the part, which is empty exactly where there is no such part.
+  abbrev pub parting : Answer
+  parting = ofPart (partOf table entries list regions blocks rounds part room)
+
+  abbrev pub text : List ℕ
+  text = textOf table entries list regions blocks rounds part
+
+  fitted-says : (l : List ℕ) → (ofPart (fitted l room) .refusal ≡ 0)
+      × (ofPart (fitted l room) .value ≡ cond (leb (length l) room) (length l) 0)
+      × (ofPart (fitted l room) .place ≡ cond (leb (length l) room) 0 (length l))
+  fitted-says [] = go (leb 0 room)
+    where
+      go : (b : Bool) → (_≡_ {A = ℕ} 0 0) × (_≡_ {A = ℕ} 0 (cond b 0 0)) × (_≡_ {A = ℕ} 0 (cond b 0 0))
+      go true = (refl, refl, refl)
+      go false = (refl, refl, refl)
+  fitted-says (c ∷ l) = go (leb (length (c ∷ l)) room)
+    where
+      go : (b : Bool) → (ofPart (cond b (T.Written (length (c ∷ l))) (T.Short (length (c ∷ l)))) .refusal ≡ 0)
+          × (ofPart (cond b (T.Written (length (c ∷ l))) (T.Short (length (c ∷ l)))) .value ≡ cond b (length (c ∷ l)) 0)
+          × (ofPart (cond b (T.Written (length (c ∷ l))) (T.Short (length (c ∷ l)))) .place ≡ cond b 0 (length (c ∷ l)))
+      go true = (refl, refl, refl)
+      go false = (refl, refl, refl)
+
+  -- For a table that was read nothing is refused. Where the part fits, the value is its length and the place 0; else the other way
+  -- round. So all three are 0 exactly where there is no such part.
+  pub part-says : (m : Model) → readTable table ≡ accepted m → (parting .refusal ≡ 0)
+      × (parting .value ≡ cond (leb (length text) room) (length text) 0)
+      × (parting .place ≡ cond (leb (length text) room) 0 (length text))
+  unfolding partOf
+  part-says m read = rw read (fitted-says text)
+
+-- What the part calls of a host left in its buffers, each of 65,536 bytes or more, joined by their values: the listing. The premise is
+-- what the contract of `terkwabu_part` says of each call, with the entries, one of the lists and the counts that a partition call left.
+pub host-joined : (table entries first second : List ℕ) (n b k : ℕ) (entries′ first′ second′ : List ℕ)
+    → Reduced table entries first second (B.Blocks n b k) entries′ first′ second′ → (list : List ℕ)
+    → (list ≡ first′) ⊎ (list ≡ second′) → (buffers : ℕ → List ℕ) (answers : ℕ → Answer) (buffers′ : ℕ → List ℕ)
+    → ((part : ℕ) → part < suc (n + b)
+    → (answers part ≡ ofPart (partOf table entries′ list n b k part (length (buffers part))))
+    × (buffers′ part ≡ bufferAfter (textOf table entries′ list n b k part) (buffers part))
+    × (length (textOf table entries′ list n b k part) ≤ mostBytes))
+    → ((part : ℕ) → part < suc (n + b) → mostBytes ≤ length (buffers part))
+    → upTo (λ part. take (answers part .value) (buffers′ part)) (suc (n + b)) ≡ listing table (roomFor (length entries))
+host-joined table entries first second n b k entries′ first′ second′ reduced list either buffers answers buffers′ calls long =
+    upto-same _ _ (suc (n + b))
+    (λ part h.
+    ap (λ (j : ℕ). take j (buffers′ part))
+    (ap (λ (a : Answer). a .value) (calls part h .0) ∙ value-part (partOf table entries′ list n b k part (length (buffers part)))))
+    ∙ joined-most table entries first second n b k entries′ first′ second′ reduced list either buffers
+    (λ part. partOf table entries′ list n b k part (length (buffers part))) buffers′
+    (λ part h. record { answer-is = refl; buffer-is = calls part h .1; enough = calls part h .2 }) long

@@ -1,6 +1,8 @@
-// What every call answers: numbers only. What does not apply is 0.
+// What every call answers: numbers only. What does not apply is 0. Where nothing is refused, only the part call and that for the line of
+// a refusal use the place, for the bytes that a short buffer lacks room for.
 ghost use mathlib.Core.Path.{_≡_};
-ghost use Rattle.terkwabu.specs.Answers.{ofGraph, ofPlacing, ofReduction, ofPairing, ofJudgement, oneIf};
+ghost use Rattle.terkwabu.specs.Answers.{ofGraph, ofPlacing, ofReduction, ofPairing, ofJudgement, ofPart, oneIf};
+use listing::Part;
 use partition::Judgement;
 use partition::Pairing;
 use partition::Reduction;
@@ -132,6 +134,42 @@ pub(crate) fn of_judgement(judgement: Judgement) -> Answer
             refusal: 0,
             place: 0,
             value: 1,
+            blocks: 0,
+            rounds: 0,
+        },
+    }
+}
+
+// The answer of the part call, and for the line of a refusal.
+pub(crate) fn of_part(part: Part) -> Answer
+    ensures { λ r. ⌜ r ≡ ofPart part ⌝ }
+{
+    match part {
+        Part::Refused { number, place } => Answer {
+            refusal: number as u64,
+            place: place as u64,
+            value: 0,
+            blocks: 0,
+            rounds: 0,
+        },
+        Part::Written(k) => Answer {
+            refusal: 0,
+            place: 0,
+            value: k as u64,
+            blocks: 0,
+            rounds: 0,
+        },
+        Part::Short(k) => Answer {
+            refusal: 0,
+            place: k as u64,
+            value: 0,
+            blocks: 0,
+            rounds: 0,
+        },
+        Part::End => Answer {
+            refusal: 0,
+            place: 0,
+            value: 0,
             blocks: 0,
             rounds: 0,
         },

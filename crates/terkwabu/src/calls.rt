@@ -1,14 +1,18 @@
 // The exported calls.
+ghost use Prim.Native.Nat.{_≤_};
 ghost use mathlib.Core.Path.{_≡_};
 ghost use lib.ListN.{length};
 ghost use Rattle.regions.specs.Call.{roomFor, outcomeOf, graphOf, entriesAfter};
-ghost use Rattle.terkwabu.specs.Answers.{ofGraph, ofPlacing, ofReduction, ofPairing, ofJudgement};
+ghost use Rattle.listing.specs.Printed.{refusalLine};
+ghost use Rattle.listing.specs.Parts.{textOf, partOf, fitted, bufferAfter, mostBytes};
+ghost use Rattle.terkwabu.specs.Answers.{ofGraph, ofPlacing, ofReduction, ofPairing, ofJudgement, ofPart};
 ghost use Rattle.partition.specs.Calls.{reduceOf, listAfter, pairOf, pairListAfter, judgeOf};
 ghost use Rattle.regions.specs.StateCall.{asked, placeOf};
 use crate::answer::Answer;
 use crate::answer::of_graph;
 use crate::answer::of_judgement;
 use crate::answer::of_pairing;
+use crate::answer::of_part;
 use crate::answer::of_placing;
 use crate::answer::of_reduction;
 
@@ -91,4 +95,36 @@ pub extern "C" fn terkwabu_judge(table: &[u8], entries: &mut [u8], proposal: &[u
         ≡ entriesAfter (now (entries .entry)) (outcomeOf (now (table .entry)) (roomFor (length (now (entries .entry))))) ⌝ }
 {
     of_judgement(partition::judge_table(table, entries, proposal))
+}
+
+// The part call: a part of the listing of a table, from what a partition call left, in a buffer. The value is how many bytes were written.
+// Where it is 0 nothing was: a place that is not 0, without a refusal, is how many bytes the part takes; else there is no such part.
+#[no_mangle]
+pub extern "C" fn terkwabu_part(
+    table: &[u8],
+    entries: &[u8],
+    list: &[u64],
+    regions: u64,
+    blocks: u64,
+    rounds: u64,
+    part: u64,
+    buffer: &mut [u8],
+) -> Answer
+    ensures { λ r. ⌜ r ≡ ofPart (partOf (now (table .entry)) (now (entries .entry)) (now (list .entry)) regions blocks rounds part
+        (length (now (buffer .entry)))) ⌝ }
+    ensures { λ r. ⌜ now (buffer .exit)
+        ≡ bufferAfter (textOf (now (table .entry)) (now (entries .entry)) (now (list .entry)) regions blocks rounds part) (now (buffer .entry)) ⌝ }
+    ensures { λ r. ⌜ length (textOf (now (table .entry)) (now (entries .entry)) (now (list .entry)) regions blocks rounds part) ≤ mostBytes ⌝ }
+{
+    of_part(listing::write_part(table, entries, list, regions, blocks, rounds, part, buffer))
+}
+
+// The line of a refusal, in a buffer. The value is how many bytes were written; where it is 0, the place is how many the line takes.
+#[no_mangle]
+pub extern "C" fn terkwabu_refusal_line(number: u64, place: u64, buffer: &mut [u8]) -> Answer
+    ensures { λ r. ⌜ r ≡ ofPart (fitted (refusalLine number place) (length (now (buffer .entry)))) ⌝ }
+    ensures { λ r. ⌜ now (buffer .exit) ≡ bufferAfter (refusalLine number place) (now (buffer .entry)) ⌝ }
+    ensures { λ r. ⌜ length (refusalLine number place) ≤ 128 ⌝ }
+{
+    of_part(listing::refusal_line(number, place, buffer))
 }

@@ -6,5 +6,7 @@ pub use answer::Answer;
 pub use calls::terkwabu_graph;
 pub use calls::terkwabu_judge;
 pub use calls::terkwabu_pair;
+pub use calls::terkwabu_part;
 pub use calls::terkwabu_place;
 pub use calls::terkwabu_reduce;
+pub use calls::terkwabu_refusal_line;
