@@ -19,3 +19,18 @@ pub(crate) fn mix_list(digest: u64, list: &[usize]) -> u64 {
     }
     now
 }
+
+fn wide(byte: u8) -> usize {
+    byte as usize
+}
+
+// The digest with all bytes of a list more.
+pub(crate) fn mix_bytes(digest: u64, list: &[u8]) -> u64 {
+    let mut now = digest;
+    let mut i = 0;
+    while i < list.len() {
+        now = mix(now, wide(list[i]));
+        i = i + 1;
+    }
+    now
+}

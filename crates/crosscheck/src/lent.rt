@@ -1,9 +1,10 @@
-// Calls 2 to 6 over lent bytes and lists, filled beforehand so that a stray write shows.
+// Calls 2 to 7 over lent bytes and lists, filled beforehand so that a stray write shows.
 ghost use Prim.Native.Nat.{_≤_};
 ghost use lib.ListN.{length};
 use crate::blocks;
-use crate::digest::mix;
+use crate::digest::mix_bytes;
 use crate::graphs;
+use crate::listings;
 use crate::lists;
 use crate::pairs;
 use crate::places;
@@ -30,20 +31,6 @@ fn fill(lent: &mut [u8], byte: u8) {
         lent[i] = filler(byte, i);
         i = i + 1;
     }
-}
-
-fn wide(byte: u8) -> usize {
-    byte as usize
-}
-
-fn mix_bytes(list: &[u8]) -> u64 {
-    let mut now = 0;
-    let mut i = 0;
-    while i < list.len() {
-        now = mix(now, wide(list[i]));
-        i = i + 1;
-    }
-    now
 }
 
 // Fills the lists before the call; the first of call 6 is the proposal, which the input has. Answers false where that ends early.
@@ -84,6 +71,9 @@ fn run_over(
         Question::Proposal => {
             proposals::run(bytes, first, lent);
         }
+        Question::Listing => {
+            listings::run(bytes, lent, first, second);
+        }
     }
 }
 
@@ -96,9 +86,21 @@ fn writes_lists(question: Question) -> bool {
     }
 }
 
+// Is the call's answer all that is to be printed?
+fn is_listing(question: Question) -> bool {
+    match question {
+        Question::Listing => true,
+        _ => false,
+    }
+}
+
 // Prints what the bytes hold after the call, and the lists where it writes those.
 fn print_lent(question: Question, lent: &[u8], first: &[u64], second: &[u64]) {
-    print::digest(b" entries ", mix_bytes(lent));
+    if is_listing(question) {
+        print::word(b"\n");
+        return;
+    }
+    print::digest(b" entries ", mix_bytes(0, lent));
     if writes_lists(question) {
         lists::print(first, second);
     }

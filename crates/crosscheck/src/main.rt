@@ -5,6 +5,7 @@ mod digest;
 mod graphs;
 mod input;
 mod lent;
+mod listings;
 mod lists;
 mod numbers;
 mod pairs;
@@ -38,7 +39,7 @@ struct Case {
     lent: usize,
 }
 
-// Runs a case of calls 2 to 6 on what it asks and its table. Answers false where the case is none that this program knows, or the
+// Runs a case of calls 2 to 7 on what it asks and its table. Answers false where the case is none that this program knows, or the
 // input ends early.
 fn run_lent(asked: &[u8; 48], bytes: &[u8], case: Case) -> bool {
     let sizes = Sizes {
@@ -104,7 +105,7 @@ fn run_body(size: usize, case: Case) -> bool
 
 // Is there a call of this number?
 fn is_known(call: u8) -> bool {
-    if call < 1 { false } else { call <= 6 }
+    if call < 1 { false } else { call <= 7 }
 }
 
 // Reads a case and runs it. Answers false where the input ends early or the case is none that this program knows.

@@ -2,14 +2,14 @@
 use Prim.Native.Nat.{_-_}
 use lib.ListN.{length}
 use borrow.Author.Needs.{needs}
-use Rattle.crosscheck.proofs.lent.mix_bytes.Statement.{statement}
-use Rattle.crosscheck.proofs.lent.mix_bytes.Tie as tie
+use Rattle.crosscheck.proofs.digest.mix_bytes.Statement.{statement}
+use Rattle.crosscheck.proofs.digest.mix_bytes.Tie as tie
 
 abbrev Inv-loop : tie.InvT-loop
-Inv-loop list now₀ i₀ now i = Unit
+Inv-loop digest list now₀ i₀ now i = Unit
 
 abbrev μ-loop : tie.MeasureT-loop
-μ-loop list now₀ i₀ now i = length list - i
+μ-loop digest list now₀ i₀ now i = length list - i
 
 loop-holds : tie.Need-loop-holds Inv-loop μ-loop
 loop-holds c = search needs
