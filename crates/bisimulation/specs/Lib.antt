@@ -5,7 +5,7 @@
 --   Bisimulations    bisimulations, and the rounds
 --   Finite           finite structures: rounds as block lists, the count of rounds, judging a proposal
 --   Placings         items of a structure placed among those of a finite one
---   Example          document 01's printed model as a finite structure, and one with equal and unequal shares, computed
+--   Example          document 01's printed model as a finite structure, and its point on equal shares, computed
 --   ExampleTransfer  infinitely many items placed in the printed model: related and parted as its blocks say
 -- Laws on these stand in Laws.
 pub mod Structures
