@@ -171,6 +171,41 @@ pub fn spoiled(rng: &mut Rng, mut model: Model) -> Model {
     with_places(model)
 }
 
+/// A coarse model that stays the same where clocks 0 and 1 are exchanged: each atom and each edge stands in it
+/// both ways, so that a region and the one with the two clocks exchanged share a block.
+pub fn symmetric(rng: &mut Rng) -> Model {
+    let mut model = loop {
+        let model = coarse(rng);
+        if model.clocks >= 2 {
+            break model;
+        }
+    };
+    let atoms: Vec<InvariantAtom> =
+        model.invariants.iter().map(|&atom| InvariantAtom { clock: exchanged(atom.clock), ..atom }).collect();
+    model.invariants.extend(atoms);
+    let mut edges = model.edges.clone();
+    for edge in &mut edges {
+        for atom in &mut edge.guards {
+            atom.clock = exchanged(atom.clock);
+        }
+        for branch in &mut edge.branches {
+            branch.mask = branch.mask & !3 | (branch.mask & 1) << 1 | (branch.mask & 2) >> 1;
+        }
+    }
+    model.edges.extend(edges);
+    shuffle(rng, &mut model.edges);
+    with_places(model)
+}
+
+/// A clock with clocks 0 and 1 exchanged.
+fn exchanged(clock: u8) -> u8 {
+    if clock < 2 {
+        1 - clock
+    } else {
+        clock
+    }
+}
+
 /// A chain of locations without clocks, all of the same label but the last, which may have another.
 pub fn chain(locations: u8, last_label: u8) -> Model {
     let mut labels = vec![0; locations.into()];

@@ -6,6 +6,7 @@ use crate::graph_cases::written;
 use crate::links::Graph;
 use crate::pairs::{self, Relation};
 use crate::partition::{Answer, Question};
+use crate::refine;
 use crate::region::{Region, ENTRY};
 use crate::rounds::{self, Blocks};
 use crate::table::{Model, Refusal};
@@ -29,17 +30,23 @@ pub struct Subject {
 }
 
 impl Subject {
-    /// The model with its rounds, if there are at most 4,096 regions and region 0 is one.
+    /// The model with its rounds, checked, if there are at most 4,096 regions and region 0 is one.
     pub fn of(model: Model) -> Option<Subject> {
-        let Exploration::Whole(regions) = explore::explore(&model, MOST_REGIONS) else {
-            return None;
-        };
-        let graph = Graph::of(&model, &regions);
-        let history = rounds::history(&graph);
-        let subject = Subject { table: written(&model), regions, graph, history };
+        let subject = Subject::unchecked(model)?;
+        assert_eq!(subject.history, rounds::history(&subject.graph), "rounds by signatures are others");
         subject.check_by_pairs();
         subject.check_history();
         Some(subject)
+    }
+
+    /// The same without the checks.
+    pub fn unchecked(model: Model) -> Option<Subject> {
+        let Exploration::Whole(net) = explore::explore(&model, MOST_REGIONS) else {
+            return None;
+        };
+        let graph = Graph::of(&model, &net.regions);
+        let history = refine::history(&net);
+        Some(Subject { table: written(&model), regions: net.regions, graph, history })
     }
 
     /// N.

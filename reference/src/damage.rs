@@ -3,6 +3,7 @@
 
 use crate::cases::Cases;
 use crate::generate::{self, Shape, LARGE, LARGEST, MIDDLE, RICH, SMALL, TINY};
+use crate::meetings;
 use crate::records::{self, Records};
 use crate::rng::Rng;
 use crate::table::{body_length, Branch, Model, BRANCH, EDGE, END, GUARD, HEADER, INVARIANT, LOCATION};
@@ -79,9 +80,8 @@ fn changed_bytes(cases: &mut Cases) {
     for (shape, count) in [(TINY, 60), (SMALL, 240), (RICH, 160), (MIDDLE, 120), (LARGE, 6), (LARGEST, 6)] {
         for _ in 0..count {
             let table = Records::of(&generate::model(&mut cases.rng, &shape)).bytes();
-            let position = cases.rng.below(table.len());
-            let value = if cases.rng.chance(1, 2) { cases.rng.byte() } else { cases.rng.below(17) as u8 };
-            changed(cases, &table, position, value);
+            let table = with_changed_byte(&mut cases.rng, table);
+            cases.add(&table);
         }
     }
     // All values of: the first byte, an invariant atom's kind and comparison, a guard atom's comparison
@@ -92,6 +92,13 @@ fn changed_bytes(cases: &mut Cases) {
             changed(cases, &table, position, value);
         }
     }
+}
+
+/// The table with one byte changed by chance, to a small number as often as to any.
+pub fn with_changed_byte(rng: &mut Rng, mut table: Vec<u8>) -> Vec<u8> {
+    let position = rng.below(table.len());
+    table[position] = if rng.chance(1, 2) { rng.byte() } else { rng.below(17) as u8 };
+    table
 }
 
 fn changed(cases: &mut Cases, table: &[u8], position: usize, value: u8) {
@@ -145,69 +152,106 @@ fn moved_records(cases: &mut Cases) {
         }
     }
     for _ in 0..250 {
-        let mut records = Records::of(&generate::model(&mut cases.rng, &RICH));
-        for _ in 0..cases.rng.between(1, 2) {
-            let from = cases.rng.below(records.list.len());
-            let record = records.list.remove(from);
-            let to = cases.rng.below(records.list.len() + 1);
-            records.list.insert(to, record);
+        let records = Records::of(&generate::model(&mut cases.rng, &RICH));
+        let table = with_moved_records(&mut cases.rng, records);
+        cases.add(&table);
+    }
+}
+
+/// The table with one or two records moved by chance.
+pub fn with_moved_records(rng: &mut Rng, mut records: Records) -> Vec<u8> {
+    for _ in 0..rng.between(1, 2) {
+        let from = rng.below(records.list.len());
+        let record = records.list.remove(from);
+        let to = rng.below(records.list.len() + 1);
+        records.list.insert(to, record);
+    }
+    records.bytes()
+}
+
+/// The table with damage near its end: among the last 400 records, or behind them.
+pub fn with_late_damage(rng: &mut Rng, model: &Model) -> Vec<u8> {
+    let mut records = Records::of(model);
+    let whole = records.bytes();
+    let count = records.list.len();
+    let index = rng.between(count.saturating_sub(400).max(1), count - 1);
+    match rng.below(10) {
+        0 => whole[..records.place(index)].to_vec(),
+        1 => whole[..records.place(index) + 1].to_vec(),
+        2 | 3 => {
+            meetings::spoil(rng, model, &mut records, index);
+            records.bytes()
         }
-        cases.add(&records.bytes());
+        // A guard atom, a branch or an edge more, which is one too many where the model has as many as may be.
+        4..=6 => records.with_record(index, records.list[index].clone()).bytes(),
+        7 => records.with_record(count - 1, records::edge(model.initial, 0, 1)).bytes(),
+        8 => records.with_byte(index, 0, rng.pick(&[0, 1, 2, 3, 7, 8, 255])).bytes(),
+        _ => [whole, vec![7; rng.between(1, 60)]].concat(),
     }
 }
 
 /// Byte strings by chance: any bytes, small bytes, and either after a valid beginning.
 fn byte_strings(cases: &mut Cases) {
     for round in 0..240 {
-        let length = cases.rng.between(1, 48);
-        let small = round % 2 == 0;
-        let mut table: Vec<u8> =
-            (0..length).map(|_| if small { cases.rng.below(9) as u8 } else { cases.rng.byte() }).collect();
-        if round % 4 >= 2 {
-            let whole = Records::of(&generate::model(&mut cases.rng, &SMALL));
-            let kept = cases.rng.between(1, whole.list.len() - 1);
-            table.splice(0..0, whole.bytes()[..whole.place(kept)].to_vec());
-        }
+        let table = byte_string(&mut cases.rng, round % 2 == 0, round % 4 >= 2);
         cases.add(&table);
     }
 }
 
-/// Sequences of well-formed records by chance. The next kind is mostly one that the order allows, its
-/// numbers are mostly in range, and edges are mostly given the branches that they ask for.
+/// A byte string by chance: any bytes or small ones, alone or after a valid beginning.
+pub fn byte_string(rng: &mut Rng, small: bool, after_beginning: bool) -> Vec<u8> {
+    let length = rng.between(1, 48);
+    let mut table: Vec<u8> =
+        (0..length).map(|_| if small { rng.below(9) as u8 } else { rng.byte() }).collect();
+    if after_beginning {
+        let whole = Records::of(&generate::model(rng, &SMALL));
+        let kept = rng.between(1, whole.list.len() - 1);
+        table.splice(0..0, whole.bytes()[..whole.place(kept)].to_vec());
+    }
+    table
+}
+
+/// Sequences of well-formed records by chance.
 fn record_sequences(cases: &mut Cases) {
     for _ in 0..500 {
-        let rng = &mut cases.rng;
-        let (clocks, locations) = (rng.below(5) as u8, rng.between(1, 4) as u8);
-        let mut table = records::header(clocks, locations, rng.below(locations.into()) as u8);
-        for _ in 0..locations {
-            table.extend(records::location(rng.byte()));
-        }
-        let mut last = LOCATION;
-        for _ in 0..rng.between(1, 14) {
-            let usual: &[u8] = match last {
-                LOCATION | INVARIANT => &[INVARIANT, EDGE, EDGE, END],
-                EDGE | GUARD => &[GUARD, BRANCH, BRANCH, BRANCH],
-                _ => &[BRANCH, EDGE, EDGE, END],
-            };
-            let kind = if rng.chance(1, 30) { rng.between(1, 7) as u8 } else { rng.pick(usual) };
-            let mut record = fitting_record(rng, kind, clocks, locations);
-            let body = body_length(kind).unwrap_or(0);
-            if body > 0 && rng.chance(1, 30) {
-                record[rng.between(1, body)] = rng.byte();
-            }
-            if kind == EDGE && rng.chance(3, 4) {
-                // An edge together with a whole share, so that the sequence often gets beyond it.
-                let weight = u16::from_le_bytes([record[3], record[4]]);
-                record.extend(records::branch(Branch { weight, target: 0, mask: 0 }));
-                last = BRANCH;
-            } else {
-                last = kind;
-            }
-            table.extend(record);
-            if kind == END {
-                break;
-            }
-        }
+        let table = record_sequence(&mut cases.rng);
         cases.add(&table);
     }
+}
+
+/// A sequence of well-formed records by chance. The next kind is mostly one that the order allows, its
+/// numbers are mostly in range, and edges are mostly given the branches that they ask for.
+pub fn record_sequence(rng: &mut Rng) -> Vec<u8> {
+    let (clocks, locations) = (rng.below(5) as u8, rng.between(1, 4) as u8);
+    let mut table = records::header(clocks, locations, rng.below(locations.into()) as u8);
+    for _ in 0..locations {
+        table.extend(records::location(rng.byte()));
+    }
+    let mut last = LOCATION;
+    for _ in 0..rng.between(1, 14) {
+        let usual: &[u8] = match last {
+            LOCATION | INVARIANT => &[INVARIANT, EDGE, EDGE, END],
+            EDGE | GUARD => &[GUARD, BRANCH, BRANCH, BRANCH],
+            _ => &[BRANCH, EDGE, EDGE, END],
+        };
+        let kind = if rng.chance(1, 30) { rng.between(1, 7) as u8 } else { rng.pick(usual) };
+        let mut record = fitting_record(rng, kind, clocks, locations);
+        let body = body_length(kind).unwrap_or(0);
+        if body > 0 && rng.chance(1, 30) {
+            record[rng.between(1, body)] = rng.byte();
+        }
+        if kind == EDGE && rng.chance(3, 4) {
+            // An edge together with a whole share, so that the sequence often gets beyond it.
+            let weight = u16::from_le_bytes([record[3], record[4]]);
+            record.extend(records::branch(Branch { weight, target: 0, mask: 0 }));
+            last = BRANCH;
+        } else {
+            last = kind;
+        }
+        table.extend(record);
+        if kind == END {
+            break;
+        }
+    }
+    table
 }

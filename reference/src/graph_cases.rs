@@ -168,7 +168,7 @@ pub fn written(model: &Model) -> Vec<u8> {
 /// N if it is at most 4,096; none if it is more or region 0 breaks its invariant.
 pub fn count_of(model: &Model) -> Option<usize> {
     match explore::explore(model, MOST_REGIONS) {
-        Exploration::Whole(regions) => Some(regions.len()),
+        Exploration::Whole(net) => Some(net.count()),
         Exploration::Cut(_) | Exploration::NoStart => None,
     }
 }
@@ -220,7 +220,7 @@ fn add_by_chance(cases: &mut GraphCases) {
 
 /// So many bytes for a model of N regions: mostly what it takes, else a little more or less, at times any
 /// number that is too small.
-fn some_lent(rng: &mut Rng, count: usize) -> usize {
+pub fn some_lent(rng: &mut Rng, count: usize) -> usize {
     let exact = count * ENTRY;
     let lent = match rng.below(20) {
         0..=9 => exact,

@@ -56,7 +56,7 @@ pub fn summary(cases: &BlockCases) -> String {
 }
 
 /// Some numbers, without regard to any model.
-fn any_proposal(rng: &mut Rng) -> Question {
+pub fn any_proposal(rng: &mut Rng) -> Question {
     let length = rng.pick(&[0, 1, 2, 5, 7]);
     Question::Judge((0..length).map(|_| rng.pick(&[0, 1, u64::MAX])).collect())
 }

@@ -2,6 +2,7 @@
 
 use crate::explore::{self, MOST_REGIONS};
 use crate::links::{Graph, Step};
+use crate::refine;
 use crate::region::{Region, ENTRY};
 use crate::rounds::{self, Rounds};
 use crate::table::{self, Refusal};
@@ -14,22 +15,27 @@ const WHOLE: u64 = 10_000;
 
 /// What is printed for a table with so many bytes lent for entries, all bytes of it.
 pub fn printed(table: &[u8], lent: usize) -> Vec<u8> {
-    listing(table, lent).unwrap_or_else(refusal_line).into_bytes()
+    listing(table, lent).unwrap_or_else(refused).into_bytes()
 }
 
-/// The line of a refusal.
-pub fn refusal_line(refusal: Refusal) -> String {
-    format!("refused {} place {}\n", refusal.number, refusal.place)
+/// The line of a refusal that a call gave.
+pub fn refused(refusal: Refusal) -> String {
+    refusal_line(refusal.number.into(), refusal.place as u64)
+}
+
+/// The line of a refusal, given by its numbers.
+pub fn refusal_line(number: u64, place: u64) -> String {
+    format!("refused {number} place {place}\n")
 }
 
 /// The listing of a table with so many bytes lent for entries, or a refusal of 1 to 15.
 pub fn listing(table: &[u8], lent: usize) -> Result<String, Refusal> {
     let model = table::read(table)?;
     let mut entries = vec![0; lent.min(MOST_REGIONS * ENTRY)];
-    let regions = explore::regions(&model, &mut entries)?;
-    let graph = Graph::of(&model, &regions);
-    let rounds = rounds::run(&graph);
-    Ok(text(&regions, model.clocks.into(), &graph, &rounds))
+    let net = explore::net(&model, &mut entries)?;
+    let graph = Graph::of(&model, &net.regions);
+    let rounds = refine::run(&net);
+    Ok(text(&net.regions, model.clocks.into(), &graph, &rounds))
 }
 
 /// The whole listing: the first line, the regions, the blocks.

@@ -130,7 +130,7 @@ impl ListingCases {
         self.input.extend_from_slice(&head);
         self.input.extend_from_slice(table);
         let answer = listing::listing(table, lent);
-        let text = answer.clone().unwrap_or_else(listing::refusal_line);
+        let text = answer.clone().unwrap_or_else(listing::refused);
         self.output.push_str(&answer::listing_line(text.as_bytes()));
         self.output.push('\n');
         self.note(table, lent, &answer, text.len());

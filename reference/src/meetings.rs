@@ -394,7 +394,7 @@ fn two_records(cases: &mut Cases) {
 }
 
 /// Spoils one record. The result says at which record that shows, and how; none for a location.
-fn spoil(rng: &mut Rng, model: &Model, records: &mut Records, index: usize) -> Option<(usize, Refusal)> {
+pub fn spoil(rng: &mut Rng, model: &Model, records: &mut Records, index: usize) -> Option<(usize, Refusal)> {
     let place = records.place(index);
     let kind = records.list[index][0];
     let faults = match kind {

@@ -38,7 +38,7 @@ pub fn summary(cases: &BlockCases) -> String {
 }
 
 /// Two numbers, without regard to any model.
-fn any_pair(rng: &mut Rng) -> Question {
+pub fn any_pair(rng: &mut Rng) -> Question {
     Question::Pair([0; 2].map(|_| rng.pick(&[0, 0, 1, 2, 5, 4_096, 1 << 32, u64::MAX])))
 }
 
@@ -68,7 +68,7 @@ fn borders(cases: &mut BlockCases) {
 }
 
 /// A pair of a subject: equal, sharing a block, parted in the last round, or any.
-fn some_pair(rng: &mut Rng, subject: &Subject) -> Question {
+pub fn some_pair(rng: &mut Rng, subject: &Subject) -> Question {
     let count = subject.count();
     let first = rng.below(count);
     let near = |blocks: &[u32]| -> Vec<usize> {

@@ -6,6 +6,7 @@ use crate::block_chance::{drawn, early_refusals};
 use crate::block_models::{chain, large, large_by_guards, retrying, ticking};
 use crate::block_subject::{Lent, Subject};
 use crate::explore::MOST_REGIONS;
+use crate::heavy_models;
 use crate::partition::Question;
 use crate::vectors;
 
@@ -21,6 +22,7 @@ pub fn make(vectors_folder: &str) -> Result<BlockCases, String> {
     cases.begin_group(63);
     many_rounds(&mut cases);
     many_regions(&mut cases);
+    check_heavy();
     cases.begin_group(64);
     early_refusals(&mut cases, |_| Question::Partition);
     cases.begin_group(65);
@@ -115,6 +117,13 @@ fn many_rounds(cases: &mut BlockCases) {
         let ticks = usize::from(locations) * usize::from(largest);
         assert!(subject.rounds() >= 2 * ticks - 2, "{} rounds of {ticks} ticks", subject.rounds());
         cases.ask(&subject, subject.exact(), &Question::Partition);
+    }
+}
+
+/// Checks the rounds of small models of the heavy makes. They are no cases.
+fn check_heavy() {
+    for model in heavy_models::small() {
+        Subject::of(model).expect("a small model");
     }
 }
 

@@ -70,7 +70,7 @@ impl State {
 /// the entries afterwards, as after the graph call; 20 and 21 come after exploring.
 pub fn place(table: &[u8], lent: &mut [u8], state: &State) -> Result<usize, Refusal> {
     let model = table::read(table)?;
-    let regions = explore::regions(&model, lent)?;
+    let regions = explore::net(&model, lent)?.regions;
     if !state.is_allowed(&model) {
         return Err(Refusal { number: 20, place: 0 });
     }

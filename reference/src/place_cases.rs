@@ -53,8 +53,9 @@ impl Ground {
     /// The model with its regions, if there are at most 4,096 and region 0 is one.
     pub fn of(model: Model) -> Option<Ground> {
         match explore::explore(&model, MOST_REGIONS) {
-            Exploration::Whole(regions) => {
-                Some(Ground { table: written(&model), clocks: Clocks::of(&model), model, regions })
+            Exploration::Whole(net) => {
+                let (table, clocks) = (written(&model), Clocks::of(&model));
+                Some(Ground { table, clocks, model, regions: net.regions })
             }
             Exploration::Cut(_) | Exploration::NoStart => None,
         }
@@ -198,7 +199,7 @@ impl PlaceCases {
 }
 
 /// So many bytes for a graph that takes `exact` bytes.
-fn some_lent(rng: &mut Rng, exact: usize) -> usize {
+pub fn some_lent(rng: &mut Rng, exact: usize) -> usize {
     let lent = match rng.below(40) {
         0..=23 => exact,
         24..=29 => exact + rng.between(1, ENTRY - 1),
@@ -267,7 +268,7 @@ fn add_states(cases: &mut PlaceCases, ground: &Ground) {
 
 /// A state that breaks an atom of an invariant, by as little as its denominator allows. Its region would be a
 /// reached one, where the location has one, but for this clock.
-fn breaking(rng: &mut Rng, ground: &Ground) -> State {
+pub fn breaking(rng: &mut Rng, ground: &Ground) -> State {
     let atom = rng.pick(&ground.model.invariants);
     let there = |region: &Region| region.location == atom.location;
     let reached: Vec<Region> = ground.regions.iter().copied().filter(there).collect();

@@ -100,6 +100,25 @@ pub fn some_region(rng: &mut Rng, model: &Model) -> Region {
     region
 }
 
+/// A state whose values lie at borders: around 0, around a whole number, around M, or very large.
+pub fn at_borders(rng: &mut Rng, model: &Model) -> State {
+    let clocks = Clocks::of(model);
+    let denominator = some_denominator(rng, 1);
+    let mut values = [0; CLOCKS];
+    for value in &mut values[..clocks.count] {
+        let any = rng.below(16) as u64;
+        let border = rng.pick(&[0, 1, any, clocks.largest.into()]) * denominator;
+        *value = match rng.below(8) {
+            0 | 1 => border,
+            2 | 3 => border + 1,
+            4 | 5 => border.saturating_sub(1),
+            6 => border + rng.below(denominator as usize) as u64,
+            _ => rng.pick(&[u64::MAX, 1 << 63, 1 << 32, (1 << 32) + border]),
+        };
+    }
+    State { location: index_below(rng, model.labels.len() as u8).into(), values, denominator }
+}
+
 /// The same state over a denominator that is so many times larger, if the state call takes it.
 pub fn scaled(state: State, factor: u64) -> Option<State> {
     let denominator = state.denominator * factor;

@@ -4,7 +4,7 @@
 // document's entry has it: 16 and rank 0 for a clock that is over, 0 and rank 0 for a clock that the model
 // does not have.
 
-use crate::table::{Model, MOST_CLOCKS};
+use crate::table::{GuardAtom, Model, MOST_CLOCKS};
 use std::cmp::Ordering;
 
 /// How many clocks a region has room for.
@@ -135,6 +135,11 @@ impl Region {
             4 => standing.is_eq(),
             _ => unreachable!("the reader refuses other comparisons"),
         }
+    }
+
+    /// Whether all atoms of a guard hold.
+    pub fn meets_all(self, guards: &[GuardAtom]) -> bool {
+        guards.iter().all(|atom| self.meets(atom.clock, atom.comparison, atom.constant))
     }
 
     /// The nine bytes of the region.

@@ -16,6 +16,14 @@ impl Rng {
         rng
     }
 
+    /// The source for one of many asks of a seed, which does not depend on the others.
+    pub fn for_ask(seed: u64, number: u64) -> Rng {
+        let mut rng = Rng { state: seed };
+        rng.state = rng.next() ^ number.wrapping_mul(0xd6e8_feb8_6659_fd93);
+        rng.next();
+        rng
+    }
+
     pub fn next(&mut self) -> u64 {
         self.state = self.state.wrapping_add(0x9e37_79b9_7f4a_7c15);
         let mut mixed = self.state;

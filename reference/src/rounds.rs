@@ -1,4 +1,7 @@
-// Rounds by signatures: over the blocks of one round each region gets a description of the blocks that it
+// Rounds by signatures, plainly: each round is made from the one before and from nothing else. The calls make their
+// rounds more quickly; the collections of cases hold those to these.
+//
+// Over the blocks of one round each region gets a description of the blocks that it
 // reaches by delay and of its edges' shares in each block. Two regions meet both conditions, both ways, exactly
 // when their descriptions are equal: equal sets of blocks reached, and equal sets of edges, an edge being its
 // action and its shares. A share is kept as a reduced fraction, so that equal shares are equal pairs of
@@ -44,8 +47,8 @@ pub fn count_of(blocks: &[u32]) -> usize {
 }
 
 /// Round 0: regions of equal label.
-pub fn by_label(graph: &Graph) -> Blocks {
-    numbered(graph.labels.iter())
+pub fn by_label(labels: &[u8]) -> Blocks {
+    numbered(labels.iter())
 }
 
 /// The round after one with these blocks.
@@ -131,27 +134,13 @@ fn greatest_common(first: u64, second: u64) -> u64 {
 
 /// All rounds from 0 to the first that equals the next.
 pub fn history(graph: &Graph) -> Vec<Blocks> {
-    let mut all = vec![by_label(graph)];
+    let mut all = vec![by_label(&graph.labels)];
     loop {
         let next = next_round(graph, &all[all.len() - 1]);
         if all.last() == Some(&next) {
             return all;
         }
         all.push(next);
-    }
-}
-
-/// Runs the rounds. The count is the least k whose round equals the next.
-pub fn run(graph: &Graph) -> Rounds {
-    let mut last = by_label(graph);
-    let mut count = 0;
-    loop {
-        let next = next_round(graph, &last);
-        if next == last {
-            return Rounds { last, count };
-        }
-        last = next;
-        count += 1;
     }
 }
 

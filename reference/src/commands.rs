@@ -1,0 +1,100 @@
+// The commands of the program.
+//
+//   reference vectors DIR                         holds the calls to the test vectors in DIR
+//   reference cases DIR IN OUT [CALLS [TABLES]]   writes the stored cases and the answers they expect, up to a
+//                                                 call; the tables in TABLES join those of the listing
+//   reference read FILE                           reads one table and prints the answer
+//   reference list FILE [ENTRIES]                 prints the listing of one table
+//   reference mix SEED COUNT                      says what the first asks of a seed meet
+//   reference speed [TABLES]                      times the partition call on heavy models and the tables in TABLES
+//
+// For FILE "-" stands for standard input.
+
+use crate::{answer, cases, listing, mix, region, speed, table, vectors};
+use std::fs;
+use std::io::{self, Read, Write};
+
+const USAGE: &str = "usage: reference vectors DIR | cases DIR IN OUT [CALLS [TABLES]] | read FILE | \
+                     list FILE [ENTRIES] | mix SEED COUNT | speed [TABLES]";
+
+/// Carries out a command: whether all agreed, or what stood in the way.
+pub fn run(arguments: &[&str]) -> Result<bool, String> {
+    match *arguments {
+        ["vectors", folder] => vectors::check(folder),
+        ["cases", folder, input, output] => write_cases(folder, input, output, "1", None),
+        ["cases", folder, input, output, calls] => write_cases(folder, input, output, calls, None),
+        ["cases", folder, input, output, calls, tables] => {
+            write_cases(folder, input, output, calls, Some(tables))
+        }
+        ["read", file] => read(file).map(|()| true),
+        ["list", file] => list(file, listing::ENTRIES_OF_PROGRAM).map(|()| true),
+        ["list", file, entries] => {
+            number(entries, "ENTRIES").and_then(|entries| list(file, entries as usize)).map(|()| true)
+        }
+        ["mix", seed, count] => mix_of(seed, count).map(|()| true),
+        ["speed"] => print_speed(None).map(|()| true),
+        ["speed", tables] => print_speed(Some(tables)).map(|()| true),
+        _ => Err(USAGE.to_string()),
+    }
+}
+
+/// The highest call whose cases are asked for.
+fn highest_call(calls: &str) -> Result<u8, String> {
+    match calls.parse() {
+        Ok(call) if (1..=cases::HIGHEST_CALL).contains(&call) => Ok(call),
+        _ => Err(format!("CALLS is a number from 1 to {}", cases::HIGHEST_CALL)),
+    }
+}
+
+/// Writes the stored cases up to the asked call.
+fn write_cases(
+    folder: &str,
+    input: &str,
+    output: &str,
+    calls: &str,
+    tables: Option<&str>,
+) -> Result<bool, String> {
+    let call = highest_call(calls)?;
+    cases::write(folder, input, output, call, tables).map(|()| true)
+}
+
+/// An argument that is a number.
+fn number(argument: &str, name: &str) -> Result<u64, String> {
+    argument.parse().map_err(|_| format!("{name} is a number"))
+}
+
+/// Prints what the first asks of a seed meet, so many of them.
+fn mix_of(seed: &str, count: &str) -> Result<(), String> {
+    print!("{}", mix::summary(number(seed, "SEED")?, number(count, "COUNT")?));
+    Ok(())
+}
+
+/// Prints how long the partition call takes.
+fn print_speed(tables: Option<&str>) -> Result<(), String> {
+    print!("{}", speed::summary(tables)?);
+    Ok(())
+}
+
+/// All bytes of a file or of standard input.
+fn bytes_of(file: &str) -> Result<Vec<u8>, String> {
+    let mut bytes = Vec::new();
+    let outcome = match file {
+        "-" => io::stdin().read_to_end(&mut bytes).map(|_| bytes),
+        _ => fs::read(file),
+    };
+    outcome.map_err(|error| format!("{file}: {error}"))
+}
+
+/// Reads one table and prints the answer, all edges included.
+fn read(file: &str) -> Result<(), String> {
+    let bytes = bytes_of(file)?;
+    println!("{}", answer::line(&table::read(&bytes), table::MOST_EDGES));
+    Ok(())
+}
+
+/// Prints the listing of one table with so many entries lent, or its refusal's line.
+fn list(file: &str, entries: usize) -> Result<(), String> {
+    let text = listing::printed(&bytes_of(file)?, entries.saturating_mul(region::ENTRY));
+    let mut out = io::stdout().lock();
+    out.write_all(&text).and_then(|()| out.flush()).map_err(|error| format!("standard output: {error}"))
+}

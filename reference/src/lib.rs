@@ -1,0 +1,56 @@
+// The independent implementation as a library. `calls` offers the calls with the arguments of the proved library,
+// `asks` makes calls by chance for a comparison of the two, `heavy_models` has tables for benchmarks, and `commands`
+// is all that the program does.
+
+mod answer;
+pub mod asks;
+mod block_borders;
+mod block_cases;
+mod block_chance;
+mod block_models;
+mod block_subject;
+mod borders;
+pub mod calls;
+mod cases;
+pub mod commands;
+mod damage;
+mod explore;
+mod generate;
+mod graph_borders;
+mod graph_cases;
+mod graph_models;
+mod hash;
+pub mod heavy_models;
+mod json;
+mod judge_cases;
+mod limit_asks;
+mod links;
+mod listing;
+mod listing_borders;
+mod listing_cases;
+mod listing_check;
+mod listing_models;
+mod listing_parse;
+mod listing_vectors;
+mod meetings;
+mod mix;
+mod net;
+mod pair_cases;
+mod pairs;
+mod partition;
+mod partition_cases;
+mod place;
+mod place_borders;
+mod place_cases;
+mod place_states;
+mod proposals;
+mod records;
+mod refine;
+mod region;
+mod rng;
+mod rounds;
+mod sets;
+mod sha256;
+mod speed;
+mod table;
+mod vectors;

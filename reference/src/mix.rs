@@ -1,0 +1,102 @@
+// What a series of asks covers: how often each call succeeds or meets each refusal, and how regions, blocks and
+// rounds are spread.
+
+use crate::asks::{self, Ask, What};
+use crate::calls::{self, Answer};
+
+/// The names of the calls, in the order of `What`.
+const CALLS: [&str; 5] = ["graph", "state", "partition", "pair", "judging"];
+/// The highest refusal.
+const LAST_REFUSAL: usize = 21;
+
+/// The greatest numbers of a spread; what is above the last is counted too.
+const REGIONS: [u64; 8] = [2, 12, 60, 200, 500, 900, 2_000, 4_096];
+const ROUNDS: [u64; 7] = [0, 1, 2, 4, 9, 99, 4_095];
+
+/// How often numbers fall between borders.
+struct Spread {
+    name: &'static str,
+    borders: &'static [u64],
+    times: Vec<u64>,
+}
+
+impl Spread {
+    fn new(name: &'static str, borders: &'static [u64]) -> Spread {
+        Spread { name, borders, times: vec![0; borders.len()] }
+    }
+
+    fn note(&mut self, number: u64) {
+        let at = self.borders.iter().position(|&most| number <= most);
+        self.times[at.expect("the last border is the greatest number")] += 1;
+    }
+
+    fn text(&self) -> String {
+        let mut text = self.name.to_string();
+        for (most, times) in self.borders.iter().zip(&self.times) {
+            text.push_str(&format!("  to {most}: {times}"));
+        }
+        text + "\n"
+    }
+}
+
+/// Asks so many questions of a seed and says what they met.
+pub fn summary(seed: u64, count: u64) -> String {
+    let mut met = [[0; CALLS.len()]; LAST_REFUSAL + 1];
+    let mut regions = Spread::new("regions of accepted models", &REGIONS);
+    let mut blocks = Spread::new("blocks of partitions", &REGIONS);
+    let mut rounds = Spread::new("rounds of partitions", &ROUNDS);
+    let mut sharing = 0;
+    for number in 0..count {
+        let ask = asks::ask(seed, number);
+        let answer = answered(&ask);
+        met[answer.refusal as usize][call_of(&ask.what)] += 1;
+        let graph = calls::graph(&ask.table, &mut vec![0; ask.entries]);
+        if graph.refusal == 0 {
+            regions.note(graph.value);
+        }
+        match ask.what {
+            What::Reduce { .. } if answer.refusal == 0 => {
+                blocks.note(answer.blocks);
+                rounds.note(answer.rounds);
+            }
+            What::Pair { .. } => sharing += answer.value,
+            _ => {}
+        }
+    }
+    let mut text = format!("{:<11}{}\n", "", CALLS.map(|call| format!("{call:>11}")).concat());
+    for (number, times) in met.iter().enumerate() {
+        let name = if number == 0 { "accepted".to_string() } else { format!("refusal {number}") };
+        let times = times.map(|times| format!("{times:>11}")).concat();
+        text.push_str(&format!("{name:<11}{times}\n"));
+    }
+    text.push_str(&(regions.text() + &blocks.text() + &rounds.text()));
+    text + &format!("pairs that share a block: {sharing}\n")
+}
+
+fn call_of(what: &What) -> usize {
+    match what {
+        What::Graph => 0,
+        What::Place { .. } => 1,
+        What::Reduce { .. } => 2,
+        What::Pair { .. } => 3,
+        What::Judge { .. } => 4,
+    }
+}
+
+/// The answer to an ask.
+fn answered(ask: &Ask) -> Answer {
+    let entries = &mut vec![0; ask.entries];
+    match ask.what {
+        What::Graph => calls::graph(&ask.table, entries),
+        What::Place { location, values, denominator } => {
+            calls::place(&ask.table, entries, location, values, denominator)
+        }
+        What::Reduce { first, second } => {
+            calls::reduce(&ask.table, entries, &mut vec![0; first], &mut vec![0; second])
+        }
+        What::Pair { first, second, r, s } => {
+            calls::pair(&ask.table, entries, &mut vec![0; first], &mut vec![0; second], r, s)
+        }
+        What::Judge { ref proposal } => calls::judge(&ask.table, entries, proposal),
+    }
+}
