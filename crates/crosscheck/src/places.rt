@@ -1,7 +1,7 @@
 // Call 3: explores a table's regions into lent entries, and says in which of them a state lies.
 use crate::numbers::eight_at;
 use crate::print;
-use regions::Placing;
+use states::Placing;
 
 // A state: a location, and the values of the four clocks over a denominator.
 pub(crate) struct State {
@@ -27,7 +27,7 @@ pub(crate) fn state_of(bytes: &[u8; 48]) -> State {
 
 // Runs the call on a table, a state and lent bytes.
 pub(crate) fn run(bytes: &[u8], state: State, lent: &mut [u8]) {
-    let answer = regions::place_state(
+    let answer = states::place_state(
         bytes,
         lent,
         state.location,

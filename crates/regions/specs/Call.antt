@@ -15,7 +15,7 @@ use Rattle.regions.specs.Worklist.{Found, complete, full, explore}
 use Rattle.regions.specs.Explore.{sameRegion, listed, listed-length, Left}
 use Rattle.regions.specs.declared.call.Graph.{Graph}
 use Rattle.regions.specs.declared.call.Graph.the-variants.{Refused, Regions}
-use Rattle.regions.specs.declared.region.Region.{Region}
+use Rattle.clocks.specs.declared.region.Region.{Region}
 
 -- "Whole entries lent": nine bytes each. No more than 4,096 count.
 abbrev pub roomFor : ℕ → ℕ

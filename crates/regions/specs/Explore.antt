@@ -15,7 +15,7 @@ use Rattle.regions.specs.Graph.{gather}
 use Rattle.regions.specs.Worklist.{Found, complete, full, andThen, known, meet, exploreFrom, explore}
 use Rattle.regions.specs.Laws.Worklist.{meet-known, meet-new, meet-full, meet-append, known-at, known-nowhere, turn, over, begin, no-room}
 use Rattle.regions.specs.declared.explore.Met.{Met}
-use Rattle.regions.specs.declared.region.Region.{Region}
+use Rattle.clocks.specs.declared.region.Region.{Region}
 
 -- ---- Are two regions the same?
 

@@ -8,11 +8,11 @@ use lib.ListN.{length, getD, set}
 use Rattle.table.specs.Model.{Model, Edge}
 use Rattle.table.specs.Access.{noBranch}
 use Rattle.table.specs.Reads.{edgeOf}
-use Rattle.regions.specs.Packed.{afterReset}
+use Rattle.clocks.specs.Packed.{afterReset}
 use Rattle.regions.specs.Entries.{entryBytes, maxEntries, regionAt}
 use Rattle.regions.specs.Index.{Index}
-use Rattle.regions.specs.declared.region.Bounds.{Bounds}
-use Rattle.regions.specs.declared.region.Region.{Region}
+use Rattle.clocks.specs.declared.region.Bounds.{Bounds}
+use Rattle.clocks.specs.declared.region.Region.{Region}
 
 -- ---- Numbers one after the other
 

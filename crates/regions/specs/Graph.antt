@@ -10,12 +10,12 @@ use Rattle.table.specs.declared.model.Branch.{Branch}
 use Rattle.table.specs.declared.model.Guard.{Guard}
 use Rattle.table.specs.declared.model.Invariant.{Invariant}
 pub use Rattle.regions.specs.Lists.{every}
-use Rattle.regions.specs.Atoms.{atom}
-use Rattle.regions.specs.Packed.{cellOf, clockAt, delayed, afterReset}
-use Rattle.regions.specs.declared.region.Bounds.{Bounds}
-use Rattle.regions.specs.declared.region.Region.{Region}
-use Rattle.regions.specs.declared.region.Verdict.{Verdict}
-use Rattle.regions.specs.declared.region.Verdict.the-variants.{Holds, Fails, Unknown}
+use Rattle.clocks.specs.Atoms.{atom}
+use Rattle.clocks.specs.Packed.{cellOf, clockAt, delayed, afterReset}
+use Rattle.clocks.specs.declared.region.Bounds.{Bounds}
+use Rattle.clocks.specs.declared.region.Region.{Region}
+use Rattle.clocks.specs.declared.region.Verdict.{Verdict}
+use Rattle.clocks.specs.declared.region.Verdict.the-variants.{Holds, Fails, Unknown}
 
 -- ---- Bounds
 

@@ -14,7 +14,7 @@ use lib.Seq.{sets, getD-set-same, getD-set-other}
 use borrow.Author.Tests.{eq-eqb, eqb-true, eqb-false}
 use Rattle.regions.specs.Entries.{entryBytes, maxEntries, fourFrom, bytesOf, regionAt, region-same, Sized}
 use Rattle.regions.specs.Entries.{stored-length, stored-outside, stored-other, stored-here}
-use Rattle.regions.specs.declared.region.Region.{Region}
+use Rattle.clocks.specs.declared.region.Region.{Region}
 use Rattle.regions.specs.declared.index.Lookup.{Lookup}
 use Rattle.regions.specs.declared.index.Lookup.the-variants.{At, Nothing}
 

@@ -1,6 +1,4 @@
 -- Laws on the definitions of the region layer:
---   Cells      reset and delay keep cells within their bounds, and ranks without gaps
---   Fractions  reset, delay and atoms on the fractions of a state are those on the ranks of its region
 --   Graph      what an edge and a delay come to, by the tests of the code
 --   Every      for loops that test every item of a list
 --   Worklist   exploring lists exactly what is reached, once each; more room only adds at the end
@@ -11,18 +9,12 @@
 --   Formed     every region that is reached is well formed
 --   Locations  every region that is reached is at a location that exists, which has a label
 --   Bytes      the entries that the graph call leaves hold its regions, and the bytes after them stay
---   States     equal states are alike; the atoms, edges and delays of a state are those of its region
---   Filled     every well-formed region has a state in it
---   StateCall  for the code of the state call
 --   Filling    for the loops that fill the slices of the graph
 --   Rows       for the code that fills the rows of the edges
 --   Shown      what the slices of the graph then hold
 --   Reach      for the code that lists what a region reaches by delay
 --   Sight      for the code that says what is known of one region
 --   View       numbers and labels of regions; in a graph that was listed whole, delays and steps lead to numbers of regions
---   Placed     what the answer of the state call says about the state's region
-pub mod Cells
-pub mod Fractions
 pub mod Graph
 pub mod Every
 pub mod Worklist
@@ -33,11 +25,7 @@ pub mod Bounds
 pub mod Formed
 pub mod Locations
 pub mod Bytes
-pub mod States
-pub mod Filled
-pub mod StateCall
 pub mod View
-pub mod Placed
 pub mod Filling
 pub mod Rows
 pub mod Shown

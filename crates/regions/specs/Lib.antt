@@ -1,8 +1,5 @@
 -- The definitions of the region layer, in the words of document 01:
 --   Lists      a test of all items of a list
---   Cells      a clock as a cell; ranks and closing up; reset and delay
---   Atoms      guard and invariant atoms on a clock
---   Packed     a region as the code holds it, and the cells that it stands for
 --   Graph      bounds, invariants, available edges, what a region leads to, and what is reached
 --   Edges      the arrays of edges of a model
 --   Limits     invariants as one limit for each location and clock, as exploring tests them
@@ -11,22 +8,14 @@
 --   Worklist   numbering what is reached, in the order in which it is met, with a cap
 --   Explore    exploring into entries, step by step
 --   Call       the graph call: its answer, and what the lent entries then hold
---   Passed     what the layers above need of the table layer
+--   Passed     what the layers above need of the layers beneath
 --   View       the graph as the layers above see it: labels, delays and steps by number
---   States     states of a model, and how they move: the automaton's own rules on fractions
---   Placing    the region of a state
---   Covering   bounds that are enough for a model, and reaching by some delay for any bounds
---   StateCall  the state call: its answer
---   Spots      how the code places a state
 --   Shown      the graph in slices, as the layer above goes by it
 --   Sight      one region by itself, as the layer above asks for it
 --   Filling    how these slices are filled, step by step
 --   Example    document 01's printed model: its table, and the model that it is read as
--- Laws on these stand in Laws. RegionTheorem: a region leads by delays and edges exactly where each state in it does.
+-- Laws on these stand in Laws.
 pub mod Lists
-pub mod Cells
-pub mod Atoms
-pub mod Packed
 pub mod Graph
 pub mod Edges
 pub mod Limits
@@ -37,14 +26,8 @@ pub mod Explore
 pub mod Call
 pub mod Passed
 pub mod View
-pub mod States
-pub mod Placing
-pub mod Covering
-pub mod StateCall
-pub mod Spots
 pub mod Shown
 pub mod Sight
 pub mod Filling
 pub mod Example
 pub mod Laws
-pub mod RegionTheorem

@@ -15,14 +15,14 @@ use Rattle.table.specs.Model.{Model}
 use Rattle.table.specs.Sound.{Sound, SoundInvariant, All, none, also}
 use Rattle.table.specs.Access.{noInvariant}
 use Rattle.table.specs.declared.model.Invariant.{Invariant}
-use Rattle.regions.specs.Cells.{Cell, over, at}
-use Rattle.regions.specs.Atoms.{atom, verdict, below, atMost}
-use Rattle.regions.specs.Packed.{overPart, cellOf, clockAt, cell-over, cell-at}
-use Rattle.regions.specs.declared.clock.Clock.{Clock}
+use Rattle.clocks.specs.Cells.{Cell, over, at}
+use Rattle.clocks.specs.Atoms.{atom, verdict, below, atMost}
+use Rattle.clocks.specs.Packed.{overPart, cellOf, clockAt, cell-over, cell-at}
+use Rattle.clocks.specs.declared.clock.Clock.{Clock}
 use Rattle.regions.specs.Graph.{every, isHolds, holds, allows, meets}
 use Rattle.regions.specs.Explore.{both-true}
-use Rattle.regions.specs.declared.region.Bounds.{Bounds}
-use Rattle.regions.specs.declared.region.Region.{Region}
+use Rattle.clocks.specs.declared.region.Bounds.{Bounds}
+use Rattle.clocks.specs.declared.region.Region.{Region}
 
 -- No limit; and where a clock stands: 2w at a whole number w, 2w + 1 between w and the next. Over is past every limit but none. (A
 -- number that is no byte is kept at 65533; no region of a model has one.)

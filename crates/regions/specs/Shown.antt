@@ -15,7 +15,7 @@ use Rattle.table.specs.Access.{noBranch}
 use Rattle.table.specs.declared.model.Branch.{Branch}
 use Rattle.regions.specs.Graph.{boundsOf, landing, available, first}
 use Rattle.regions.specs.View.{numberIn, labelOf, delayNumbers}
-use Rattle.regions.specs.declared.region.Region.{Region}
+use Rattle.clocks.specs.declared.region.Region.{Region}
 
 -- How many numbers each takes: the flags of a region, the masks of a region, the locations of a set of clocks, the row of an edge.
 abbrev pub flagRoom : ℕ

@@ -14,7 +14,7 @@ use Rattle.regions.specs.Graph.{available, delayNext, gather}
 use Rattle.regions.specs.Explore.{listed}
 use Rattle.regions.specs.View.{numberIn, labelOf, Way, wayOf}
 use Rattle.regions.specs.Shown.{rowRoom}
-use Rattle.regions.specs.declared.region.Region.{Region}
+use Rattle.clocks.specs.declared.region.Region.{Region}
 use Rattle.regions.specs.declared.sight.Checked.{Checked}
 use Rattle.regions.specs.declared.sight.Checked.the-variants as C
 use Rattle.regions.specs.declared.sight.Sight.{Sight}

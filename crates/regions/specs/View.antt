@@ -9,7 +9,7 @@ use Rattle.table.specs.Reading.{Answer, refusal, accepted}
 use Rattle.table.specs.declared.model.Branch.{Branch}
 use Rattle.regions.specs.Graph.{boundsOf, landing, available, delayNext}
 use Rattle.regions.specs.Explore.{sameRegion}
-use Rattle.regions.specs.declared.region.Region.{Region}
+use Rattle.clocks.specs.declared.region.Region.{Region}
 
 -- The number of a region in a list: the place where it stands first, and the list's length where it is not there.
 unfoldable pub numberIn : List Region → Region → ℕ

@@ -8,8 +8,8 @@ ghost use Rattle.table.specs.Reading.{readTable, accepted};
 ghost use Rattle.table.specs.Reads.{Reads, ReadsEdge, edgeOf};
 ghost use Rattle.regions.specs.Edges.{Arrays};
 ghost use Rattle.regions.specs.Graph.{largestOf, constantOf, guardConstant, edgeConstant, boundsOf};
-use crate::four::larger;
-use crate::region::Bounds;
+use clocks::Bounds;
+use clocks::larger;
 use table::Shape;
 
 // The largest constant of the invariant atoms.
@@ -69,4 +69,23 @@ pub(crate) fn bounds_of(bytes: &[u8], shape: Shape, places: &[usize]) -> Bounds
         count: shape.clocks,
         bound: [most, most, most, most],
     }
+}
+
+// The bounds of the clocks of a table that was read.
+pub fn bounds_for(bytes: &[u8], shape: Shape) -> Bounds
+    ensures { λ r. ⌜ ((m : Model) → Reads (now (bytes .entry)) shape m → r ≡ boundsOf m) ⌝ }
+{
+    let mut places = [0usize; 128];
+    let mut sources = [0usize; 128];
+    let mut actions = [0usize; 128];
+    let mut denominators = [0usize; 128];
+    table::list_edges(
+        bytes,
+        shape,
+        &mut places,
+        &mut sources,
+        &mut actions,
+        &mut denominators,
+    );
+    bounds_of(bytes, shape, &places)
 }

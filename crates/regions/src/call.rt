@@ -12,7 +12,7 @@ use crate::entry::ENTRY_BYTES;
 use crate::explore::explore_all;
 use crate::limits::list_limits;
 use crate::limits::meets_invariant;
-use crate::region::Region;
+use clocks::Region;
 use table::Reading;
 use table::Shape;
 
@@ -48,7 +48,7 @@ fn whole_entries(bytes: usize) -> usize
 }
 
 // The graph of a table that was read.
-pub(crate) fn graph_of(bytes: &[u8], shape: Shape, entries: &mut [u8]) -> Graph
+pub fn graph_of(bytes: &[u8], shape: Shape, entries: &mut [u8]) -> Graph
     ensures { λ r. ⌜ ((m : Model) → Reads (now (bytes .entry)) shape m
         → (r ≡ graphOf (fromAnswer (roomFor (length (now (entries .entry)))) (accepted m)))
         × (now (entries .exit) ≡ entriesAfter (now (entries .entry)) (fromAnswer (roomFor (length (now (entries .entry)))) (accepted m)))) ⌝ }

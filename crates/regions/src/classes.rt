@@ -10,9 +10,9 @@ use crate::entry::read_entry;
 use crate::index::Lookup;
 use crate::index::add;
 use crate::index::find;
-use crate::region::Bounds;
-use crate::region::Region;
 use crate::slices::store;
+use clocks::Bounds;
+use clocks::Region;
 
 // The number of a set of clocks, and how many there are now.
 pub(crate) struct Group {

@@ -4,7 +4,7 @@ ghost use mathlib.Core.Path.{_≡_};
 ghost use lib.ListN.{getD, length};
 ghost use lib.Seq.{sets};
 ghost use Rattle.regions.specs.Entries.{entryBytes, maxEntries, fourFrom, bytesOf, regionAt, Tells};
-use crate::region::Region;
+use clocks::Region;
 
 pub(crate) const ENTRY_BYTES: usize = 9;
 
@@ -82,7 +82,7 @@ fn same_four(a: [u8; 4], b: [u8; 4]) -> bool
 }
 
 // Are two regions the same?
-pub(crate) fn same_region(a: Region, b: Region) -> bool
+pub fn same_region(a: Region, b: Region) -> bool
     ensures { λ same. ⌜ Tells same (a ≡ b) ⌝ }
 {
     if a.location != b.location {

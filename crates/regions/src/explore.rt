@@ -11,7 +11,7 @@ ghost use Rattle.regions.specs.Limits.{Limited};
 ghost use Rattle.regions.specs.Worklist.{exploreFrom, explore};
 ghost use Rattle.regions.specs.Entries.{entryBytes, maxEntries};
 ghost use Rattle.regions.specs.Explore.{Room, Kept, Left, AllMet, sameRegion, listed, foundOf};
-ghost use Rattle.regions.specs.declared.region.Region.{Region};
+ghost use Rattle.clocks.specs.declared.region.Region.{Region};
 use crate::entry::read_entry;
 use crate::guards::is_available;
 use crate::guards::landing_of;
@@ -19,8 +19,8 @@ use crate::index::Lookup;
 use crate::index::add;
 use crate::index::find;
 use crate::limits::meets_invariant;
-use crate::region::Bounds;
-use crate::region::Region;
+use clocks::Bounds;
+use clocks::Region;
 use table::Shape;
 
 // How many regions are listed after some were met, and whether there was no room for one of them.

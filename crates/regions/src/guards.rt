@@ -7,9 +7,9 @@ ghost use Rattle.table.specs.Reads.{ReadsEdge, edgeOf};
 ghost use Rattle.regions.specs.Graph.{isHolds, satisfies, every, landing, lands, available, boundsOf};
 ghost use Rattle.regions.specs.Limits.{Limited};
 use crate::limits::meets_invariant;
-use crate::region::Bounds;
-use crate::region::Region;
-use crate::region::Verdict;
+use clocks::Bounds;
+use clocks::Region;
+use clocks::Verdict;
 use table::Branch;
 use table::Guard;
 

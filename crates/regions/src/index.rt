@@ -8,7 +8,7 @@ ghost use Rattle.regions.specs.Index.{bucketCount, mixed, hashOf, Index,
 use crate::entry::read_entry;
 use crate::entry::same_region;
 use crate::entry::write_entry;
-use crate::region::Region;
+use clocks::Region;
 
 // Hashes are below the largest prime that is no more than the number of buckets, 4,096.
 const HASH_PRIME: usize = 4093;

@@ -1,36 +1,33 @@
-// The region layer: regions, delay and reset, guards, the graph, and where states lie in it.
+// The region layer: guards, the region graph, and the graph for the layer above.
 mod bounds;
 mod call;
 mod classes;
-mod clock;
 mod entry;
 mod explore;
-mod four;
 mod guards;
 mod index;
 mod limits;
 mod moves;
 mod reach;
-mod region;
 mod rows;
 mod shown;
 mod sight;
 mod slices;
-mod states;
 mod view;
 
+pub use bounds::bounds_for;
 pub use call::Graph;
 pub use call::explore_table;
-pub use region::Bounds;
-pub use region::Moved;
-pub use region::Region;
-pub use region::Verdict;
+pub use call::graph_of;
+pub use clocks::Bounds;
+pub use clocks::Moved;
+pub use clocks::Region;
+pub use clocks::Verdict;
+pub use entry::same_region;
 pub use shown::show_graph;
 pub use sight::Checked;
 pub use sight::Sight;
 pub use sight::check_table;
 pub use sight::entry_at;
 pub use sight::show_region;
-pub use states::Placing;
-pub use states::place_state;
 pub use view::edge_count;

@@ -22,10 +22,10 @@ use crate::index::Lookup;
 use crate::index::find;
 use crate::index::link_entry;
 use crate::limits::meets_invariant;
-use crate::region::Bounds;
-use crate::region::Region;
 use crate::slices::mark;
 use crate::slices::store;
+use clocks::Bounds;
+use clocks::Region;
 use table::Shape;
 
 // The label of each of the first n entries.

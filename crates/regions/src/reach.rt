@@ -16,9 +16,9 @@ use crate::entry::same_region;
 use crate::index::hash_of;
 use crate::index::link_at;
 use crate::limits::meets_invariant;
-use crate::region::Bounds;
-use crate::region::Region;
 use crate::slices::store;
+use clocks::Bounds;
+use clocks::Region;
 
 // The number of a region among the first n entries, and n where it is not there. A region that stands there twice has the lower
 // number: its bucket is gone through to the end, from the last entry to the first.

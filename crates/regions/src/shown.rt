@@ -15,7 +15,8 @@ ghost use Rattle.regions.specs.Call.{roomFor, whole, fromAnswer, outcome
 ghost use Rattle.regions.specs.Shown.{Shown, Roomy, followers};
 ghost use Rattle.regions.specs.Filling.{Blocks, RowsTo};
 ghost use Rattle.regions.specs.Laws.Call.{AllRegions};
-ghost use Rattle.regions.specs.declared.region.Region.{Region};
+ghost use Rattle.clocks.specs.declared.region.Region.{Region};
+use crate::bounds::bounds_for;
 use crate::bounds::bounds_of;
 use crate::call::Graph;
 use crate::call::graph_of;
@@ -27,7 +28,6 @@ use crate::moves::show_flags;
 use crate::moves::show_labels;
 use crate::rows::show_rows;
 use crate::slices::at_most;
-use crate::states::bounds_for;
 use table::Reading;
 use table::Shape;
 

@@ -23,10 +23,10 @@ use crate::limits::list_limits;
 use crate::moves::link_all;
 use crate::reach::list_delays;
 use crate::reach::number_by;
-use crate::region::Bounds;
-use crate::region::Region;
 use crate::slices::at_most;
 use crate::slices::store;
+use clocks::Bounds;
+use clocks::Region;
 use table::Reading;
 use table::Shape;
 

@@ -4,8 +4,8 @@ use Prim.Native.Nat.{ℕ}
 use mathlib.Core.Bool.{Bool, cond}
 use Rattle.regions.specs.declared.call.Graph.{Graph}
 use Rattle.regions.specs.declared.call.Graph.the-variants.{Refused, Regions}
-use Rattle.regions.specs.declared.states.Placing.{Placing}
-use Rattle.regions.specs.declared.states.Placing.the-variants as P
+use Rattle.states.specs.declared.states.Placing.{Placing}
+use Rattle.states.specs.declared.states.Placing.the-variants as P
 use Rattle.partition.specs.declared.calls.Reduction.{Reduction}
 use Rattle.partition.specs.declared.calls.Reduction.the-variants as B
 use Rattle.partition.specs.declared.calls.Pairing.{Pairing}

@@ -13,14 +13,13 @@ use mathlib.Core.List.{List, [], _∷_}
 use lib.Dec.{leb}
 use lib.ListN.{length, take}
 use Rattle.regions.specs.Call.{Outcome, refused, cut, whole, roomFor, outcomeOf, graphOf}
-use Rattle.regions.specs.Passed.{Model, readTable, accepted}
-use Rattle.regions.specs.States.{State, Same}
-use Rattle.regions.specs.StateCall.{isNotTaken, ownState, placeOf}
+use Rattle.regions.specs.Passed.{Model, readTable, accepted, Region}
+use Rattle.states.specs.States.{State, Same}
+use Rattle.states.specs.StateCall.{isNotTaken, ownState, placeOf}
 use Rattle.regions.specs.Laws.Numbers.{refused-number}
-use Rattle.regions.specs.Laws.Placed.{placed-numbers, same-place}
-use Rattle.regions.specs.declared.region.Region.{Region}
-use Rattle.regions.specs.declared.states.Placing.{Placing}
-use Rattle.regions.specs.declared.states.Placing.the-variants as P
+use Rattle.states.specs.Laws.Placed.{placed-numbers, same-place}
+use Rattle.states.specs.declared.states.Placing.{Placing}
+use Rattle.states.specs.declared.states.Placing.the-variants as P
 use Rattle.partition.specs.Calls.{reduceOf, pairOf, judgeOf}
 use Rattle.partition.specs.Promises.{Reduced}
 use Rattle.partition.specs.Laws.Numbers.{reduce-numbers, pair-numbers, judge-numbers}

@@ -7,7 +7,7 @@ use partition::Judgement;
 use partition::Pairing;
 use partition::Reduction;
 use regions::Graph;
-use regions::Placing;
+use states::Placing;
 
 // `refusal` is 0 where nothing is refused.
 #[repr(C)]

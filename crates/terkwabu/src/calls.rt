@@ -7,7 +7,7 @@ ghost use Rattle.listing.specs.Printed.{refusalLine};
 ghost use Rattle.listing.specs.Parts.{textOf, partOf, fitted, bufferAfter, mostBytes};
 ghost use Rattle.terkwabu.specs.Answers.{ofGraph, ofPlacing, ofReduction, ofPairing, ofJudgement, ofPart};
 ghost use Rattle.partition.specs.Calls.{reduceOf, listAfter, pairOf, pairListAfter, judgeOf};
-ghost use Rattle.regions.specs.StateCall.{asked, placeOf};
+ghost use Rattle.states.specs.StateCall.{asked, placeOf};
 use crate::answer::Answer;
 use crate::answer::of_graph;
 use crate::answer::of_judgement;
@@ -44,7 +44,7 @@ pub extern "C" fn terkwabu_place(
     ensures { λ r. ⌜ now (entries .exit)
         ≡ entriesAfter (now (entries .entry)) (outcomeOf (now (table .entry)) (roomFor (length (now (entries .entry))))) ⌝ }
 {
-    of_placing(regions::place_state(table, entries, location, v0, v1, v2, v3, denominator))
+    of_placing(states::place_state(table, entries, location, v0, v1, v2, v3, denominator))
 }
 
 // The partition call: the blocks of a table's regions, in both lists. The value is N.

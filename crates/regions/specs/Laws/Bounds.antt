@@ -13,14 +13,14 @@ use Rattle.table.specs.Model.{Model, Edge}
 use Rattle.table.specs.Sound.{All, also, SoundInvariant, SoundGuard, Sound}
 use Rattle.table.specs.declared.model.Guard.{Guard}
 use Rattle.table.specs.declared.model.Invariant.{Invariant}
-use Rattle.regions.specs.Atoms.{atom, verdict, below, atMost}
-use Rattle.regions.specs.Cells.{Cell}
-use Rattle.regions.specs.Packed.{cellOf, clockAt}
+use Rattle.clocks.specs.Atoms.{atom, verdict, below, atMost}
+use Rattle.clocks.specs.Cells.{Cell}
+use Rattle.clocks.specs.Packed.{cellOf, clockAt}
 use Rattle.regions.specs.Graph.{largestOf, constantOf, guardConstant, edgeConstant, largestConstant}
-use Rattle.regions.specs.declared.region.Bounds.{Bounds}
-use Rattle.regions.specs.declared.region.Region.{Region}
-use Rattle.regions.specs.declared.region.Verdict.{Verdict}
-use Rattle.regions.specs.declared.region.Verdict.the-variants.{Holds, Fails, Unknown}
+use Rattle.clocks.specs.declared.region.Bounds.{Bounds}
+use Rattle.clocks.specs.declared.region.Region.{Region}
+use Rattle.clocks.specs.declared.region.Verdict.{Verdict}
+use Rattle.clocks.specs.declared.region.Verdict.the-variants.{Holds, Fails, Unknown}
 
 -- What all items of a list are, each item of it is.
 pub all-at : {A : Type 0} {P : A → Type 0} {x : A} (l : List A) → All P l → List·Memᴰ x l → P x

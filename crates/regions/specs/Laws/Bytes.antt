@@ -15,7 +15,7 @@ use Rattle.regions.specs.Call.{roomFor, Outcome, refused, cut, whole, ou
 use Rattle.regions.specs.Laws.Worklist.{member}
 use Rattle.regions.specs.Laws.Call.{whole-graph, cut-graph}
 use Rattle.regions.specs.Laws.Formed.{read-formed}
-use Rattle.regions.specs.declared.region.Region.{Region}
+use Rattle.clocks.specs.declared.region.Region.{Region}
 
 -- ---- The bytes of regions
 

@@ -11,7 +11,7 @@ use lib.ListN.{length, getD, length-append}
 use Rattle.table.specs.Model.{Model, Edge}
 use Rattle.table.specs.declared.model.Branch.{Branch}
 use Rattle.table.specs.Reading.{Answer, refusal, accepted, readTable}
-use Rattle.regions.specs.Packed.{delayed}
+use Rattle.clocks.specs.Packed.{delayed}
 use Rattle.regions.specs.Graph.{every, boundsOf, meets, fits, landing, lands, available, delayNext, gather, edgeNext, nextOf, first}
 use Rattle.regions.specs.Graph.{Leads, by-delay, by-edge, Reached, begun, led}
 use Rattle.regions.specs.Worklist.{Found, complete, full, explore, Reach, here, on}
@@ -19,7 +19,7 @@ use Rattle.regions.specs.Explore.{both-true, sameRegion, same-true, same
 use Rattle.regions.specs.Call.{Outcome, refused, cut, whole, fromFound, fromAnswer, outcomeOf}
 use Rattle.regions.specs.Laws.Worklist.{Begins, Different, different-grown, no-more, complete-all, full-room, full-first, larger-complete, larger-full}
 use Rattle.regions.specs.Laws.Worklist.{itemsOf}
-use Rattle.regions.specs.declared.region.Region.{Region}
+use Rattle.clocks.specs.declared.region.Region.{Region}
 
 pub false-true : {A : Type 0} → false ≡ true → A
 false-true e = absurd (let z : _≡_ {A = ℕ} 0 1 = cc in omega arith)

@@ -21,7 +21,7 @@ use Rattle.regions.specs.Filling.{Run, Blocks, Before, bare, Apart, Dist
 use Rattle.regions.specs.Laws.Call.{AllRegions}
 use Rattle.regions.specs.Laws.Worklist.{member}
 use Rattle.regions.specs.Laws.View.{number-at, delay-number}
-use Rattle.regions.specs.declared.region.Region.{Region}
+use Rattle.clocks.specs.declared.region.Region.{Region}
 
 -- ---- Numbers one after the other
 

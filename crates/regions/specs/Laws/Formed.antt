@@ -14,20 +14,20 @@ use Rattle.table.specs.Laws.Models.{sound}
 use Rattle.table.specs.Model.{Model, Edge, resetIn}
 use Rattle.table.specs.Reading.{accepted, readTable}
 use Rattle.table.specs.declared.model.Branch.{Branch}
-use Rattle.regions.specs.Cells.{Cell, over, at, fractionOf, member, closed, restart, restarted, reset}
-use Rattle.regions.specs.Cells.{leaving, some, leave, highest, arrive, Follow, nothing, cells, delay}
-use Rattle.regions.specs.Packed.{overPart, cellOf, clockOf, clockAt, unpack, byteAt, pack, movedTo, delayed, afterReset}
-use Rattle.regions.specs.Packed.{cell-over, cell-at, clock-within, clock-beyond}
+use Rattle.clocks.specs.Cells.{Cell, over, at, fractionOf, member, closed, restart, restarted, reset}
+use Rattle.clocks.specs.Cells.{leaving, some, leave, highest, arrive, Follow, nothing, cells, delay}
+use Rattle.clocks.specs.Packed.{overPart, cellOf, clockOf, clockAt, unpack, byteAt, pack, movedTo, delayed, afterReset}
+use Rattle.clocks.specs.Packed.{cell-over, cell-at, clock-within, clock-beyond}
 use Rattle.regions.specs.Graph.{largestConstant, boundsOf, meets, landing, available, delayNext, gather, edgeNext, first}
 use Rattle.regions.specs.Graph.{by-delay, by-edge, Reached, begun, led}
 use Rattle.regions.specs.Explore.{both-true}
 use Rattle.regions.specs.Laws.Bounds.{constants-small}
-use Rattle.regions.specs.Laws.Cells.{Proper, NoGap, reset-proper, delay-proper, reset-no-gap, delay-no-gap, delay-cases, gives-own, has}
+use Rattle.clocks.specs.Laws.Cells.{Proper, NoGap, reset-proper, delay-proper, reset-no-gap, delay-no-gap, delay-cases, gives-own, has}
 use Rattle.regions.specs.Laws.Worklist.{Different, no-more}
 use Rattle.regions.specs.Laws.Call.{false-true, gathered, kept}
-use Rattle.regions.specs.declared.clock.Clock.{Clock}
-use Rattle.regions.specs.declared.region.Region.{Region}
-use Rattle.regions.specs.declared.region.Bounds.{Bounds}
+use Rattle.clocks.specs.declared.clock.Clock.{Clock}
+use Rattle.clocks.specs.declared.region.Region.{Region}
+use Rattle.clocks.specs.declared.region.Bounds.{Bounds}
 
 both : (b : Bool) → (b ≡ true) ⊎ (b ≡ false)
 both true = inl refl

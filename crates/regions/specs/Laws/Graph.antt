@@ -4,9 +4,9 @@ use mathlib.Core.Bool.{Bool, true, false, cond, _&&_}
 use mathlib.Core.List.{[], _∷_}
 use borrow.Author.Tests.{eq-eqb, ne-eqb}
 use Rattle.table.specs.Model.{Model, Edge}
-use Rattle.regions.specs.Packed.{delayed}
+use Rattle.clocks.specs.Packed.{delayed}
 use Rattle.regions.specs.Graph.{every, boundsOf, satisfies, meets, fits, landing, lands, available, delayNext, gather, edgeNext}
-use Rattle.regions.specs.declared.region.Region.{Region}
+use Rattle.clocks.specs.declared.region.Region.{Region}
 
 module _ (m : Model) (e : Edge) (r : Region) where
   -- The region is at another location than the edge's source.

@@ -10,14 +10,14 @@ use Rattle.table.specs.Model.{Model, Edge}
 use Rattle.table.specs.Reading.{accepted, readTable}
 use Rattle.table.specs.Sound.{Sound}
 use Rattle.table.specs.declared.model.Branch.{Branch}
-use Rattle.regions.specs.Cells.{Follow, nothing, cells, delay}
-use Rattle.regions.specs.Packed.{unpack, movedTo, delayed}
+use Rattle.clocks.specs.Cells.{Follow, nothing, cells, delay}
+use Rattle.clocks.specs.Packed.{unpack, movedTo, delayed}
 use Rattle.regions.specs.Graph.{boundsOf, meets, landing, available, delayNext, gather, edgeNext, first}
 use Rattle.regions.specs.Graph.{by-delay, by-edge, Reached, begun, led}
 use Rattle.regions.specs.Laws.Bounds.{all-at}
 use Rattle.regions.specs.Laws.Call.{gathered, kept}
-use Rattle.regions.specs.declared.region.Bounds.{Bounds}
-use Rattle.regions.specs.declared.region.Region.{Region}
+use Rattle.clocks.specs.declared.region.Bounds.{Bounds}
+use Rattle.clocks.specs.declared.region.Region.{Region}
 
 moved-location : (bounds : Bounds) (r : Region) (f : Follow) → movedTo bounds r f .region .location ≡ r .location
 moved-location bounds r nothing = refl

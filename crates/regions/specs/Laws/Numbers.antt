@@ -10,7 +10,7 @@ use Rattle.table.specs.Laws.Numbers.{refusal-numbers}
 use Rattle.regions.specs.Call.{Outcome, refused, cut, whole, outcomeOf, graphOf}
 use Rattle.regions.specs.Laws.Call.{refused-graph}
 use Rattle.regions.specs.declared.call.Graph.the-variants.{Refused, Regions}
-use Rattle.regions.specs.declared.region.Region.{Region}
+use Rattle.clocks.specs.declared.region.Region.{Region}
 
 -- "Refusals 1 to 14": no other number is refused, but for 15.
 pub refused-number : (table : List ℕ) (cap number place : ℕ) → outcomeOf table cap ≡ refused number place

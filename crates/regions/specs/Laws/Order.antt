@@ -13,7 +13,7 @@ use Rattle.regions.specs.Explore.{sameRegion}
 use Rattle.regions.specs.Call.{cut, whole, outcomeOf}
 use Rattle.regions.specs.Laws.Worklist.{Taken, Further, taken-one, taken-all-one, taken-from, complete-taken, full-taken}
 use Rattle.regions.specs.Laws.Call.{whole-explored, cut-explored}
-use Rattle.regions.specs.declared.region.Region.{Region}
+use Rattle.clocks.specs.declared.region.Region.{Region}
 
 -- The regions that are listed once those with numbers below i were taken: region 0 at first; then each region that is taken,
 -- in number order, adds at the end those of `nextOf` that are not listed yet, in order (`Taken`).

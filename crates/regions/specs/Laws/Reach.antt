@@ -11,7 +11,7 @@ use lib.ListN.{length, getD, set, drop, length-append, length-set}
 use lib.Seq.{getD-set-same, drop-cons, drop-set-lt, append-snoc, set-at}
 use borrow.Author.Tests.{eq-eqb, eqb-true, ltb-true, ltb-false}
 use Rattle.table.specs.Model.{Model}
-use Rattle.regions.specs.Packed.{delayed}
+use Rattle.clocks.specs.Packed.{delayed}
 use Rattle.regions.specs.Entries.{maxEntries, regionAt}
 use Rattle.regions.specs.Graph.{boundsOf, meets, delayNext, gather}
 use Rattle.regions.specs.Index.{hashOf, last, inBucket, last-most, last-passes, last-covers, Index, Walking, walking-start}
@@ -19,10 +19,10 @@ use Rattle.regions.specs.Explore.{listed, listed-length, listed-at}
 use Rattle.regions.specs.View.{numberIn}
 use Rattle.regions.specs.Sight.{delaysFrom, delayList}
 use Rattle.regions.specs.Laws.Graph.{delay-none, delay-breaks, delay-some}
-use Rattle.regions.specs.Laws.StateCall.{number-start, number-here, number-on, number-over}
-use Rattle.regions.specs.declared.region.Bounds.{Bounds}
-use Rattle.regions.specs.declared.region.Moved.{Moved}
-use Rattle.regions.specs.declared.region.Region.{Region}
+use Rattle.regions.specs.Laws.View.{number-start, number-here, number-on, number-over}
+use Rattle.clocks.specs.declared.region.Bounds.{Bounds}
+use Rattle.clocks.specs.declared.region.Moved.{Moved}
+use Rattle.clocks.specs.declared.region.Region.{Region}
 
 -- ---- The lowest number of a region
 

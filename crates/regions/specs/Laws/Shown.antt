@@ -12,7 +12,7 @@ use Rattle.table.specs.Reads.{edgeOf}
 use Rattle.table.specs.Access.{noBranch, noEdge}
 use Rattle.table.specs.Laws.Models.{sound}
 use Rattle.regions.specs.Entries.{entryBytes, maxEntries, regionAt}
-use Rattle.regions.specs.Packed.{afterReset}
+use Rattle.clocks.specs.Packed.{afterReset}
 use Rattle.regions.specs.Graph.{boundsOf, landing, available, first}
 use Rattle.regions.specs.Explore.{listed, listed-length, listed-at}
 use Rattle.regions.specs.View.{numberIn, labelOf, delayNumbers}
@@ -28,8 +28,8 @@ use Rattle.regions.specs.Laws.Rows.{edge-fits}
 use Rattle.regions.specs.Laws.Worklist.{member}
 use Rattle.regions.specs.Laws.View.{landing-number}
 use Rattle.regions.specs.declared.call.Graph.the-variants.{Refused, Regions}
-use Rattle.regions.specs.declared.region.Bounds.{Bounds}
-use Rattle.regions.specs.declared.region.Region.{Region}
+use Rattle.clocks.specs.declared.region.Bounds.{Bounds}
+use Rattle.clocks.specs.declared.region.Region.{Region}
 
 -- The set of clocks after a reset, and then the region with that set at a location.
 pub targeted : (es : List ℕ) (n : ℕ) (bounds : Bounds) (sets heads links spots resets : List ℕ) (count : ℕ)

@@ -19,10 +19,14 @@ use Rattle.regions.specs.Explore.{listed}
 use Rattle.regions.specs.View.{numberIn, labelOf, Way, wayOf}
 use Rattle.regions.specs.Shown.{branchOf}
 use Rattle.regions.specs.Filling.{Before, Fitting}
-use Rattle.regions.specs.Sight.{delayList, waysFrom, Ways, Stepping, isSeen, sightOf, Sighted}
+use Rattle.regions.specs.Sight.{entryIn, delayList, waysFrom, Ways, Stepping, isSeen, sightOf, Sighted}
 use Rattle.regions.specs.Laws.Filling.{before-none, before-on}
-use Rattle.regions.specs.declared.region.Region.{Region}
+use Rattle.clocks.specs.declared.region.Region.{Region}
 use Rattle.regions.specs.declared.sight.Sight.the-variants as S
+
+-- An entry with a number below 4,096 is looked at.
+pub entry-inside : (es : List ℕ) (j : ℕ) → j < maxEntries → entryIn es j ≡ regionAt es j
+entry-inside es j h = rw (lt-ltb j maxEntries h) refl
 
 -- ---- Whether a region is seen
 

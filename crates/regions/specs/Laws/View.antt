@@ -1,25 +1,24 @@
 -- Laws on the graph as the layers above see it: numbers of regions, and labels. In a graph that was listed whole, delays and
 -- steps lead to numbers of regions, and the region of that number is the one that follows, or the one landed in.
-use Prim.Native.Nat.{ℕ, zero, suc, _≤_, _<_}
+use Prim.Native.Nat.{ℕ, zero, suc, _+_, _≤_, _<_}
 use native.Mathlib.Omega.{arith}
+use native.Mathlib.Numerals.{add-one}
 use mathlib.Core.Path.{_≡_, refl, sym, _∙_, ap, subst}
 use mathlib.Core.Bool.{Bool, true, false, cond}
 use mathlib.Core.List.{List, [], _∷_, List·Memᴰ, List·Memᴰ·head, List·Memᴰ·tail, List·Memᴰ·not-nil}
-use lib.ListN.{length, getD}
+use lib.ListN.{length, getD, drop, drop-of-length-le}
+use lib.Seq.{drop-cons}
 use Rattle.table.specs.Model.{Model, Edge}
 use Rattle.table.specs.declared.model.Branch.{Branch}
 use Rattle.regions.specs.Graph.{boundsOf, landing, available, delayNext, gather, edgeNext, Leads, by-delay, by-edge, Reached, led}
 use Rattle.regions.specs.Graph.{DelaysTo, stays, goes}
-use Rattle.regions.specs.States.{State}
-use Rattle.regions.specs.Placing.{placed}
 use Rattle.regions.specs.Explore.{sameRegion, same-true, same-refl}
 use Rattle.regions.specs.View.{numberIn, labelOf}
 use Rattle.regions.specs.Laws.Call.{AllRegions, false-true, gathers}
 use Rattle.regions.specs.Laws.Graph.{edge-some}
 use Rattle.regions.specs.Laws.Locations.{delay-location}
 use Rattle.regions.specs.Laws.Worklist.{Different, member}
-use Rattle.regions.specs.declared.region.Bounds.{Bounds}
-use Rattle.regions.specs.declared.region.Region.{Region}
+use Rattle.clocks.specs.declared.region.Region.{Region}
 
 -- A number of a list, whose region is this one.
 pub record NumberOf (found : List Region) (r : Region) (n : ℕ) : Type 0 where
@@ -57,10 +56,38 @@ number-at found different d j h =
     let k = has-number found (getD found j d) (member d found j h) in
     different d (numberIn found (getD found j d)) j (k .inside) h (k .is d)
 
--- The label of a region is that of each of its states.
-pub label-placed : (m : Model) (bounds : Bounds) (s : State) → labelOf m (placed bounds s) ≡ getD (m .labels) (s .location) 0
-unfolding labelOf placed
-label-placed m bounds s = refl
+-- Looking for a region in a list, from place j on.
+pub number-start : (l : List Region) (q : Region) → numberIn l q ≡ 0 + numberIn (drop 0 l) q
+number-start l q = omega arith
+
+module _ (l : List Region) (q : Region) (j : ℕ) (d : Region) (so-far : numberIn l q ≡ j + numberIn (drop j l) q) (inside : j < length l)
+  where
+    first-of-rest : numberIn (drop j l) q ≡ cond (sameRegion q (getD l j d)) 0 (suc (numberIn (drop (suc j) l) q))
+    unfolding numberIn
+    first-of-rest = ap (λ k. numberIn k q) (drop-cons l j d inside)
+
+    pub number-here : q ≡ getD l j d → numberIn l q ≡ j
+    number-here e =
+        let same : sameRegion q (getD l j d) ≡ true = ap (sameRegion q) (sym e) ∙ same-refl q in
+        let zero-left : numberIn (drop j l) q ≡ 0 = first-of-rest ∙ rw same refl in
+        omega (arith, so-far, zero-left)
+
+    pub number-on : (q ≡ getD l j d → ⊥) → numberIn l q ≡ (j + 1) + numberIn (drop (j + 1) l) q
+    number-on n =
+        let other : sameRegion q (getD l j d) ≡ false = differs (sameRegion q (getD l j d)) refl in
+        let one-more : numberIn (drop j l) q ≡ suc (numberIn (drop (suc j) l) q) = first-of-rest ∙ rw other refl in
+        let shift : numberIn (drop (j + 1) l) q ≡ numberIn (drop (suc j) l) q = ap (λ k. numberIn (drop k l) q) (add-one j) in
+        omega (arith, so-far, one-more, shift)
+      where
+        differs : (b : Bool) → sameRegion q (getD l j d) ≡ b → sameRegion q (getD l j d) ≡ false
+        differs true e = absurd (n (same-true q (getD l j d) e))
+        differs false e = e
+
+pub number-over : (l : List Region) (q : Region) (j : ℕ) → numberIn l q ≡ j + numberIn (drop j l) q → length l ≤ j → numberIn l q ≡ j
+unfolding numberIn
+number-over l q j so-far h =
+    let none : numberIn (drop j l) q ≡ 0 = ap (λ k. numberIn k q) (drop-of-length-le l h) in
+    omega (arith, so-far, none)
 
 -- A delay keeps the label.
 pub delays-label : (m : Model) (r q : Region) → DelaysTo m r q → labelOf m q ≡ labelOf m r

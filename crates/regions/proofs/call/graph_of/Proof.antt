@@ -11,8 +11,8 @@ use Rattle.regions.specs.Graph.{boundsOf, meets, nextOf, first}
 use Rattle.regions.specs.Worklist.{explore}
 use Rattle.regions.specs.Explore.{sameRegion, listed, foundOf}
 use Rattle.regions.specs.Call.{roomFor, graphOf, entriesAfter, breaks, is-cut, is-whole}
-use Rattle.regions.specs.declared.region.Bounds.{Bounds}
-use Rattle.regions.specs.declared.region.Region.{Region}
+use Rattle.clocks.specs.declared.region.Bounds.{Bounds}
+use Rattle.clocks.specs.declared.region.Region.{Region}
 use borrow.Author.Needs.{needs}
 use Rattle.regions.proofs.call.graph_of.Statement.{statement}
 use Rattle.regions.proofs.call.graph_of.Tie as tie

@@ -6,7 +6,7 @@ use lib.ListN.{length, set}
 use Rattle.regions.specs.Filling.{bare, Classed, Grouped}
 use Rattle.regions.specs.Limits.{stored-as-long}
 use Rattle.regions.specs.Laws.Filling.{grouped-none, grouped-on}
-use Rattle.regions.specs.declared.region.Region.{Region}
+use Rattle.clocks.specs.declared.region.Region.{Region}
 use borrow.Author.Needs.{needs}
 use Rattle.regions.proofs.classes.list_sets.Statement.{statement}
 use Rattle.regions.proofs.classes.list_sets.Tie as tie

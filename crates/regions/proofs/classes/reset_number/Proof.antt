@@ -2,7 +2,7 @@
 use native.Mathlib.Omega.{arith}
 use mathlib.Core.Path.{sym, _∙_, ap}
 use Rattle.regions.specs.Filling.{bare}
-use Rattle.regions.specs.declared.region.Region.{Region}
+use Rattle.clocks.specs.declared.region.Region.{Region}
 use borrow.Author.Needs.{needs}
 use Rattle.regions.proofs.classes.reset_number.Statement.{statement}
 use Rattle.regions.proofs.classes.reset_number.Tie as tie

@@ -6,7 +6,7 @@ use lib.ListN.{length}
 use Rattle.regions.specs.Entries.{regionAt}
 use Rattle.regions.specs.Filling.{Run, Blocks, Numbers}
 use Rattle.regions.specs.Laws.Filling.{blocks-on}
-use Rattle.regions.specs.declared.region.Region.{Region}
+use Rattle.clocks.specs.declared.region.Region.{Region}
 use borrow.Author.Needs.{needs}
 use Rattle.regions.proofs.classes.show_resets.Statement.{statement}
 use Rattle.regions.proofs.classes.show_resets.Tie as tie

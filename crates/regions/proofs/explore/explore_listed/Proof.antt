@@ -9,7 +9,7 @@ use Rattle.regions.specs.Limits.{Limited}
 use Rattle.regions.specs.Graph.{boundsOf, nextOf}
 use Rattle.regions.specs.Worklist.{meet, exploreFrom}
 use Rattle.regions.specs.Explore.{sameRegion, listed, Kept, kept-none, kept-on, turn-full, turn-on, turn-over}
-use Rattle.regions.specs.declared.region.Region.{Region}
+use Rattle.clocks.specs.declared.region.Region.{Region}
 use Rattle.regions.proofs.explore.explore_listed.Statement.{statement}
 use Rattle.regions.proofs.explore.explore_listed.Tie as tie
 

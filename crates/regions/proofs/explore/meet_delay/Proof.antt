@@ -2,14 +2,14 @@
 use mathlib.Core.Path.{sym, _∙_, ap}
 use mathlib.Core.List.{List, [], _∷_}
 use borrow.Author.Tests.{not-true, not-false}
-use Rattle.regions.specs.Packed.{delayed}
+use Rattle.clocks.specs.Packed.{delayed}
 use Rattle.regions.specs.Graph.{meets}
 use Rattle.regions.specs.Laws.Graph.{delay-none, delay-breaks, delay-some}
 use Rattle.regions.specs.Explore.{sameRegion, listed, kept-none}
 use Rattle.regions.specs.Worklist.{meet}
-use Rattle.regions.specs.declared.region.Bounds.{Bounds}
-use Rattle.regions.specs.declared.region.Region.{Region}
-use Rattle.regions.specs.declared.region.Moved.{Moved}
+use Rattle.clocks.specs.declared.region.Bounds.{Bounds}
+use Rattle.clocks.specs.declared.region.Region.{Region}
+use Rattle.clocks.specs.declared.region.Moved.{Moved}
 use borrow.Author.Needs.{needs}
 use Rattle.regions.proofs.explore.meet_delay.Statement.{statement}
 use Rattle.regions.proofs.explore.meet_delay.Tie as tie

@@ -6,8 +6,8 @@ use Rattle.regions.specs.Graph.{landing, gather}
 use Rattle.regions.specs.Laws.Graph.{edge-none, edge-some}
 use Rattle.regions.specs.Explore.{sameRegion, listed, kept-none}
 use Rattle.regions.specs.Worklist.{meet}
-use Rattle.regions.specs.declared.region.Bounds.{Bounds}
-use Rattle.regions.specs.declared.region.Region.{Region}
+use Rattle.clocks.specs.declared.region.Bounds.{Bounds}
+use Rattle.clocks.specs.declared.region.Region.{Region}
 use borrow.Author.Needs.{needs}
 use Rattle.regions.proofs.explore.meet_edge.Statement.{statement}
 use Rattle.regions.proofs.explore.meet_edge.Tie as tie

@@ -4,7 +4,7 @@ use borrow.Author.Tests.{not-true, not-false}
 use Rattle.table.specs.Reads.{edgeOf}
 use Rattle.regions.specs.Graph.{every, satisfies, lands}
 use Rattle.regions.specs.Laws.Graph.{not-source, not-guards, when-fits}
-use Rattle.regions.specs.declared.region.Bounds.{Bounds}
+use Rattle.clocks.specs.declared.region.Bounds.{Bounds}
 use borrow.Author.Needs.{needs}
 use Rattle.regions.proofs.guards.is_available.Statement.{statement}
 use Rattle.regions.proofs.guards.is_available.Tie as tie

@@ -1,7 +1,7 @@
 -- `landing_of` meets its contract. Assumes nothing.
 use mathlib.Core.Path.{ap}
 use Rattle.regions.specs.Graph.{landing}
-use Rattle.regions.specs.declared.region.Region.{Region}
+use Rattle.clocks.specs.declared.region.Region.{Region}
 use borrow.Author.Needs.{needs}
 use Rattle.regions.proofs.guards.landing_of.Statement.{statement}
 use Rattle.regions.proofs.guards.landing_of.Tie as tie

@@ -1,7 +1,7 @@
 -- `is_under` meets its contract. Assumes nothing.
 use mathlib.Core.Path.{_∙_, ap, ap₂}
 use lib.Dec.{ltb}
-use Rattle.regions.specs.Packed.{cellOf}
+use Rattle.clocks.specs.Packed.{cellOf}
 use Rattle.regions.specs.Limits.{position}
 use borrow.Author.Needs.{needs}
 use Rattle.regions.proofs.limits.is_under.Statement.{statement}

@@ -2,12 +2,12 @@
 use native.Mathlib.Omega.{arith}
 use mathlib.Core.Path.{sym, _∙_, ap}
 use borrow.Author.Tests.{not-true, not-false}
-use Rattle.regions.specs.Packed.{delayed}
+use Rattle.clocks.specs.Packed.{delayed}
 use Rattle.regions.specs.Graph.{meets, boundsOf}
 use Rattle.regions.specs.Laws.Graph.{delay-none, delay-breaks, delay-some}
 use Rattle.regions.specs.Laws.Filling.{follows-none, follows-at, follows-listed}
-use Rattle.regions.specs.declared.region.Bounds.{Bounds}
-use Rattle.regions.specs.declared.region.Moved.{Moved}
+use Rattle.clocks.specs.declared.region.Bounds.{Bounds}
+use Rattle.clocks.specs.declared.region.Moved.{Moved}
 use borrow.Author.Needs.{needs}
 use Rattle.regions.proofs.moves.delay_number.Statement.{statement}
 use Rattle.regions.proofs.moves.delay_number.Tie as tie

@@ -13,7 +13,7 @@ use Rattle.regions.specs.Entries.{regionAt}
 use Rattle.regions.specs.Limits.{Limited}
 use Rattle.regions.specs.Filling.{Blocks}
 use Rattle.regions.specs.Laws.Filling.{blocks-on}
-use Rattle.regions.specs.declared.region.Region.{Region}
+use Rattle.clocks.specs.declared.region.Region.{Region}
 use borrow.Author.Needs.{needs}
 use Rattle.regions.proofs.moves.show_flags.Statement.{statement}
 use Rattle.regions.proofs.moves.show_flags.Tie as tie

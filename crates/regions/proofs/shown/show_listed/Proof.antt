@@ -3,7 +3,7 @@ use native.Mathlib.Omega.{arith}
 use mathlib.Core.Path.{subst}
 use Rattle.regions.specs.Filling.{Targeted}
 use Rattle.regions.specs.Laws.Shown.{shown}
-use Rattle.regions.specs.declared.region.Bounds.{Bounds}
+use Rattle.clocks.specs.declared.region.Bounds.{Bounds}
 use borrow.Author.Needs.{needs}
 use Rattle.regions.proofs.shown.show_listed.Statement.{statement}
 use Rattle.regions.proofs.shown.show_listed.Tie as tie

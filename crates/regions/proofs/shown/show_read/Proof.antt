@@ -8,7 +8,7 @@ use Rattle.regions.specs.Call.{roomFor, fromAnswer}
 use Rattle.regions.specs.Shown.{Shown}
 use Rattle.regions.specs.Laws.Bytes.{room-fits}
 use Rattle.regions.specs.Laws.Shown.{not-refused, all-found, list-found, all-listed, few-found, bytes-found}
-use Rattle.regions.specs.declared.region.Region.{Region}
+use Rattle.clocks.specs.declared.region.Region.{Region}
 use borrow.Author.Needs.{needs}
 use Rattle.regions.proofs.shown.show_read.Statement.{statement}
 use Rattle.regions.proofs.shown.show_read.Tie as tie

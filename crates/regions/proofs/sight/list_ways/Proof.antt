@@ -12,7 +12,7 @@ use Rattle.regions.specs.Filling.{Before, Fitting}
 use Rattle.regions.specs.Laws.Filling.{before-none, before-on}
 use Rattle.regions.specs.Laws.Rows.{before-then}
 use Rattle.regions.specs.Laws.Sight.{WaysTo, ways-start, ways-on, ways-whole}
-use Rattle.regions.specs.declared.region.Bounds.{Bounds}
+use Rattle.clocks.specs.declared.region.Bounds.{Bounds}
 use borrow.Author.Needs.{needs}
 use Rattle.regions.proofs.sight.list_ways.Statement.{statement}
 use Rattle.regions.proofs.sight.list_ways.Tie as tie
