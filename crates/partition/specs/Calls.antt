@@ -6,9 +6,8 @@ use mathlib.Core.Bool.{Bool, cond, not, _||_}
 use mathlib.Core.List.{List, _++_}
 use lib.Dec.{eqb, leb, ltb}
 use lib.ListN.{length, getD, drop}
-use Rattle.regions.specs.Passed.{Model, Answer, refusal, accepted, readTable}
+use Rattle.regions.specs.Passed.{Model, Answer, refusal, accepted, readTable, Region}
 use Rattle.regions.specs.Call.{Outcome, refused, cut, whole, fromAnswer}
-use Rattle.regions.specs.declared.region.Region.{Region}
 use Rattle.bisimulation.specs.Finite.{related, rounds, lastBlocks, blockCount, accepts}
 use Rattle.partition.specs.Instances.{graph}
 use Rattle.partition.specs.declared.calls.Reduction.{Reduction}

@@ -1,12 +1,12 @@
 -- Comparing two items under a block list, computed over slices that hold a structure. Shares are compared only at the targets of
 -- the two edges: elsewhere both are 0.
-use Prim.Native.Nat.{ℕ, _+_, _*_}
+use Prim.Native.Nat.{ℕ, _+_, _*_, _<_}
 use mathlib.Core.Bool.{Bool, true, cond, _&&_}
 use mathlib.Core.List.{List}
 use lib.Dec.{eqb}
 use lib.ListN.{getD}
 use Rattle.bisimulation.specs.Finite.{related, sum, allBelow, someBelow, anyOf, allOf}
-use Rattle.partition.specs.Held.{flagRoom, chain, actionAt, wholeAt, countAt, targetAt, branchesFrom}
+use Rattle.partition.specs.Held.{mostItems, flagRoom, chain, actionAt, wholeAt, countAt, targetAt, branchesFrom}
 
 -- ---- Delays
 
@@ -14,8 +14,20 @@ use Rattle.partition.specs.Held.{flagRoom, chain, actionAt, wholeAt, cou
 unfoldable pub reachesRelated : (n : ℕ) → (list nexts : List ℕ) → (c y : ℕ) → Bool
 reachesRelated n list nexts c y = anyOf (λ y′. related list c y′) (chain n nexts n y)
 
+-- The same for items whose number is v: marks by number tell it.
+abbrev pub reachesNumber : (n : ℕ) → (list nexts : List ℕ) → (v y : ℕ) → Bool
+reachesNumber n list nexts v y = anyOf (λ y′. eqb v (getD list y′ 0)) (chain n nexts n y)
+
 unfoldable pub delaysAnswered : (n : ℕ) → (list nexts : List ℕ) → (x y : ℕ) → Bool
 delaysAnswered n list nexts x y = allOf (λ x′. reachesRelated n list nexts x′ y) (chain n nexts n x)
+
+-- Each item that x reaches by delay has a number that is marked.
+abbrev pub allMarked : (n : ℕ) → (list nexts marks : List ℕ) → (x : ℕ) → Bool
+allMarked n list nexts marks x = allOf (λ x′. eqb (getD marks (getD list x′ 0) 0) 1) (chain n nexts n x)
+
+-- Numbers for which there are marks.
+abbrev pub Below : (n : ℕ) → List ℕ → Type 0
+Below n list = (x : ℕ) → x < n → getD list x 0 < mostItems
 
 -- ---- Edges
 
@@ -37,6 +49,11 @@ unfoldable pub edgesAlike : (list resets spots rows : List ℕ) → (x e y f : �
 edgesAlike list resets spots rows x e y f =
     eqb (actionAt rows e) (actionAt rows f)
     && (balancedOver list resets spots rows x e x e y f && balancedOver list resets spots rows y f x e y f)
+
+-- Each branch of edge e leads from x and from y to related items. Then the edge is alike to itself (`aligned-alike` in Laws/Compare).
+unfoldable pub aligned : (list resets spots rows : List ℕ) → (x y e : ℕ) → Bool
+aligned list resets spots rows x y e =
+    allBelow (countAt rows e) (λ i. related list (targetAt resets spots rows x e i) (targetAt resets spots rows y e i))
 
 -- Is edge e available at item x?
 abbrev pub isSet : List ℕ → (x e : ℕ) → Bool

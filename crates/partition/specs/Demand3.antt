@@ -14,12 +14,11 @@ use mathlib.Core.List.{List}
 use mathlib.Core.Logic.{_↔_}
 use lib.ListN.{length, getD}
 use borrow.Author.Tests.{eqb-true}
-use Rattle.regions.specs.Passed.{Model, readTable, accepted}
+use Rattle.regions.specs.Passed.{Model, readTable, accepted, Region}
 use Rattle.regions.specs.Call.{whole, outcomeOf}
 use Rattle.regions.specs.Graph.{Reached}
-use Rattle.regions.specs.States.{State, IsState}
-use Rattle.regions.specs.RegionTheorem.{regionIn}
-use Rattle.regions.specs.declared.region.Region.{Region}
+use Rattle.states.specs.States.{State, IsState}
+use Rattle.states.specs.RegionTheorem.{regionIn}
 use Rattle.bisimulation.specs.Structures.{Closed}
 use Rattle.bisimulation.specs.Bisimulations.{Bisimulation}
 use Rattle.bisimulation.specs.Finite.{structure, related, rounds, lastBlocks, accepts}

@@ -15,8 +15,8 @@ use borrow.Author.Tests.{eqb-true, eqb-false, eq-eqb, ne-eqb}
 use Rattle.regions.specs.Passed.{Model}
 use Rattle.regions.specs.Call.{roomFor}
 use Rattle.regions.specs.Graph.{Reached}
-use Rattle.regions.specs.States.{State, IsState}
-use Rattle.regions.specs.RegionTheorem.{regionIn}
+use Rattle.states.specs.States.{State, IsState}
+use Rattle.states.specs.RegionTheorem.{regionIn}
 use Rattle.bisimulation.specs.Bisimulations.{Bisimulation}
 use Rattle.bisimulation.specs.Finite.{related, lastBlocks}
 use Rattle.partition.specs.Instances.{graph, states, placeIn, blockIn}

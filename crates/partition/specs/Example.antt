@@ -7,21 +7,17 @@ use native.Mathlib.Omega.{arith}
 use mathlib.Core.Path.{_≡_, refl, _∙_, ap, ap₂}
 use mathlib.Core.Bool.{true, false}
 use mathlib.Core.List.{List, [], _∷_}
-use Rattle.regions.specs.Passed.{resetIn}
+use Rattle.regions.specs.Passed.{resetIn, delay, atom, clockAt, delayed, afterReset, Region}
 use Rattle.regions.specs.Example.{printed, printedModel, printed-read}
-use Rattle.regions.specs.Cells.{delay}
-use Rattle.regions.specs.Atoms.{atom}
-use Rattle.regions.specs.Packed.{clockAt, delayed, afterReset}
 use Rattle.regions.specs.Graph.{largestConstant, boundsOf, meets, fits, landing, lands}
 use Rattle.regions.specs.Graph.{delayNext, edgeNext, nextOf, first, Reached}
 use Rattle.regions.specs.Explore.{sameRegion}
 use Rattle.regions.specs.Worklist.{exploreFrom, explore}
 use Rattle.regions.specs.View.{numberIn, labelOf}
 use Rattle.regions.specs.Call.{whole, outcomeOf}
-use Rattle.regions.specs.States.{State, IsState}
-use Rattle.regions.specs.Placing.{stateCell, placed}
-use Rattle.regions.specs.RegionTheorem.{regionIn}
-use Rattle.regions.specs.declared.region.Region.{Region}
+use Rattle.states.specs.States.{State, IsState}
+use Rattle.states.specs.Placing.{stateCell, placed}
+use Rattle.states.specs.RegionTheorem.{regionIn}
 use Rattle.bisimulation.specs.Bisimulations.{Bisimulation}
 use Rattle.bisimulation.specs.Finite.{related, blocks, rounds, lastBlocks, blockCount}
 use Rattle.partition.specs.Calls.{reduceOf, pairOf}

@@ -5,13 +5,12 @@ use mathlib.Core.Path.{_≡_}
 use mathlib.Core.Bool.{true}
 use mathlib.Core.List.{List, map}
 use lib.ListN.{length, getD}
-use Rattle.regions.specs.Passed.{Model, edgeOf, Branch as ModelBranch}
+use Rattle.regions.specs.Passed.{Model, edgeOf, Branch as ModelBranch, Region}
 use Rattle.regions.specs.Graph.{boundsOf, landing, available, first}
 unfoldable pub use Rattle.regions.specs.Sight.{delaysFrom}
 use Rattle.regions.specs.View.{numberIn, labelOf}
-use Rattle.regions.specs.States.{State, IsState, Same, Delays, target, enabled}
-use Rattle.regions.specs.RegionTheorem.{regionIn}
-use Rattle.regions.specs.declared.region.Region.{Region}
+use Rattle.states.specs.States.{State, IsState, Same, Delays, target, enabled}
+use Rattle.states.specs.RegionTheorem.{regionIn}
 use Rattle.bisimulation.specs.Structures.{Branch, Structure}
 use Rattle.bisimulation.specs.Finite.{Finite, lastBlocks}
 

@@ -3,6 +3,9 @@
 --   Instances     the region graph of a model as a finite structure, all its states as one, and the block number of a state
 --   Held          a finite structure in slices, as the code of the rounds goes by it
 --   Compare       comparing two items, computed over those slices
+--   Keys          numbers that are equal for items that the next round relates
+--   Names         names of blocks that change as little as they may
+--   Changes       what a change of names reaches
 --   Rounds        what the code of the rounds and the judge keeps
 --   Passed        what the layer above needs of the layers beneath
 --   View          one region of the graph by itself, for the layer above
@@ -20,6 +23,9 @@ pub mod View
 pub mod Calls
 pub mod Promises
 pub mod Compare
+pub mod Keys
+pub mod Names
+pub mod Changes
 pub mod Rounds
 pub mod Laws
 pub mod Demand3

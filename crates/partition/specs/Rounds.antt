@@ -1,13 +1,21 @@
--- What the code of the rounds keeps turn by turn: labels seen, leaders linked within the blocks of the round before, numbers given,
--- rounds made. A rep map holds for each item the lowest one that is related to it.
-use Prim.Native.Nat.{ℕ, suc, _-_, _≤_, _<_}
+-- What the code of the rounds keeps turn by turn: labels seen, anchors and marks, leaders linked within blocks of equal marks,
+-- names and keys, numbers given, rounds made. A rep map holds for each item the lowest one that is related to it.
+use Prim.Native.Nat.{ℕ, suc, _+_, _*_, _-_, _%_, _≤_, _<_}
 use mathlib.Core.Path.{_≡_}
 use mathlib.Core.Bool.{Bool, true, false, cond, _&&_}
 use mathlib.Core.List.{List}
+use mathlib.Core.Logic.{_⊎_}
 use lib.Dec.{eqb}
-use lib.ListN.{getD}
-use Rattle.bisimulation.specs.Finite.{Finite, related, matches, next, lead, leaders, blockOf, blocks, rounds, lastBlocks, blockCount}
+use lib.ListN.{getD, set}
+use Rattle.bisimulation.specs.Structures.{Closed}
+use Rattle.bisimulation.specs.Finite.{Finite, structure, related, matches, next, lead, leaders, blockOf, blocks, rounds}
+use Rattle.bisimulation.specs.Finite.{lastBlocks, blockCount}
 use Rattle.bisimulation.specs.Laws.Leads.{EquivalenceBelow, FinerBelow, Reps}
+use Rattle.partition.specs.Held.{Held}
+use Rattle.partition.specs.Compare.{Below}
+use Rattle.partition.specs.Keys.{keyOf}
+use Rattle.partition.specs.Names.{Named, Changed}
+use Rattle.partition.specs.Changes.{Settled, Stirred}
 
 -- ---- Numbering: the first i items have the numbers of their blocks, the rest of the list is as it was
 
@@ -46,12 +54,45 @@ pub record Seen (labels seen : List ℕ) (i : ℕ) : Type 0 where
 abbrev pub leadBy : (link i : ℕ) → ℕ
 leadBy link i = cond (eqb link 0) i (link - 1)
 
--- ---- A round from the one before: d is the test of the next round over the rep map `old`
+-- ---- Comparing by keys
+
+-- What comparisons go by: slices that hold a structure, names that tell the blocks of this round apart, and the keys under them.
+pub record Keyed (F : Finite) (n k : ℕ) (names keys labels nexts flags resets spots rows : List ℕ) : Type 0 where
+  pub held : Held F n k labels nexts flags resets spots rows
+  pub closed : Closed (structure F)
+  pub below : Below n names
+  pub keyed : (x : ℕ) → x < n → getD keys x 0 ≡ keyOf n k names nexts flags resets spots rows x
+
+-- ---- Items that join their block's anchor: d is the test of the next round over the rep map `old` of this one
+
+-- Each block that has an item which is not stirred has one as its anchor, told at the number of its leader. Link a + 1 is item a,
+-- and 0 is none.
+pub record Anchored (n : ℕ) (old stirred anchors : List ℕ) : Type 0 where
+  pub some : (x : ℕ) → x < n → getD stirred x 0 ≡ 0 → ¬ (getD anchors (getD old x 0) 0 ≡ 0)
+  pub calm : (b a : ℕ) → getD anchors b 0 ≡ suc a → (a < n) × (getD old a 0 ≡ b) × (getD stirred a 0 ≡ 0)
+
+-- An item joins where its block has an anchor that is related to it in the next round.
+abbrev pub joinedBy : (d : ℕ → ℕ → Bool) → (anchors old : List ℕ) → (x : ℕ) → Bool
+joinedBy d anchors old x = cond (eqb (getD anchors (getD old x 0) 0) 0) false (d (getD anchors (getD old x 0) 0 - 1) x)
+
+-- Marks are odd for items that join. Equal marks mean: of one block, and both join or neither does.
+abbrev pub joinMark : (block : ℕ) (joins : Bool) → ℕ
+joinMark block joins = 2 * block + cond joins 1 0
+
+abbrev pub MarkedTo : (i : ℕ) (d : ℕ → ℕ → Bool) → (anchors old marks : List ℕ) → Type 0
+MarkedTo i d anchors old marks = (x : ℕ) → x < i → getD marks x 0 ≡ joinMark (getD old x 0) (joinedBy d anchors old x)
+
+-- ---- A round from the one before: d is the test of the next round over a rep map that is not finer
 
 pub record Step (d : ℕ → ℕ → Bool) (n : ℕ) (old : List ℕ) : Type 0 where
   pub classes : EquivalenceBelow n d
   pub finer : FinerBelow n d (related old)
   pub reps : Reps (related old) n old
+
+-- The rep map `mid` of equal marks is such a one, and tells the leads of items that join.
+pub record Sorted (d : ℕ → ℕ → Bool) (n : ℕ) (marks mid : List ℕ) : Type 0 where
+  pub step : Step d n mid
+  pub joins : (x : ℕ) → x < n → getD marks x 0 % 2 ≡ 1 → lead d x ≡ getD mid x 0
 
 -- Leaders of d in one block of q are linked in rising order. Among the items below i the next one after y is the link of y, where
 -- that is above y; else there is none.
@@ -89,6 +130,31 @@ pub record Turned (F : Finite) (list : List ℕ) (count k : ℕ) : Type 0 where
   pub reps : Reps (related (blocks F k)) (F .size) list
   pub counted : count ≡ blockCount F k
   pub before : k ≤ rounds F
+
+-- Beside it: names for its blocks, the keys under them of items that are not stirred, and that those need no comparison.
+pub record Prepared (F : Finite) (n k : ℕ) (list tags names keys stirred nexts flags resets spots rows : List ℕ) : Type 0 where
+  pub named : Named n list tags names
+  pub keyed : (x : ℕ) → x < n → getD stirred x 0 ≡ 0 → getD keys x 0 ≡ keyOf n k names nexts flags resets spots rows x
+  pub settled : Settled (next F names) (related names) n stirred
+
+-- The key of item x is computed anew, or was kept where x is not stirred.
+abbrev pub RenewedAt : (n k : ℕ) → (names keys keys′ stirred nexts flags resets spots rows : List ℕ) → ℕ → Type 0
+RenewedAt n k names keys keys′ stirred nexts flags resets spots rows x =
+    (getD keys′ x 0 ≡ keyOf n k names nexts flags resets spots rows x) ⊎ ((getD stirred x 0 ≡ 0) × (getD keys′ x 0 ≡ getD keys x 0))
+
+abbrev pub Renewed : (n k : ℕ) → (names keys keys′ stirred nexts flags resets spots rows : List ℕ) → Type 0
+Renewed n k names keys keys′ stirred nexts flags resets spots rows =
+    (x : ℕ) → x < n → RenewedAt n k names keys keys′ stirred nexts flags resets spots rows x
+
+-- The keys after item x was looked at.
+abbrev pub keysAfter : (n k : ℕ) → (names keys stirred nexts flags resets spots rows : List ℕ) → (x : ℕ) → List ℕ
+keysAfter n k names keys stirred nexts flags resets spots rows x =
+    cond (eqb (getD stirred x 0) 0) keys (set keys x (keyOf n k names nexts flags resets spots rows x))
+
+-- After a round: some flags mark what changed its name, and what these reach is stirred.
+abbrev pub Followed : (n k : ℕ) → (names names′ nexts flags resets spots rows stirred : List ℕ) → Type 0
+Followed n k names names′ nexts flags resets spots rows stirred =
+    (changed : List ℕ) × (Changed n names names′ changed × Stirred n k changed nexts flags resets spots rows stirred)
 
 -- The loop is over: both lists are rep maps of the last round.
 pub record Rested (F : Finite) (one two : List ℕ) (count k : ℕ) : Type 0 where

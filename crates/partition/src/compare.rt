@@ -1,15 +1,17 @@
 // Comparing two items under a block list: the two conditions of document 01, over the graph in slices.
-ghost use Prim.Native.Nat.{_<_, _≤_};
+ghost use Prim.Native.Nat.{ℕ, _<_, _≤_};
 ghost use mathlib.Core.Path.{_≡_};
 ghost use mathlib.Core.Bool.{true, cond};
+ghost use lib.ListN.{length, getD, set};
 ghost use Rattle.bisimulation.specs.Structures.{Closed};
 ghost use Rattle.bisimulation.specs.Finite.{Finite, structure, related, matches, next};
 ghost use Rattle.partition.specs.Held.{Held, mostItems, mostEdges, weightAt, targetAt};
-ghost use Rattle.partition.specs.Compare.{reachesRelated, delaysAnswered, weighed, balanced, balancedOver, edgesAlike};
+ghost use Rattle.partition.specs.Compare.{Below, reachesNumber, allMarked, delaysAnswered, weighed, balanced, balancedOver, edgesAlike, aligned};
 ghost use Rattle.partition.specs.Compare.{answers, someAnswers, edgeAnswered, edgesAnswered, answered};
 use crate::slices::at16;
 use crate::slices::at64;
 use crate::slices::is_set;
+use crate::stores::index_at;
 
 // Do two items have the same number?
 pub(crate) fn is_related(x: usize, y: usize, list: &[u64]) -> bool
@@ -18,34 +20,43 @@ pub(crate) fn is_related(x: usize, y: usize, list: &[u64]) -> bool
     at64(list, x) == at64(list, y)
 }
 
-// Does y reach an item related to c by delay?
-fn reaches_related(n: usize, c: usize, y: usize, list: &[u64], nexts: &[u16]) -> bool
-    ensures { λ r. ⌜ r ≡ reachesRelated n (now (list .entry)) (now (nexts .entry)) c y ⌝ }
+// Sets a mark.
+fn set_mark(v: usize, marks: &mut [u8])
+    ensures { λ _. ⌜ now (marks .exit) ≡ set (now (marks .entry)) v 1 ⌝ }
+{
+    if v < marks.len() {
+        marks[v] = 1;
+    }
+}
+
+// Sets the mark of the number of each item that y reaches by delay.
+fn mark_delays(n: usize, y: usize, list: &[u64], nexts: &[u16], marks: &mut [u8])
+    ensures { λ _. ⌜ length (now (marks .exit)) ≡ length (now (marks .entry)) ⌝ }
+    ensures { λ _. ⌜ ((v : ℕ) → v < length (now (marks .entry)) → getD (now (marks .exit)) v 0
+        ≡ cond (reachesNumber n (now (list .entry)) (now (nexts .entry)) v y) 1 (getD (now (marks .entry)) v 0)) ⌝ }
 {
     let mut at = y;
     let mut left = n;
     while 0 < left {
-        if is_related(c, at, list) {
-            return true;
-        }
+        set_mark(index_at(list, at), marks);
         let next = at16(nexts, at);
         if n <= next {
-            return false;
+            return;
         }
         at = next;
         left = left - 1;
     }
-    is_related(c, at, list)
+    set_mark(index_at(list, at), marks);
 }
 
-// Is each item that x reaches by delay related to one that y reaches?
-fn delays_match(n: usize, x: usize, y: usize, list: &[u64], nexts: &[u16]) -> bool
-    ensures { λ r. ⌜ r ≡ delaysAnswered n (now (list .entry)) (now (nexts .entry)) x y ⌝ }
+// Is the number of each item that x reaches by delay marked?
+fn are_marked(n: usize, x: usize, list: &[u64], nexts: &[u16], marks: &[u8]) -> bool
+    ensures { λ r. ⌜ r ≡ allMarked n (now (list .entry)) (now (nexts .entry)) (now (marks .entry)) x ⌝ }
 {
     let mut at = x;
     let mut left = n;
     while 0 < left {
-        if !reaches_related(n, at, y, list, nexts) {
+        if !is_set(marks, index_at(list, at)) {
             return false;
         }
         let next = at16(nexts, at);
@@ -55,11 +66,27 @@ fn delays_match(n: usize, x: usize, y: usize, list: &[u64], nexts: &[u16]) -> bo
         at = next;
         left = left - 1;
     }
-    reaches_related(n, at, y, list, nexts)
+    is_set(marks, index_at(list, at))
+}
+
+// Is each item that x reaches by delay related to one that y reaches?
+fn delays_match(n: usize, x: usize, y: usize, list: &[u64], nexts: &[u16]) -> bool
+    ensures { λ r. ⌜ (Below n (now (list .entry)) → x < n → r ≡ delaysAnswered n (now (list .entry)) (now (nexts .entry)) x y) ⌝ }
+{
+    let mut marks = [0u8; 4096];
+    mark_delays(n, y, list, nexts, &mut marks);
+    are_marked(n, x, list, nexts, &marks)
 }
 
 // Where branch i of edge e leads from item x.
-fn target_at(x: usize, e: usize, i: usize, resets: &[u16], spots: &[u16], rows: &[u16]) -> usize
+pub(crate) fn target_at(
+    x: usize,
+    e: usize,
+    i: usize,
+    resets: &[u16],
+    spots: &[u16],
+    rows: &[u16],
+) -> usize
     requires { ⌜ (x < mostItems) × (e < mostEdges) × (i < 65536) ⌝ }
     ensures { λ r. ⌜ r ≡ targetAt (now (resets .entry)) (now (spots .entry)) (now (rows .entry)) x e i ⌝ }
 {
@@ -207,6 +234,53 @@ fn edge_answers(
     edges_alike(x, e, y, f, list, resets, spots, rows)
 }
 
+// Does each branch of edge e lead from x and from y to related items?
+fn is_aligned(
+    x: usize,
+    y: usize,
+    e: usize,
+    list: &[u64],
+    resets: &[u16],
+    spots: &[u16],
+    rows: &[u16],
+) -> bool
+    requires { ⌜ (x < mostItems) × (y < mostItems) × (e < mostEdges) ⌝ }
+    ensures { λ r. ⌜ r ≡ aligned (now (list .entry)) (now (resets .entry)) (now (spots .entry)) (now (rows .entry)) x y e ⌝ }
+{
+    let count = at16(rows, 32 * e + 2);
+    let mut i = 0;
+    while i < count {
+        let one = target_at(x, e, i, resets, spots, rows);
+        let other = target_at(y, e, i, resets, spots, rows);
+        if !is_related(one, other, list) {
+            return false;
+        }
+        i = i + 1;
+    }
+    true
+}
+
+// Is edge e available at y, with branches aligned to those at x? Then it answers, and no share needs to be weighed.
+fn answers_itself(
+    x: usize,
+    e: usize,
+    y: usize,
+    list: &[u64],
+    flags: &[u8],
+    resets: &[u16],
+    spots: &[u16],
+    rows: &[u16],
+) -> bool
+    requires { ⌜ (x < mostItems) × (e < mostEdges) × (y < mostItems) ⌝ }
+    ensures { λ r. ⌜ (r ≡ true → answers (now (list .entry)) (now (flags .entry)) (now (resets .entry)) (now (spots .entry))
+        (now (rows .entry)) x e y e ≡ true) ⌝ }
+{
+    if !is_set(flags, 128 * y + e) {
+        return false;
+    }
+    is_aligned(x, y, e, list, resets, spots, rows)
+}
+
 // Does some edge at y answer to edge e at x? The edge itself is tried first.
 fn some_answers(
     k: usize,
@@ -222,7 +296,7 @@ fn some_answers(
     requires { ⌜ (k ≤ mostEdges) × (x < mostItems) × (e < k) × (y < mostItems) ⌝ }
     ensures { λ r. ⌜ r ≡ someAnswers k (now (list .entry)) (now (flags .entry)) (now (resets .entry)) (now (spots .entry)) (now (rows .entry)) x e y ⌝ }
 {
-    if edge_answers(x, e, y, e, list, flags, resets, spots, rows) {
+    if answers_itself(x, e, y, list, flags, resets, spots, rows) {
         return true;
     }
     let mut f = 0;
@@ -294,8 +368,8 @@ fn is_matched(
     rows: &[u16],
 ) -> bool
     requires { ⌜ (k ≤ mostEdges) × (x < mostItems) × (y < mostItems) ⌝ }
-    ensures { λ r. ⌜ r ≡ answered n k (now (list .entry)) (now (nexts .entry)) (now (flags .entry)) (now (resets .entry))
-        (now (spots .entry)) (now (rows .entry)) x y ⌝ }
+    ensures { λ r. ⌜ (Below n (now (list .entry)) → x < n → r ≡ answered n k (now (list .entry)) (now (nexts .entry)) (now (flags .entry))
+        (now (resets .entry)) (now (spots .entry)) (now (rows .entry)) x y) ⌝ }
 {
     if !delays_match(n, x, y, list, nexts) {
         return false;
@@ -335,7 +409,8 @@ pub(crate) fn matches_all(
     rows: &[u16],
 ) -> bool
     ensures { λ r. ⌜ ((F : Finite) → Held F n k (now (labels .entry)) (now (nexts .entry)) (now (flags .entry)) (now (resets .entry))
-        (now (spots .entry)) (now (rows .entry)) → Closed (structure F) → x < n → y < n → r ≡ matches F (now (list .entry)) x y) ⌝ }
+        (now (spots .entry)) (now (rows .entry)) → Closed (structure F) → Below n (now (list .entry))
+        → x < n → y < n → r ≡ matches F (now (list .entry)) x y) ⌝ }
 {
     if !are_items(n, k, x, y) {
         return false;
@@ -358,7 +433,8 @@ pub(crate) fn is_next(
     rows: &[u16],
 ) -> bool
     ensures { λ r. ⌜ ((F : Finite) → Held F n k (now (labels .entry)) (now (nexts .entry)) (now (flags .entry)) (now (resets .entry))
-        (now (spots .entry)) (now (rows .entry)) → Closed (structure F) → x < n → y < n → r ≡ next F (now (list .entry)) x y) ⌝ }
+        (now (spots .entry)) (now (rows .entry)) → Closed (structure F) → Below n (now (list .entry))
+        → x < n → y < n → r ≡ next F (now (list .entry)) x y) ⌝ }
 {
     if !are_items(n, k, x, y) {
         return false;

@@ -1,12 +1,24 @@
 // The rounds, by rep maps: a list holds for each region the lowest one that is related to it.
-ghost use Prim.Native.Nat.{_+_, _≤_, _<_};
+ghost use Prim.Native.Nat.{ℕ, _+_, _≤_, _<_};
 ghost use mathlib.Core.Path.{_≡_};
+ghost use mathlib.Core.Bool.{true};
 ghost use lib.ListN.{length, getD};
 ghost use Rattle.bisimulation.specs.Structures.{Closed};
 ghost use Rattle.bisimulation.specs.Finite.{Finite, structure, related, next, lead, blockCount, lastBlocks, rounds};
 ghost use Rattle.partition.specs.Held.{Held};
-ghost use Rattle.partition.specs.Rounds.{Led, Seen, labelRoom, leadBy, Step, Chains, Searched, Turned, Rested};
-use crate::compare::is_next;
+ghost use Rattle.partition.specs.Names.{Tagged, Named, LeadersKept};
+ghost use Rattle.partition.specs.Changes.{Classed, Settled};
+ghost use Rattle.partition.specs.Rounds.{Led, Seen, labelRoom, leadBy, Keyed, Step, Sorted, Chains, Searched};
+ghost use Rattle.partition.specs.Rounds.{Turned, Prepared, Followed, Rested};
+use crate::changes::is_classed;
+use crate::changes::list_order;
+use crate::changes::stir;
+use crate::joins::fill_marks;
+use crate::joins::find_anchors;
+use crate::joins::is_keyed_next;
+use crate::keys::renew_keys;
+use crate::names::first_names;
+use crate::names::name_round;
 use crate::numbering::number_blocks;
 use crate::slices::at16;
 use crate::stores::count_lead;
@@ -36,11 +48,11 @@ fn lead_by(link: usize, i: usize) -> usize
     if link == 0 { i } else { link - 1 }
 }
 
-// Each region's lead is the first one with its label, which `seen` knows by the label.
+// Each region's lead is the first one with its label, which `seen` knows by the label. In later rounds marks are the labels.
 fn lead_labels(n: usize, labels: &[u16], seen: &mut [u16], list: &mut [u64]) -> usize
-    requires { ⌜ (length (now list) ≡ n) × (n ≤ 4096) ⌝ }
+    requires { ⌜ (n ≤ length (now list)) × (n ≤ 4096) ⌝ }
     requires { ⌜ (length (now seen) ≡ labelRoom) × Seen (now labels) (now seen) 0 ⌝ }
-    ensures { λ count. ⌜ (length (now (list .exit)) ≡ n) × (count ≤ n) ⌝ }
+    ensures { λ count. ⌜ (length (now (list .exit)) ≡ length (now (list .entry))) × (count ≤ n) ⌝ }
     ensures { λ count. ⌜ Led (related (now (labels .entry))) (now (list .exit)) n count ⌝ }
 {
     let mut count = 0;
@@ -56,10 +68,10 @@ fn lead_labels(n: usize, labels: &[u16], seen: &mut [u16], list: &mut [u64]) -> 
     count
 }
 
-// The rep map of round 0, and its count of blocks.
+// The rep map of equal labels, and its count of blocks: that of round 0.
 pub(crate) fn first_round(n: usize, labels: &[u16], list: &mut [u64]) -> usize
-    requires { ⌜ (length (now list) ≡ n) × (n ≤ 4096) ⌝ }
-    ensures { λ count. ⌜ (length (now (list .exit)) ≡ n) × (count ≤ n) ⌝ }
+    requires { ⌜ (n ≤ length (now list)) × (n ≤ 4096) ⌝ }
+    ensures { λ count. ⌜ (length (now (list .exit)) ≡ length (now (list .entry))) × (count ≤ n) ⌝ }
     ensures { λ count. ⌜ Led (related (now (labels .entry))) (now (list .exit)) n count ⌝ }
 {
     let mut seen = [0u16; 65536];
@@ -68,14 +80,16 @@ pub(crate) fn first_round(n: usize, labels: &[u16], list: &mut [u64]) -> usize
 
 // ---- A round from the one before
 
-// Looks for the lead of region x among the leaders split off from its old block, from the old lead on along the links.
+// Looks for the lead of region x among the leaders split off from its block of `mid`, from the lead there on along the links.
 fn find_lead(
     n: usize,
     k: usize,
     x: usize,
     start: usize,
-    old: &[u64],
+    mid: &[u64],
     links: &[u16],
+    names: &[u64],
+    keys: &[u64],
     labels: &[u16],
     nexts: &[u16],
     flags: &[u8],
@@ -83,15 +97,29 @@ fn find_lead(
     spots: &[u16],
     rows: &[u16],
 ) -> Search
-    ensures { λ r. ⌜ ((F : Finite) → Held F n k (now (labels .entry)) (now (nexts .entry)) (now (flags .entry)) (now (resets .entry))
-        (now (spots .entry)) (now (rows .entry)) → Closed (structure F) → Step (next F (now (old .entry))) n (now (old .entry))
-        → Chains (next F (now (old .entry))) (related (now (old .entry))) (now (links .entry)) x
-        → x < n → start ≡ getD (now (old .entry)) x 0 → start < x
-        → Searched (next F (now (old .entry))) (related (now (old .entry))) x (r .hit) (r .at)) ⌝ }
+    ensures { λ r. ⌜ ((F : Finite) → Keyed F n k (now (names .entry)) (now (keys .entry)) (now (labels .entry)) (now (nexts .entry))
+        (now (flags .entry)) (now (resets .entry)) (now (spots .entry)) (now (rows .entry))
+        → Step (next F (now (names .entry))) n (now (mid .entry))
+        → Chains (next F (now (names .entry))) (related (now (mid .entry))) (now (links .entry)) x
+        → x < n → start ≡ getD (now (mid .entry)) x 0 → start < x
+        → Searched (next F (now (names .entry))) (related (now (mid .entry))) x (r .hit) (r .at)) ⌝ }
 {
     let mut y = start;
     loop {
-        if is_next(n, k, y, x, old, labels, nexts, flags, resets, spots, rows) {
+        if is_keyed_next(
+            n,
+            k,
+            y,
+            x,
+            names,
+            keys,
+            labels,
+            nexts,
+            flags,
+            resets,
+            spots,
+            rows,
+        ) {
             return Search { hit: true, at: y };
         }
         let link = at16(links, y);
@@ -102,12 +130,16 @@ fn find_lead(
     }
 }
 
-// The lead of region x in the next round. A new leader is linked after the last one of its old block.
+// The lead of region x in the next round: that of `mid` where x joins an anchor. A new leader is linked after the last one of its
+// block of `mid`.
 fn next_lead(
     n: usize,
     k: usize,
     x: usize,
-    old: &[u64],
+    marks: &[u16],
+    mid: &[u64],
+    names: &[u64],
+    keys: &[u64],
     labels: &[u16],
     nexts: &[u16],
     flags: &[u8],
@@ -118,24 +150,30 @@ fn next_lead(
 ) -> usize
     requires { ⌜ (x < n) × (n ≤ 4096) × (n ≤ length (now links)) ⌝ }
     ensures { λ _. ⌜ length (now (links .exit)) ≡ length (now (links .entry)) ⌝ }
-    ensures { λ r. ⌜ ((F : Finite) → Held F n k (now (labels .entry)) (now (nexts .entry)) (now (flags .entry)) (now (resets .entry))
-        (now (spots .entry)) (now (rows .entry)) → Closed (structure F) → Step (next F (now (old .entry))) n (now (old .entry))
-        → Chains (next F (now (old .entry))) (related (now (old .entry))) (now (links .entry)) x
-        → (r ≡ lead (next F (now (old .entry))) x)
-        × Chains (next F (now (old .entry))) (related (now (old .entry))) (now (links .exit)) (x + 1)) ⌝ }
+    ensures { λ r. ⌜ ((F : Finite) → Keyed F n k (now (names .entry)) (now (keys .entry)) (now (labels .entry)) (now (nexts .entry))
+        (now (flags .entry)) (now (resets .entry)) (now (spots .entry)) (now (rows .entry))
+        → Sorted (next F (now (names .entry))) n (now (marks .entry)) (now (mid .entry))
+        → Chains (next F (now (names .entry))) (related (now (mid .entry))) (now (links .entry)) x
+        → (r ≡ lead (next F (now (names .entry))) x)
+        × Chains (next F (now (names .entry))) (related (now (mid .entry))) (now (links .exit)) (x + 1)) ⌝ }
 {
     put_link(x, 0, links);
-    let start = index_at(old, x);
+    let start = index_at(mid, x);
     if x <= start {
         return x;
+    }
+    if at16(marks, x) % 2 == 1 {
+        return start;
     }
     let found = find_lead(
         n,
         k,
         x,
         start,
-        old,
+        mid,
         links,
+        names,
+        keys,
         labels,
         nexts,
         flags,
@@ -155,7 +193,10 @@ fn next_lead(
 fn next_round(
     n: usize,
     k: usize,
-    old: &[u64],
+    marks: &[u16],
+    mid: &[u64],
+    names: &[u64],
+    keys: &[u64],
     labels: &[u16],
     nexts: &[u16],
     flags: &[u8],
@@ -168,9 +209,10 @@ fn next_round(
     requires { ⌜ (length (now new) ≡ n) × (n ≤ 4096) × (n ≤ length (now links)) ⌝ }
     ensures { λ count. ⌜ (length (now (links .exit)) ≡ length (now (links .entry))) × (length (now (new .exit)) ≡ n)
         × (count ≤ n) ⌝ }
-    ensures { λ count. ⌜ ((F : Finite) → Held F n k (now (labels .entry)) (now (nexts .entry)) (now (flags .entry)) (now (resets .entry))
-        (now (spots .entry)) (now (rows .entry)) → Closed (structure F) → Step (next F (now (old .entry))) n (now (old .entry))
-        → Led (next F (now (old .entry))) (now (new .exit)) n count) ⌝ }
+    ensures { λ count. ⌜ ((F : Finite) → Keyed F n k (now (names .entry)) (now (keys .entry)) (now (labels .entry)) (now (nexts .entry))
+        (now (flags .entry)) (now (resets .entry)) (now (spots .entry)) (now (rows .entry))
+        → Sorted (next F (now (names .entry))) n (now (marks .entry)) (now (mid .entry))
+        → Led (next F (now (names .entry))) (now (new .exit)) n count) ⌝ }
 {
     let mut count = 0;
     let mut x = 0;
@@ -179,7 +221,10 @@ fn next_round(
             n,
             k,
             x,
-            old,
+            marks,
+            mid,
+            names,
+            keys,
             labels,
             nexts,
             flags,
@@ -195,6 +240,71 @@ fn next_round(
     count
 }
 
+// The rep map of the next round from that of this one, whose blocks the names tell apart. Different marks
+// part the blocks first.
+fn make_round(
+    n: usize,
+    k: usize,
+    old: &[u64],
+    stirred: &[u8],
+    names: &[u64],
+    keys: &[u64],
+    labels: &[u16],
+    nexts: &[u16],
+    flags: &[u8],
+    resets: &[u16],
+    spots: &[u16],
+    rows: &[u16],
+    new: &mut [u64],
+) -> usize
+    requires { ⌜ (length (now new) ≡ n) × (n ≤ 4096) ⌝ }
+    ensures { λ count. ⌜ (length (now (new .exit)) ≡ n) × (count ≤ n) ⌝ }
+    ensures { λ count. ⌜ ((F : Finite) → Keyed F n k (now (names .entry)) (now (keys .entry)) (now (labels .entry)) (now (nexts .entry))
+        (now (flags .entry)) (now (resets .entry)) (now (spots .entry)) (now (rows .entry))
+        → Step (next F (now (names .entry))) n (now (old .entry))
+        → Settled (next F (now (names .entry))) (related (now (old .entry))) n (now (stirred .entry))
+        → Led (next F (now (names .entry))) (now (new .exit)) n count) ⌝ }
+{
+    let mut anchors = [0u16; 4096];
+    let mut marks = [0u16; 4096];
+    let mut mid = [0u64; 4096];
+    let mut links = [0u16; 4096];
+    find_anchors(n, old, stirred, &mut anchors);
+    fill_marks(
+        n,
+        k,
+        old,
+        stirred,
+        &anchors,
+        names,
+        keys,
+        labels,
+        nexts,
+        flags,
+        resets,
+        spots,
+        rows,
+        &mut marks,
+    );
+    first_round(n, &marks, &mut mid);
+    next_round(
+        n,
+        k,
+        &marks,
+        &mid,
+        names,
+        keys,
+        labels,
+        nexts,
+        flags,
+        resets,
+        spots,
+        rows,
+        &mut links,
+        new,
+    )
+}
+
 // ---- All rounds
 
 fn copy(n: usize, from: &[u64], to: &mut [u64])
@@ -208,43 +318,108 @@ fn copy(n: usize, from: &[u64], to: &mut [u64])
     }
 }
 
+// Names after a round, and which regions the change of names stirs.
+fn follow_round(
+    n: usize,
+    k: usize,
+    classed: bool,
+    old: &[u64],
+    new: &[u64],
+    order: &[u16],
+    nexts: &[u16],
+    flags: &[u8],
+    resets: &[u16],
+    spots: &[u16],
+    rows: &[u16],
+    tags: &mut [u16],
+    names: &mut [u64],
+    stirred: &mut [u8],
+)
+    requires { ⌜ (n ≤ 4096) × (k ≤ 128) × (n ≤ length (now tags)) × (n ≤ length (now names)) × (n ≤ length (now stirred)) ⌝ }
+    ensures { λ _. ⌜ (length (now (tags .exit)) ≡ length (now (tags .entry))) × (length (now (names .exit)) ≡ length (now (names .entry)))
+        × (length (now (stirred .exit)) ≡ length (now (stirred .entry))) ⌝ }
+    ensures { λ _. ⌜ (LeadersKept n (now (old .entry)) (now (new .entry)) → Tagged n (now (old .entry)) (now (tags .entry))
+        → Named n (now (new .entry)) (now (tags .exit)) (now (names .exit))) ⌝ }
+    ensures { λ _. ⌜ ((classed ≡ true → Classed n k (now (flags .entry)) (now (resets .entry)) (now (spots .entry)) (now (rows .entry)))
+        → Followed n k (now (names .entry)) (now (names .exit)) (now (nexts .entry)) (now (flags .entry)) (now (resets .entry))
+        (now (spots .entry)) (now (rows .entry)) (now (stirred .exit))) ⌝ }
+{
+    let mut changed = [0u8; 4096];
+    name_round(n, old, new, tags, names, &mut changed);
+    stir(
+        n,
+        k,
+        classed,
+        &changed,
+        nexts,
+        order,
+        flags,
+        resets,
+        spots,
+        rows,
+        stirred,
+    );
+}
+
 // Rounds are made from the first on until one adds no block. A round reads the second list and writes the first.
 fn refine(
     n: usize,
     k: usize,
     blocks: usize,
+    classed: bool,
+    order: &[u16],
     labels: &[u16],
     nexts: &[u16],
     flags: &[u8],
     resets: &[u16],
     spots: &[u16],
     rows: &[u16],
-    links: &mut [u16],
+    tags: &mut [u16],
+    names: &mut [u64],
+    stirred: &mut [u8],
+    keys: &mut [u64],
     first: &mut [u64],
     second: &mut [u64],
 ) -> Counted
-    requires { ⌜ (length (now first) ≡ n) × (length (now second) ≡ n) × (n ≤ 4096)
-        × (n ≤ length (now links)) × (blocks ≤ n) ⌝ }
-    ensures { λ _. ⌜ (length (now (links .exit)) ≡ length (now (links .entry))) × (length (now (first .exit)) ≡ n)
-        × (length (now (second .exit)) ≡ n) ⌝ }
+    requires { ⌜ (length (now first) ≡ n) × (length (now second) ≡ n) × (n ≤ 4096) × (k ≤ 128) × (blocks ≤ n) ⌝ }
+    requires { ⌜ (n ≤ length (now tags)) × (n ≤ length (now names)) × (n ≤ length (now stirred)) × (n ≤ length (now keys)) ⌝ }
+    ensures { λ _. ⌜ (length (now (first .exit)) ≡ n) × (length (now (second .exit)) ≡ n) ⌝ }
     ensures { λ r. ⌜ ((F : Finite) → Held F n k (now (labels .entry)) (now (nexts .entry)) (now (flags .entry)) (now (resets .entry))
-        (now (spots .entry)) (now (rows .entry)) → Closed (structure F) → Turned F (now (second .entry)) blocks 0
+        (now (spots .entry)) (now (rows .entry)) → Closed (structure F)
+        → (classed ≡ true → Classed n k (now (flags .entry)) (now (resets .entry)) (now (spots .entry)) (now (rows .entry)))
+        → Turned F (now (second .entry)) blocks 0
+        → Prepared F n k (now (second .entry)) (now (tags .entry)) (now (names .entry)) (now (keys .entry)) (now (stirred .entry))
+        (now (nexts .entry)) (now (flags .entry)) (now (resets .entry)) (now (spots .entry)) (now (rows .entry))
         → Rested F (now (first .exit)) (now (second .exit)) (r .blocks) (r .rounds)) ⌝ }
 {
     let mut count = blocks;
     let mut made: usize = 0;
     loop {
-        let more = next_round(
+        renew_keys(
+            n,
+            k,
+            names,
+            nexts,
+            flags,
+            resets,
+            spots,
+            rows,
+            stirred,
+            keys,
+        );
+        let more = make_round(
             n,
             k,
             second,
+            stirred,
+            names,
+            keys,
             labels,
             nexts,
             flags,
             resets,
             spots,
             rows,
-            links,
             first,
         );
         if more <= count {
@@ -253,6 +428,22 @@ fn refine(
                 rounds: made as u64,
             };
         }
+        follow_round(
+            n,
+            k,
+            classed,
+            second,
+            first,
+            order,
+            nexts,
+            flags,
+            resets,
+            spots,
+            rows,
+            tags,
+            names,
+            stirred,
+        );
         copy(n, first, second);
         count = more;
         made = made + 1;
@@ -279,19 +470,37 @@ pub(crate) fn run_rounds(
         → (now (first .exit) ≡ lastBlocks F) × (now (second .exit) ≡ lastBlocks F)
         × (r .blocks ≡ blockCount F (rounds F)) × (r .rounds ≡ rounds F)) ⌝ }
 {
-    let mut links = [0u16; 4096];
+    if 128 < k {
+        return Counted {
+            blocks: 0,
+            rounds: 0,
+        };
+    }
+    let mut tags = [0u16; 4096];
+    let mut names = [0u64; 4096];
+    let mut order = [0u16; 4096];
+    let mut stirred = [1u8; 4096];
+    let mut keys = [0u64; 4096];
     let blocks = first_round(n, labels, second);
+    first_names(n, second, &mut tags, &mut names);
+    list_order(n, nexts, &mut order);
+    let classed = is_classed(n, k, flags, resets, spots, rows);
     let counted = refine(
         n,
         k,
         blocks,
+        classed,
+        &order,
         labels,
         nexts,
         flags,
         resets,
         spots,
         rows,
-        &mut links,
+        &mut tags,
+        &mut names,
+        &mut stirred,
+        &mut keys,
         first,
         second,
     );

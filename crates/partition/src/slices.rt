@@ -35,6 +35,23 @@ pub(crate) fn is_set(flags: &[u8], i: usize) -> bool
     }
 }
 
+// Is a flag clear? One past the end is.
+pub(crate) fn is_clear(flags: &[u8], i: usize) -> bool
+    ensures { λ r. ⌜ r ≡ eqb (getD (now (flags .entry)) i 0) 0 ⌝ }
+{
+    if i < flags.len() {
+        is_zero(flags[i])
+    } else {
+        true
+    }
+}
+
+fn is_zero(x: u8) -> bool
+    ensures { λ r. ⌜ r ≡ eqb x 0 ⌝ }
+{
+    x == 0
+}
+
 fn is_one(x: u8) -> bool
     ensures { λ r. ⌜ r ≡ eqb x 1 ⌝ }
 {

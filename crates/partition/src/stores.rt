@@ -29,6 +29,14 @@ pub(crate) fn put_link(i: usize, v: usize, links: &mut [u16])
     }
 }
 
+pub(crate) fn put_flag(i: usize, v: u8, flags: &mut [u8])
+    ensures { λ _. ⌜ now (flags .exit) ≡ set (now (flags .entry)) i v ⌝ }
+{
+    if i < flags.len() {
+        flags[i] = v;
+    }
+}
+
 // The count of leaders, after an item whose lead is given.
 pub(crate) fn count_lead(i: usize, lead: usize, count: usize) -> usize
     requires { ⌜ count ≤ 4096 ⌝ }

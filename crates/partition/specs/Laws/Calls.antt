@@ -8,7 +8,7 @@ use mathlib.Core.List.{List, _++_}
 use lib.Dec.{eqb, leb, ltb}
 use borrow.Author.Tests.{eq-eqb, ne-eqb, lt-ltb, le-ltb, le-leb, lt-leb, ltb-false, leb-false}
 use lib.ListN.{length, getD, drop, replicate, length-replicate, List·getD-append}
-use Rattle.regions.specs.Passed.{Model, Answer, refusal, accepted, readTable}
+use Rattle.regions.specs.Passed.{Model, Answer, refusal, accepted, readTable, Region}
 use Rattle.regions.specs.Call.{Outcome, refused, cut, whole, fromAnswer, outcomeOf, graphOf}
 use Rattle.regions.specs.Shown.{Shown, Roomy}
 use Rattle.regions.specs.View.{edgesRead}
@@ -16,7 +16,6 @@ use Rattle.regions.specs.Laws.Call.{whole-graph}
 use Rattle.regions.specs.Laws.Numbers.{answers-n}
 use Rattle.regions.specs.declared.call.Graph.{Graph}
 use Rattle.regions.specs.declared.call.Graph.the-variants as G
-use Rattle.regions.specs.declared.region.Region.{Region}
 use Rattle.bisimulation.specs.Finite.{related, lastBlocks, rounds, blockCount, accepts}
 use Rattle.bisimulation.specs.Laws.Blocks.{blocks-length}
 use Rattle.partition.specs.Instances.{graph}

@@ -7,15 +7,16 @@ use mathlib.Core.Path.{_≡_, refl, sym, _∙_, ap, ap₂, subst}
 use mathlib.Core.Bool.{Bool, true, false, cond, _&&_, _||_}
 use mathlib.Core.List.{List, [], _∷_, List·Memᴰ, List·Memᴰ·head, List·Memᴰ·tail}
 use mathlib.Core.Logic.{_⊎_, inl, inr}
-use lib.Dec.{eqb}
-use lib.ListN.{getD}
-use borrow.Author.Tests.{eq-eqb, ne-eqb, eqb-true, eqb-false, lt-ltb, le-ltb}
+use lib.Dec.{eqb, ltb}
+use lib.ListN.{length, getD, set}
+use lib.Seq.{getD-set-same, getD-set-other}
+use borrow.Author.Tests.{eq-eqb, ne-eqb, eqb-true, eqb-false, lt-ltb, le-ltb, ltb-true}
 use Rattle.bisimulation.specs.Structures.{Branch, Closed}
 use Rattle.bisimulation.specs.Finite.{Finite, structure, related, sum, allBelow, someBelow, anyOf, allOf}
 use Rattle.bisimulation.specs.Finite.{alike, delaysMatch, edgesMatch, matches, next}
 use Rattle.bisimulation.specs.Laws.Tests.{both, clash, fails, same-test, and-iff, all-below, some-below, below-some}
-use Rattle.partition.specs.Held.{Held, chain, actionAt, wholeAt, countAt, weightAt, targetAt, branchesFrom}
-use Rattle.partition.specs.Compare.{reachesRelated, delaysAnswered, weighed, balanced, balancedOver, edgesAlike, isSet}
+use Rattle.partition.specs.Held.{Held, mostItems, chain, actionAt, wholeAt, countAt, weightAt, targetAt, branchesFrom}
+use Rattle.partition.specs.Compare.{Below, reachesRelated, reachesNumber, allMarked, delaysAnswered, weighed, balanced, balancedOver, edgesAlike, aligned, isSet}
 use Rattle.partition.specs.Compare.{answers, someAnswers, edgeAnswered, edgesAnswered, answered, nextIn}
 
 -- ---- Tests, one after the other
@@ -150,6 +151,111 @@ module _ (n : ℕ) (nexts : List ℕ) (p : ℕ → Bool) where
       go false = refl
   each-last (suc left) x h = absurd (omega arith)
 
+-- What an item reaches by delay is an item.
+pub chain-below : (n : ℕ) (nexts : List ℕ) (left x u : ℕ) → x < n → List·Memᴰ u (chain n nexts left x) → u < n
+chain-below n nexts zero x u h (List·Memᴰ·head e) = rw e h
+chain-below n nexts (suc left) x u h (List·Memᴰ·head e) = rw e h
+chain-below n nexts (suc left) x u h (List·Memᴰ·tail m) =
+    go (ltb (getD nexts x 0) n) refl (chain-below n nexts left (getD nexts x 0) u) m
+  where
+    go : (b : Bool) → ltb (getD nexts x 0) n ≡ b
+        → (getD nexts x 0 < n → List·Memᴰ u (chain n nexts left (getD nexts x 0)) → u < n)
+        → List·Memᴰ u (cond b (chain n nexts left (getD nexts x 0)) []) → u < n
+    go true t rest m = rest (ltb-true (getD nexts x 0) n t) m
+
+-- Tests that agree on the items of a list.
+pub each-agree : (p q : ℕ → Bool) (l : List ℕ) → ((u : ℕ) → List·Memᴰ u l → p u ≡ q u) → allOf p l ≡ allOf q l
+each-agree p q [] same = refl
+each-agree p q (u ∷ l) same =
+    ap₂ (λ (a b : Bool). a && b) (same u (List·Memᴰ·head refl)) (each-agree p q l (λ v m. same v (List·Memᴰ·tail m)))
+
+-- ---- Marks of numbers
+
+-- A mark is set where the number is reached; else it is as it was.
+abbrev pub MarksOf : (n : ℕ) (list nexts marks₀ marks : List ℕ) (y left at : ℕ) → Type 0
+MarksOf n list nexts marks₀ marks y left at =
+    (v : ℕ) → v < length marks₀
+    → cond (reachesNumber n list nexts v y) 1 (getD marks₀ v 0)
+    ≡ cond (anyOf (λ u. eqb v (getD list u 0)) (chain n nexts left at)) 1 (getD marks v 0)
+
+module _ (n : ℕ) (list nexts marks₀ marks : List ℕ) (y at : ℕ) (long : length marks ≡ length marks₀) where
+  marked-here : (v : ℕ) → v < length marks₀ → (eqb v (getD list at 0) ≡ true) → getD (set marks (getD list at 0) 1) v 0 ≡ 1
+  marked-here v h t =
+      rw (← eqb-true v (getD list at 0) t) (getD-set-same marks v 1 0 (omega (arith, long, h)))
+
+  marked-else : (v : ℕ) → (eqb v (getD list at 0) ≡ false) → getD (set marks (getD list at 0) 1) v 0 ≡ getD marks v 0
+  marked-else v f = getD-set-other marks (getD list at 0) v 1 0 (λ s. eqb-false v (getD list at 0) f s)
+
+  -- One step along the chain, and its end.
+  pub marks-past : (left z : ℕ) → 0 < left → z ≡ getD nexts at 0 → z < n → MarksOf n list nexts marks₀ marks y left at
+      → MarksOf n list nexts marks₀ (set marks (getD list at 0) 1) y (left - 1) z
+  marks-past left z h q k kept v hv = kept v hv ∙ go (both (eqb v (getD list at 0)))
+    where
+      p : ℕ → Bool
+      p u = eqb v (getD list u 0)
+
+      one : ℕ
+      one = 1
+
+      full : (a : Bool) → cond a one one ≡ one
+      full true = refl
+      full false = refl
+
+      go : (p at ≡ true) ⊎ (p at ≡ false)
+          → cond (anyOf p (chain n nexts left at)) 1 (getD marks v 0)
+          ≡ cond (anyOf p (chain n nexts (left - 1) z)) 1 (getD (set marks (getD list at 0) 1) v 0)
+      go (inl t) =
+          ap (λ (b : Bool). cond b 1 (getD marks v 0)) (any-here n nexts p left at t)
+          ∙ sym (ap (λ (m : ℕ). cond (anyOf p (chain n nexts (left - 1) z)) 1 m) (marked-here v hv t)
+          ∙ full (anyOf p (chain n nexts (left - 1) z)))
+      go (inr f) =
+          ap (λ (b : Bool). cond b 1 (getD marks v 0)) (any-past n nexts p left at z h f q k)
+          ∙ sym (ap (λ (m : ℕ). cond (anyOf p (chain n nexts (left - 1) z)) 1 m) (marked-else v f))
+
+  pub marks-none : (left z : ℕ) → 0 < left → z ≡ getD nexts at 0 → n ≤ z → MarksOf n list nexts marks₀ marks y left at
+      → (v : ℕ) → v < length marks₀
+      → getD (set marks (getD list at 0) 1) v 0 ≡ cond (reachesNumber n list nexts v y) 1 (getD marks₀ v 0)
+  marks-none left z h q k kept v hv = sym (kept v hv ∙ go (both (eqb v (getD list at 0))))
+    where
+      p : ℕ → Bool
+      p u = eqb v (getD list u 0)
+
+      go : (p at ≡ true) ⊎ (p at ≡ false)
+          → cond (anyOf p (chain n nexts left at)) 1 (getD marks v 0) ≡ getD (set marks (getD list at 0) 1) v 0
+      go (inl t) =
+          ap (λ (b : Bool). cond b 1 (getD marks v 0)) (any-here n nexts p left at t) ∙ sym (marked-here v hv t)
+      go (inr f) =
+          ap (λ (b : Bool). cond b 1 (getD marks v 0)) (any-none n nexts p left at z h f q k) ∙ sym (marked-else v f)
+
+  pub marks-last : (left : ℕ) → left ≤ 0 → MarksOf n list nexts marks₀ marks y left at
+      → (v : ℕ) → v < length marks₀
+      → getD (set marks (getD list at 0) 1) v 0 ≡ cond (reachesNumber n list nexts v y) 1 (getD marks₀ v 0)
+  marks-last left h kept v hv = sym (kept v hv ∙ go (both (eqb v (getD list at 0))))
+    where
+      p : ℕ → Bool
+      p u = eqb v (getD list u 0)
+
+      go : (p at ≡ true) ⊎ (p at ≡ false)
+          → cond (anyOf p (chain n nexts left at)) 1 (getD marks v 0) ≡ getD (set marks (getD list at 0) 1) v 0
+      go (inl t) =
+          ap (λ (b : Bool). cond b 1 (getD marks v 0)) (any-here n nexts p left at t) ∙ sym (marked-here v hv t)
+      go (inr f) =
+          ap (λ (b : Bool). cond b 1 (getD marks v 0)) (any-last n nexts p left at h ∙ f) ∙ sym (marked-else v f)
+
+-- Where all numbers of what y reaches are marked, and no others, testing marks is the condition on delays.
+pub marked-answers : (n : ℕ) (list nexts marks : List ℕ) (x y : ℕ) → Below n list → x < n
+    → ((v : ℕ) → v < mostItems → getD marks v 0 ≡ cond (reachesNumber n list nexts v y) 1 0)
+    → allMarked n list nexts marks x ≡ delaysAnswered n list nexts x y
+unfolding delaysAnswered reachesRelated
+marked-answers n list nexts marks x y below h told =
+    each-agree (λ u. eqb (getD marks (getD list u 0) 0) 1) (λ u. reachesNumber n list nexts (getD list u 0) y) (chain n nexts n x)
+    (λ u m. let small = below u (chain-below n nexts n x u h m) in
+    ap (λ (k : ℕ). eqb k 1) (told (getD list u 0) small) ∙ bit (reachesNumber n list nexts (getD list u 0) y))
+  where
+    bit : (b : Bool) → eqb (cond b 1 0) 1 ≡ b
+    bit true = refl
+    bit false = refl
+
 -- ---- Sums, from the last branch down
 
 module _ (list resets spots rows : List ℕ) where
@@ -227,7 +333,7 @@ module _ (list resets spots rows : List ℕ) where
       go (inr f) (inr z) = inr (rw f z)
 
   -- Each branch is listed.
-  branch-listed : (x e i left j : ℕ) → i ≤ j → j < i + left
+  pub branch-listed : (x e i left j : ℕ) → i ≤ j → j < i + left
       → List·Memᴰ (record { weight = weightAt rows e j; target = targetAt resets spots rows x e j })
       (branchesFrom resets spots rows x e i left)
   branch-listed x e i zero j a b = absurd (omega arith)
@@ -258,7 +364,7 @@ module _ (list resets spots rows : List ℕ) where
   balanced-none x e y f c p q = rw (p, q) (eq-eqb (0 * wholeAt rows f) (0 * wholeAt rows e) (omega arith))
 
   -- Balanced at the targets of both edges, balanced at every item.
-  balanced-all : (x e y f : ℕ) → balancedOver list resets spots rows x e x e y f ≡ true
+  pub balanced-all : (x e y f : ℕ) → balancedOver list resets spots rows x e x e y f ≡ true
       → balancedOver list resets spots rows y f x e y f ≡ true → (c : ℕ) → balanced list resets spots rows x e y f c ≡ true
   unfolding balancedOver weighed
   balanced-all x e y f a b c =
@@ -279,13 +385,47 @@ module _ (list resets spots rows : List ℕ) where
           (omega arith)
       go (inr p) (inr q) = balanced-none x e y f c p q
 
+  -- Branches that lead to related items give every block the same share.
+  sum-aligned : (c x y e i left : ℕ)
+      → ((j : ℕ) → i ≤ j → j < i + left → related list (targetAt resets spots rows x e j) (targetAt resets spots rows y e j) ≡ true)
+      → sum list c (branchesFrom resets spots rows x e i left) ≡ sum list c (branchesFrom resets spots rows y e i left)
+  sum-aligned c x y e i zero all = refl
+  sum-aligned c x y e i (suc left) all =
+      rw (
+        eqb-true (getD list (targetAt resets spots rows x e i) 0) (getD list (targetAt resets spots rows y e i) 0)
+            (all i (omega arith) (omega arith)),
+        sum-aligned c x y e (suc i) left (λ j a b. all j (omega arith) (omega arith)),
+      ) refl
+
+  aligned-balanced : (x y e c : ℕ) → aligned list resets spots rows x y e ≡ true → balanced list resets spots rows x e y e c ≡ true
+  unfolding aligned balanced weighed
+  aligned-balanced x y e c t =
+      rw (sum-aligned c x y e 0 (countAt rows e) (λ j _ h. all-below (countAt rows e)
+      (λ i. related list (targetAt resets spots rows x e i) (targetAt resets spots rows y e i)) .0 t j (omega arith)))
+      (eq-eqb (sum list c (branchesFrom resets spots rows y e 0 (countAt rows e)) * wholeAt rows e)
+      (sum list c (branchesFrom resets spots rows y e 0 (countAt rows e)) * wholeAt rows e) refl)
+
+  pub aligned-alike : (x y e : ℕ) → aligned list resets spots rows x y e ≡ true → edgesAlike list resets spots rows x e y e ≡ true
+  unfolding edgesAlike balancedOver
+  aligned-alike x y e t =
+      and-iff (eqb (actionAt rows e) (actionAt rows e)) (over x && over y) .1
+      (eq-eqb (actionAt rows e) (actionAt rows e) refl, and-iff (over x) (over y) .1 (all x, all y))
+    where
+      over : ℕ → Bool
+      over z = allBelow (countAt rows e) (λ i. balanced list resets spots rows x e y e (targetAt resets spots rows z e i))
+
+      all : (z : ℕ) → over z ≡ true
+      all z =
+          all-below (countAt rows e) (λ i. balanced list resets spots rows x e y e (targetAt resets spots rows z e i)) .1
+          (λ i _. aligned-balanced x y e (targetAt resets spots rows z e i) t)
+
 -- ---- Slices that hold a structure
 
-all-agree : (n : ℕ) (p q : ℕ → Bool) → ((x : ℕ) → x < n → p x ≡ q x) → allBelow n p ≡ allBelow n q
+pub all-agree : (n : ℕ) (p q : ℕ → Bool) → ((x : ℕ) → x < n → p x ≡ q x) → allBelow n p ≡ allBelow n q
 all-agree zero p q same = refl
 all-agree (suc n) p q same = ap₂ (λ (a b : Bool). a && b) (all-agree n p q (λ x h. same x (omega arith))) (same n (omega arith))
 
-some-agree : (n : ℕ) (p q : ℕ → Bool) → ((x : ℕ) → x < n → p x ≡ q x) → someBelow n p ≡ someBelow n q
+pub some-agree : (n : ℕ) (p q : ℕ → Bool) → ((x : ℕ) → x < n → p x ≡ q x) → someBelow n p ≡ someBelow n q
 some-agree zero p q same = refl
 some-agree (suc n) p q same = ap₂ (λ (a b : Bool). a || b) (some-agree n p q (λ x h. same x (omega arith))) (same n (omega arith))
 

@@ -8,15 +8,14 @@ use mathlib.Core.List.{List, [], _∷_, map, List·Memᴰ, List·Memᴰ·head, L
 use mathlib.Core.List.{List·Memᴰ·eq-of-singleton, List·Memᴰ·not-nil}
 use mathlib.Core.Logic.{_↔_, _⊎_, inl, inr}
 use lib.ListN.{length}
-use Rattle.regions.specs.Passed.{Model}
+use Rattle.regions.specs.Passed.{Model, Region}
 use Rattle.regions.specs.Graph.{boundsOf, meets, first, delayNext, DelaysTo, stays, goes, by-delay, Reached, led}
 use Rattle.regions.specs.Explore.{sameRegion, same-true, same-refl}
 use Rattle.regions.specs.View.{numberIn}
 use Rattle.regions.specs.Laws.Call.{AllRegions, false-true, reached-meets, gathered, gathers}
-use Rattle.regions.specs.Laws.States.{delays-within}
+use Rattle.states.specs.Laws.States.{delays-within}
 use Rattle.regions.specs.Laws.View.{has-number, number-at}
 use Rattle.regions.specs.Laws.Worklist.{Different, member, no-more}
-use Rattle.regions.specs.declared.region.Region.{Region}
 use Rattle.partition.specs.Instances.{regionOf, delaysFrom, graph}
 
 -- ---- Lists

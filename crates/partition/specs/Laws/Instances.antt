@@ -9,19 +9,18 @@ use mathlib.Core.List.{List, [], _∷_, map, List·Memᴰ}
 use mathlib.Core.Logic.{_↔_}
 use lib.ListN.{length, getD}
 use borrow.Author.Tests.{eq-eqb, eqb-true}
-use Rattle.regions.specs.Passed.{Model, edgeOf, readTable, accepted, Branch as ModelBranch, total as modelTotal}
+use Rattle.regions.specs.Passed.{Model, edgeOf, readTable, accepted, Branch as ModelBranch, total as modelTotal, Region}
 use Rattle.regions.specs.Graph.{boundsOf, meets, first, landing, available, Reached}
 use Rattle.regions.specs.View.{numberIn, labelOf}
-use Rattle.regions.specs.States.{State, IsState, Same, Delays, target, enabled}
+use Rattle.states.specs.States.{State, IsState, Same, Delays, target, enabled}
 use Rattle.regions.specs.Call.{whole, outcomeOf}
 use Rattle.regions.specs.Laws.Call.{AllRegions, whole-model}
-use Rattle.regions.specs.Laws.States.{same-refl, same-sym, same-trans, same-delays, same-enabled, same-target}
-use Rattle.regions.specs.Laws.States.{delays-location, delays-within}
+use Rattle.states.specs.Laws.States.{same-refl, same-sym, same-trans, same-delays, same-enabled, same-target}
+use Rattle.states.specs.Laws.States.{delays-location, delays-within, label-placed}
 use Rattle.regions.specs.Laws.View.{NumberOf, has-number, number-listed, number-at, landing-number}
-use Rattle.regions.specs.Laws.View.{label-placed, delays-label}
-use Rattle.regions.specs.RegionTheorem.{regionIn, equal-states, region-theorem, enabled-alike, target-alike}
-use Rattle.regions.specs.RegionTheorem.{edge-there, edge-sum, edge-positive, edge-target}
-use Rattle.regions.specs.declared.region.Region.{Region}
+use Rattle.regions.specs.Laws.View.{delays-label}
+use Rattle.states.specs.RegionTheorem.{regionIn, equal-states, region-theorem, enabled-alike, target-alike}
+use Rattle.states.specs.RegionTheorem.{edge-there, edge-sum, edge-positive, edge-target}
 use Rattle.bisimulation.specs.Structures.{Branch, Closed, total}
 use Rattle.bisimulation.specs.Bisimulations.{Round}
 use Rattle.bisimulation.specs.Finite.{structure, rounds}

@@ -9,9 +9,8 @@ use mathlib.Core.Bool.{Bool, true, false, cond}
 use mathlib.Core.List.{List, _++_, List·Memᴰ}
 use lib.ListN.{length, getD, take, drop, length-append}
 use lib.Seq.{take-at}
-use Rattle.regions.specs.Passed.{Model, Answer, refusal, accepted, readTable}
+use Rattle.regions.specs.Passed.{Model, Answer, refusal, accepted, readTable, Region}
 use Rattle.regions.specs.Call.{Outcome, refused, cut, whole, fromAnswer, roomFor, outcomeOf, entriesAfter}
-use Rattle.regions.specs.declared.region.Region.{Region}
 use Rattle.regions.specs.Entries.{entryBytes, maxEntries}
 use Rattle.regions.specs.Explore.{listed}
 use Rattle.regions.specs.Laws.Bytes.{listed-whole, entries-length, room-fits}

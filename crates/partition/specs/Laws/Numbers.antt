@@ -6,10 +6,9 @@ use mathlib.Core.Bool.{Bool, true, false, cond, not}
 use mathlib.Core.List.{List}
 use lib.Dec.{eqb}
 use lib.ListN.{length}
-use Rattle.regions.specs.Passed.{Model, Answer, refusal, accepted, readTable}
+use Rattle.regions.specs.Passed.{Model, Answer, refusal, accepted, readTable, Region}
 use Rattle.regions.specs.Call.{Outcome, refused, cut, whole, fromAnswer, outcomeOf}
 use Rattle.regions.specs.Laws.Numbers.{refused-number}
-use Rattle.regions.specs.declared.region.Region.{Region}
 use Rattle.bisimulation.specs.Finite.{related, lastBlocks, rounds, blockCount, accepts}
 use Rattle.partition.specs.Instances.{graph}
 use Rattle.partition.specs.Calls.{fromOutcome, afterGraph, isShort, isAskedPast}

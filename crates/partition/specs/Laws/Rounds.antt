@@ -3,7 +3,7 @@ use Prim.Native.Nat.{ℕ, suc, _+_, _-_, _≤_, _<_}
 use native.Mathlib.Omega.{arith}
 use native.Mathlib.Numerals.{add-one}
 use native.Mathlib.Decide.{decLt}
-use mathlib.Core.Path.{_≡_, refl, sym, _∙_, ap, subst}
+use mathlib.Core.Path.{_≡_, refl, sym, _∙_, ap, ap₂, subst}
 use mathlib.Core.Bool.{Bool, true, false, cond, _&&_}
 use mathlib.Core.List.{List}
 use mathlib.Core.Logic.{_↔_, _⊎_, inl, inr}
@@ -13,15 +13,19 @@ use lib.Seq.{ext-getD, getD-set-same, getD-set-other}
 use borrow.Author.Tests.{eq-eqb, ne-eqb}
 use Rattle.bisimulation.specs.Structures.{Closed}
 use Rattle.bisimulation.specs.Finite.{Finite, structure, related, matches, next, lead, leaders, blockOf, blocksBy, blocks, rounds}
-use Rattle.bisimulation.specs.Finite.{lastBlocks, blockCount, accepts}
-use Rattle.bisimulation.specs.Laws.Tests.{clash, fails, same?, and-iff, eqb-iff}
+use Rattle.bisimulation.specs.Finite.{lastBlocks, blockCount, accepts, allBelow}
+use Rattle.bisimulation.specs.Laws.Tests.{clash, fails, same?, same-test, and-iff, eqb-iff}
+use Rattle.bisimulation.specs.Laws.Rounds.{matched-agree}
 use Rattle.bisimulation.specs.Laws.Leads.{EquivalenceBelow, AgreeBelow, Reps, related-equivalence, reps-own}
 use Rattle.bisimulation.specs.Laws.Leads.{lead-low, lead-lowest, lead-of, lead-lead, lead-found, lead-none, lead-agree, leaders-agree}
 use Rattle.bisimulation.specs.Laws.Leads.{block-new, block-old, blocks-by-at, blocks-by-length, leader-finer, lead-first}
 use Rattle.bisimulation.specs.Laws.Blocks.{first-reps, first-agree, next-classes, next-finer, next-reps, next-count}
 use Rattle.bisimulation.specs.Laws.Blocks.{reps-numbered, turn-stop, turn-on, count-grows, rounds-stay}
-use Rattle.bisimulation.specs.Laws.Matches.{matches-iff}
+use Rattle.bisimulation.specs.Laws.Matches.{Related, matches-iff}
 use Rattle.bisimulation.specs.Laws.Judging.{WithFirst, judged-first}
+use Rattle.partition.specs.Held.{mostItems}
+use Rattle.partition.specs.Compare.{Below}
+use Rattle.partition.specs.Laws.Compare.{all-agree}
 use Rattle.partition.specs.Rounds.{Numbered, numberOf, countAfter, Led, FirstWith, Seen, leadBy, labelRoom}
 use Rattle.partition.specs.Rounds.{Step, After, Chains, Walked, Last, Searched, Turned, Rested, judgedWith}
 
@@ -357,11 +361,13 @@ module _ (d : ℕ → ℕ → Bool) (n : ℕ) (old : List ℕ) (step : Step d n 
     pub placed-own : x ≤ getD old x 0 → (x ≡ lead d x) × Chains d (related old) links₁ (x + 1)
     placed-own own = (sym (own-lead x hx own), chains-own links₁ x hx chains-cleared own zero-here)
 
+    -- Its lead is known without a search.
+    pub placed-known : (y : ℕ) → lead d x ≡ y → y < x → (y ≡ lead d x) × Chains d (related old) links₁ (x + 1)
+    placed-known y e h = (sym e, chains-hit links₁ x hx chains-cleared y e h)
+
     pub placed-hit : (hit : Bool) (y : ℕ) → Searched d (related old) x hit y → hit ≡ true
         → (y ≡ lead d x) × Chains d (related old) links₁ (x + 1)
-    placed-hit hit y searched t =
-        let (e, h) = searched .hits t in
-        (sym e, chains-hit links₁ x hx chains-cleared y e h)
+    placed-hit hit y searched t = let (e, h) = searched .hits t in placed-known y e h
 
     pub placed-new : (hit : Bool) (y : ℕ) → Searched d (related old) x hit y → hit ≡ false
         → (links₂ : List ℕ) → links₂ ≡ set links₁ y x → (x ≡ lead d x) × Chains d (related old) links₂ (x + 1)
@@ -518,3 +524,49 @@ judged-on F list i y judged e t x h = at (below-one h)
     at : (x ≡ i) ⊎ (x < i) → judgedWith F list x (lead (related list) x) ≡ true
     at (inl s) = rw (s, ← e) t
     at (inr b) = judged x b
+
+-- ---- Lists that relate the same items
+
+-- A rep map, filled from the front.
+pub reps-none : (q : ℕ → ℕ → Bool) (list : List ℕ) → Reps q 0 list
+reps-none q list = record { rep = λ x h. absurd (omega arith) }
+
+pub reps-on : (q : ℕ → ℕ → Bool) (list : List ℕ) (i l : ℕ) → i < length list → Reps q i list → l ≡ lead q i
+    → Reps q (i + 1) (set list i l)
+reps-on q list i l h reps e = record { rep = λ x hx. at x (below-one hx) }
+  where
+    at : (x : ℕ) → (x ≡ i) ⊎ (x < i) → getD (set list i l) x 0 ≡ lead q x
+    at x (inl s) = rw s (getD-set-same list i l 0 h ∙ e)
+    at x (inr b) = getD-set-other list i x l 0 (λ s. absurd (omega (arith, s))) ∙ reps .rep x b
+
+-- A rep map's numbers are those of items.
+pub reps-below : (n : ℕ) (q : ℕ → ℕ → Bool) (list : List ℕ) → n ≤ mostItems → Reps q n list → Below n list
+reps-below n q list few reps x h = omega (arith, reps .rep x h, lead-low q x, few)
+
+module _ (F : Finite) (closed : Closed (structure F)) where
+  matches-passes : (list list′ : List ℕ) → AgreeBelow (F .size) (related list) (related list′) → (x y : ℕ) → x < F .size → y < F .size
+      → matches F list x y ≡ true → matches F list′ x y ≡ true
+  matches-passes list list′ agree x y hx hy t =
+      matches-iff F list′ x y .1
+      (matched-agree (structure F) closed (Related list) (Related list′) hx hy
+      (λ a b ha hb. (λ u. sym (agree a b ha hb) ∙ u, λ u. agree a b ha hb ∙ u)) (matches-iff F list x y .0 t))
+
+  pub matches-agree : (list list′ : List ℕ) → AgreeBelow (F .size) (related list) (related list′)
+      → AgreeBelow (F .size) (matches F list) (matches F list′)
+  matches-agree list list′ agree x y hx hy =
+      same-test (matches F list x y) (matches F list′ x y) (matches-passes list list′ agree x y hx hy)
+      (matches-passes list′ list (λ a b ha hb. sym (agree a b ha hb)) x y hx hy)
+
+  -- Proposals that relate the same items are accepted alike.
+  pub accepts-agree : (list list′ : List ℕ) → AgreeBelow (F .size) (related list) (related list′) → accepts F list ≡ accepts F list′
+  unfolding accepts
+  accepts-agree list list′ agree =
+      all-agree (F .size) (row list) (row list′) (λ x hx. all-agree (F .size) (one list x) (one list′ x) (λ y hy.
+      ap₂ (λ (a b : Bool). cond a (eqb (F .label x) (F .label y) && b) true) (agree x y hx hy)
+      (matches-agree list list′ agree x y hx hy)))
+    where
+      one : List ℕ → ℕ → ℕ → Bool
+      one l x y = cond (related l x y) (eqb (F .label x) (F .label y) && matches F l x y) true
+
+      row : List ℕ → ℕ → Bool
+      row l x = allBelow (F .size) (one l x)

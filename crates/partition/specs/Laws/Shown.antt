@@ -7,7 +7,7 @@ use mathlib.Core.List.{List, [], _∷_, _++_, map, append-nil, List·Memᴰ, Lis
 use lib.Dec.{eqb, ltb}
 use lib.ListN.{length, getD}
 use borrow.Author.Tests.{ltb-true}
-use Rattle.regions.specs.Passed.{Model, edgeOf, noBranch, readTable, accepted, Branch as ModelBranch}
+use Rattle.regions.specs.Passed.{Model, edgeOf, noBranch, readTable, accepted, Branch as ModelBranch, Region}
 use Rattle.regions.specs.Graph.{boundsOf, landing, available, delayNext, gather, first}
 use Rattle.regions.specs.View.{numberIn, delayNumbers}
 use Rattle.regions.specs.Shown.{Shown, followers, branchOf}
@@ -16,7 +16,6 @@ use Rattle.regions.specs.Laws.Call.{AllRegions, whole-graph, whole-model}
 use Rattle.regions.specs.Laws.Shown.{few-edges}
 use Rattle.regions.specs.Laws.View.{number-at, delay-number}
 use Rattle.regions.specs.Laws.Worklist.{member}
-use Rattle.regions.specs.declared.region.Region.{Region}
 use Rattle.bisimulation.specs.Structures.{Branch}
 use Rattle.partition.specs.Instances.{regionOf, delaysFrom, landsAt, graph}
 use Rattle.partition.specs.Held.{Held, chain, weightAt, targetAt, branchesFrom}

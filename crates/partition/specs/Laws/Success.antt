@@ -9,10 +9,9 @@ use mathlib.Core.List.{List, []}
 use lib.Dec.{eqb, leb, ltb}
 use lib.ListN.{length, getD}
 use borrow.Author.Tests.{eqb-true, eq-eqb, le-ltb, lt-leb, leb-true, leb-false}
-use Rattle.regions.specs.Passed.{Model, Answer, refusal, accepted, readTable}
+use Rattle.regions.specs.Passed.{Model, Answer, refusal, accepted, readTable, Region}
 use Rattle.regions.specs.Call.{Outcome, refused, cut, whole, outcomeOf}
 use Rattle.regions.specs.Laws.Call.{more-room}
-use Rattle.regions.specs.declared.region.Region.{Region}
 use Rattle.bisimulation.specs.Finite.{related, lastBlocks, rounds, blockCount}
 use Rattle.partition.specs.Instances.{graph}
 use Rattle.partition.specs.Calls.{isShort, isAskedPast, blocksOf, sharedOf, reduceOf, listAfter, pairOf}

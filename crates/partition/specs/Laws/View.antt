@@ -7,7 +7,7 @@ use mathlib.Core.List.{List, [], _∷_, _++_, map}
 use lib.Dec.{eqb, ltb}
 use lib.ListN.{length, getD, drop}
 use borrow.Author.Tests.{lt-ltb, le-leb}
-use Rattle.regions.specs.Passed.{Model, Answer, refusal, accepted, readTable, edgeOf, Branch as ModelBranch}
+use Rattle.regions.specs.Passed.{Model, Answer, refusal, accepted, readTable, edgeOf, Branch as ModelBranch, Region}
 use Rattle.regions.specs.Graph.{available, first}
 use Rattle.regions.specs.Explore.{listed, listed-at}
 pub use Rattle.regions.specs.Explore.{listed-length}
@@ -18,7 +18,6 @@ use Rattle.regions.specs.Sight.{noRegion, entryIn, delayList, waysFrom, Steppin
 use Rattle.regions.specs.Laws.Sight.{seen-parts, seen-rest}
 use Rattle.regions.specs.Laws.Shown.{few-edges, few-branches}
 pub use Rattle.regions.specs.Laws.Shown.{few-clocks}
-use Rattle.regions.specs.declared.region.Region.{Region}
 use Rattle.regions.specs.declared.sight.Checked.{Checked as RegionsChecked}
 use Rattle.regions.specs.declared.sight.Checked.the-variants as RC
 use Rattle.regions.specs.declared.sight.Sight.{Sight}

@@ -13,8 +13,8 @@ returns : tie.Need-returns
 returns c =
     let args = c .before .before .before .before .before .before .before .before .args in
     let delays-match = c .before .delays-match in
-    sym (matched-fails args.n args.k args.list.now args.nexts.now args.flags.now args.resets.now
-    args.spots.now args.rows.now args.x args.y (sym delays-match.ensures ∙ not-true delays-match.result
+    λ below hx. sym (matched-fails args.n args.k args.list.now args.nexts.now args.flags.now args.resets.now
+    args.spots.now args.rows.now args.x args.y (sym (delays-match.ensures below hx) ∙ not-true delays-match.result
     (c .if1 .taken)))
 
 edges-match-requires : tie.Need-edges-match-requires
@@ -27,8 +27,8 @@ returns-2 c =
     let args = c .before .before .before .before .before .before .before .before .before .args in
     let delays-match = c .before .before .delays-match in
     let if1 = c .before .if1 in
-    (c .edges-match .ensures) ∙ sym (matched-on args.n args.k args.list.now args.nexts.now args.flags.now
-    args.resets.now args.spots.now args.rows.now args.x args.y (sym delays-match.ensures ∙ not-false
+    λ below hx. (c .edges-match .ensures) ∙ sym (matched-on args.n args.k args.list.now args.nexts.now args.flags.now
+    args.resets.now args.spots.now args.rows.now args.x args.y (sym (delays-match.ensures below hx) ∙ not-false
     delays-match.result if1.left))
 
 pub is-matched-spec : {M : Type 1} → statement M

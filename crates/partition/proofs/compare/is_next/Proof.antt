@@ -13,7 +13,7 @@ are-items-requires c κs = search needs
 returns : tie.Need-returns
 returns c =
     let are-items = c .before .are-items in
-    λ F held closed hx hy. absurd (clash (are-items.ensures.1 (held .few) (held .few-edges) hx hy) (not-true
+    λ F held closed below hx hy. absurd (clash (are-items.ensures.1 (held .few) (held .few-edges) hx hy) (not-true
     are-items.result (c .if1 .taken)))
 
 is-related-requires : tie.Need-is-related-requires
@@ -23,7 +23,7 @@ returns-2 : tie.Need-returns-2
 returns-2 c =
     let args = c .before .before .before .before .before .before .before .before .before .before .before .args in
     let is-related = c .before .is-related in
-    λ F held closed hx hy. sym (next-apart args.n args.k args.list.now args.nexts.now args.flags.now
+    λ F held closed below hx hy. sym (next-apart args.n args.k args.list.now args.nexts.now args.flags.now
     args.resets.now args.spots.now args.rows.now args.x args.y (sym is-related.ensures ∙ not-true
     is-related.result (c .if2 .taken))) ∙ next-held F args.n args.k args.list.now args.labels.now
     args.nexts.now args.flags.now args.resets.now args.spots.now args.rows.now held closed args.x args.y
@@ -41,9 +41,9 @@ returns-3 c =
     let is-related = c .before .before .before .is-related in
     let if2 = c .before .before .if2 in
     let is-matched = c .before .is-matched in
-    λ F held closed hx hy. sym (next-fails args.n args.k args.list.now args.nexts.now args.flags.now
+    λ F held closed below hx hy. sym (next-fails args.n args.k args.list.now args.nexts.now args.flags.now
     args.resets.now args.spots.now args.rows.now args.x args.y (sym is-related.ensures ∙ not-false
-    is-related.result if2.left) (sym is-matched.ensures ∙ not-true is-matched.result (c .if3 .taken))) ∙
+    is-related.result if2.left) (sym (is-matched.ensures below hx) ∙ not-true is-matched.result (c .if3 .taken))) ∙
     next-held F args.n args.k args.list.now args.labels.now args.nexts.now args.flags.now
     args.resets.now args.spots.now args.rows.now held closed args.x args.y hx hy
 
@@ -61,9 +61,9 @@ returns-4 c =
     let if2 = c .before .before .before .if2 in
     let is-matched = c .before .before .is-matched in
     let if3 = c .before .if3 in
-    λ F held closed hx hy. (c .is-matched2 .ensures) ∙ sym (next-on args.n args.k args.list.now
+    λ F held closed below hx hy. (c .is-matched2 .ensures below hy) ∙ sym (next-on args.n args.k args.list.now
     args.nexts.now args.flags.now args.resets.now args.spots.now args.rows.now args.x args.y (sym
-    is-related.ensures ∙ not-false is-related.result if2.left) (sym is-matched.ensures ∙ not-false
+    is-related.ensures ∙ not-false is-related.result if2.left) (sym (is-matched.ensures below hx) ∙ not-false
     is-matched.result if3.left)) ∙ next-held F args.n args.k args.list.now args.labels.now
     args.nexts.now args.flags.now args.resets.now args.spots.now args.rows.now held closed args.x args.y
     hx hy

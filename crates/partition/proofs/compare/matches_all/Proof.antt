@@ -13,7 +13,7 @@ are-items-requires c κs = search needs
 returns : tie.Need-returns
 returns c =
     let are-items = c .before .are-items in
-    λ F held closed hx hy. absurd (clash (are-items.ensures.1 (held .few) (held .few-edges) hx hy) (not-true
+    λ F held closed below hx hy. absurd (clash (are-items.ensures.1 (held .few) (held .few-edges) hx hy) (not-true
     are-items.result (c .if1 .taken)))
 
 is-matched-requires : tie.Need-is-matched-requires
@@ -24,7 +24,7 @@ is-matched-requires c κs =
 returns-2 : tie.Need-returns-2
 returns-2 c =
     let args = c .before .before .before .before .before .before .before .before .before .before .args in
-    λ F held closed hx hy. (c .is-matched) .ensures ∙ answered-held F args.n args.k args.list.now
+    λ F held closed below hx hy. (c .is-matched) .ensures below hx ∙ answered-held F args.n args.k args.list.now
     args.labels.now args.nexts.now args.flags.now args.resets.now args.spots.now args.rows.now held closed
     args.x args.y hx hy
 

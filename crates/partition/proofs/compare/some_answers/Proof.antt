@@ -17,25 +17,25 @@ Inv-loop k x e y list flags resets spots rows f₀ f = (f ≤ k) × (someBelow f
 abbrev μ-loop : tie.MeasureT-loop
 μ-loop k x e y list flags resets spots rows f₀ f = k - f
 
-edge-answers-requires : tie.Need-edge-answers-requires Inv-loop μ-loop
-edge-answers-requires c κs =
+answers-itself-requires : tie.Need-answers-itself-requires Inv-loop μ-loop
+answers-itself-requires c κs =
     let pre = c .before .before .before .before .before .pre in
-    (pre.1, omega (arith, pre.0, pre.2), pre.3, omega (arith, pre.0, pre.2))
+    (pre.1, omega (arith, pre.0, pre.2), pre.3)
 
 returns : tie.Need-returns Inv-loop μ-loop
 unfolding someAnswers
 returns c =
     let args = c .before .before .before .before .before .before .before .args in
     let pre = c .before .before .before .before .before .before .before .pre in
-    let edge-answers = c .before .edge-answers in
+    let answers-itself = c .before .answers-itself in
     sym (below-some args.k (λ (g : ℕ). answers args.list.now args.flags.now args.resets.now args.spots.now
-    args.rows.now args.x args.e args.y g) args.e pre.2 (sym edge-answers.ensures ∙ (c .if1 .taken)))
+    args.rows.now args.x args.e args.y g) args.e pre.2 (answers-itself.ensures (c .if1 .taken)))
 
 loop-holds : tie.Need-loop-holds Inv-loop μ-loop
 loop-holds c = (omega arith, refl)
 
-edge-answers-requires-2 : tie.Need-edge-answers-requires-2 Inv-loop μ-loop
-edge-answers-requires-2 c κs =
+edge-answers-requires : tie.Need-edge-answers-requires Inv-loop μ-loop
+edge-answers-requires c κs =
     let pre = c .before .before .before .before .before .before .before .before .before .pre in
     (pre.1, omega (arith, pre.0, pre.2), pre.3, omega (arith, pre.0, (c .loop-test .taken)))
 
@@ -45,9 +45,9 @@ returns-2 c =
     let args = c .before .before .before .before .before .before .before .before .before .before .before .args in
     let loop = c .before .before .before .loop in
     let loop-test = c .before .before .loop-test in
-    let edge-answers2 = c .before .edge-answers2 in
+    let edge-answers = c .before .edge-answers in
     sym (below-some args.k (λ (g : ℕ). answers args.list.now args.flags.now args.resets.now args.spots.now
-    args.rows.now args.x args.e args.y g) loop.f loop-test.taken (sym edge-answers2.ensures ∙ ((c .if2)
+    args.rows.now args.x args.e args.y g) loop.f loop-test.taken (sym edge-answers.ensures ∙ ((c .if2)
     .taken)))
 
 add-f : tie.Need-add-f Inv-loop μ-loop
@@ -64,11 +64,11 @@ loop-again c =
     let loop-test = c .before .before .loop-test in
     let loop = c .before .before .before .loop in
     let args = c .before .before .before .before .before .before .before .before .before .before .before .args in
-    let edge-answers2 = c .before .edge-answers2 in (
+    let edge-answers = c .before .edge-answers in (
       omega (arith, loop-test.taken),
       some-on loop.f (λ (g : ℕ). answers args.list.now args.flags.now
           args.resets.now args.spots.now args.rows.now args.x args.e args.y g) loop.inv.1 (sym
-          edge-answers2.ensures ∙ (c .if2 .left)),
+          edge-answers.ensures ∙ (c .if2 .left)),
     )
 
 returns-3 : tie.Need-returns-3 Inv-loop μ-loop
@@ -85,10 +85,10 @@ some-answers-spec =
     (tie.spec
     Inv-loop
     μ-loop
-    edge-answers-requires
+    answers-itself-requires
     returns
     loop-holds
-    edge-answers-requires-2
+    edge-answers-requires
     returns-2
     add-f
     loop-less

@@ -25,9 +25,9 @@ returns c =
     let at162 = c .before .before .before .before .at162 in
     let matches-all = c .before .before .matches-all in
     let if2 = c .before .if2 in
-    λ F held closed hx hy. (c .matches-all2) .ensures F held closed hy hx ∙ judged-back F args.proposal.now args.x
+    λ F held closed below hx hy. (c .matches-all2) .ensures F held closed below hy hx ∙ judged-back F args.list.now args.x
     args.y (sym (held .label args.x hx) ∙ sym at16.ensures.0 ∙ if1.taken ∙ at162.ensures.0 ∙ held .label
-    args.y hy) (sym (matches-all.ensures F held closed hx hy) ∙ if2.taken)
+    args.y hy) (sym (matches-all.ensures F held closed below hx hy) ∙ if2.taken)
 
 returns-2 : tie.Need-returns-2
 returns-2 c =
@@ -36,8 +36,8 @@ returns-2 c =
     let if1 = c .before .before .if1 in
     let at162 = c .before .before .before .at162 in
     let matches-all = c .before .matches-all in
-    λ F held closed hx hy. judged-there F args.proposal.now args.x args.y (sym (held .label args.x hx) ∙ sym
-    at16.ensures.0 ∙ if1.taken ∙ at162.ensures.0 ∙ held .label args.y hy) (sym (matches-all.ensures F held closed
+    λ F held closed below hx hy. judged-there F args.list.now args.x args.y (sym (held .label args.x hx) ∙ sym
+    at16.ensures.0 ∙ if1.taken ∙ at162.ensures.0 ∙ held .label args.y hy) (sym (matches-all.ensures F held closed below
     hx hy) ∙ (c .if2) .left)
 
 returns-3 : tie.Need-returns-3
@@ -45,7 +45,7 @@ returns-3 c =
     let args = c .before .before .before .before .before .before .before .before .before .before .args in
     let at16 = c .before .before .at16 in
     let at162 = c .before .at162 in
-    λ F held closed hx hy. judged-other F args.proposal.now args.x args.y (λ e. (c .if1) .left (at16.ensures.0 ∙
+    λ F held closed below hx hy. judged-other F args.list.now args.x args.y (λ e. (c .if1) .left (at16.ensures.0 ∙
     held .label args.x hx ∙ e ∙ sym (held .label args.y hy) ∙ sym at162.ensures.0))
 
 pub is-alike-spec : {M : Type 1} → statement M

@@ -1,96 +1,47 @@
 -- `judge` meets its contract. Assumes nothing.
-use Rattle.partition.specs.Rounds.{judgedWith}
-use Rattle.partition.specs.Held.{Held}
-use Rattle.bisimulation.specs.Structures.{Closed}
-use Rattle.bisimulation.specs.Finite.{Finite, structure, related}
+use Prim.Native.Nat.{ℕ}
 use native.Mathlib.Omega.{arith}
-use mathlib.Core.Path.{sym, _∙_, ap}
-use Prim.Native.Nat.{_<_, _-_}
-use Rattle.partition.specs.Laws.Rounds.{JudgedTo, judged-on, judged-all, judged-not}
-use Rattle.bisimulation.specs.Laws.Leads.{lead-low}
-use borrow.Author.Tests.{not-true, not-false}
+use mathlib.Core.Path.{_∙_}
+use lib.ListN.{length-replicate}
+use Rattle.bisimulation.specs.Laws.Leads.{related-equivalence, reps-own, reps-agree}
+use Rattle.partition.specs.Laws.Rounds.{accepts-agree}
 use borrow.Author.Needs.{needs}
 use Rattle.partition.proofs.judge.judge.Statement.{statement}
 use Rattle.partition.proofs.judge.judge.Tie as tie
 
-abbrev Inv-loop : tie.InvT-loop
-Inv-loop n k proposal labels nexts flags resets spots rows x₀ x = (F : Finite) → Held F n k labels nexts flags resets spots rows → Closed (structure F) → JudgedTo F proposal x
+returns : tie.Need-returns
+returns c = λ F held closed. absurd (omega (arith, held .few, (c .if1) .taken))
 
-abbrev μ-loop : tie.MeasureT-loop
-μ-loop n k proposal labels nexts flags resets spots rows x₀ x = n - x
+slice-aggregate-list-firsts : tie.Need-slice-aggregate-list-firsts
+slice-aggregate-list-firsts c = search needs
 
-loop-holds : tie.Need-loop-holds Inv-loop μ-loop
-loop-holds c = λ F held closed x h. absurd (omega arith)
+list-firsts-requires : tie.Need-list-firsts-requires
+list-firsts-requires c κs =
+    let if1 = c .before .if1 in
+    omega (arith, length-replicate {A = ℕ} 4096 0, if1.left)
 
-first-alike-requires : tie.Need-first-alike-requires Inv-loop μ-loop
-first-alike-requires c κs = search needs
+slice-aggregate-judge-firsts : tie.Need-slice-aggregate-judge-firsts
+slice-aggregate-judge-firsts c = search needs
 
-is-alike-requires : tie.Need-is-alike-requires Inv-loop μ-loop
-is-alike-requires c κs = search needs
+judge-firsts-requires : tie.Need-judge-firsts-requires
+judge-firsts-requires c κs = search needs
 
-returns : tie.Need-returns Inv-loop μ-loop
-returns c =
-    let first-alike = c .before .before .first-alike in
-    let args = c .before .before .before .before .before .before .before .before .before .before .before .before .args in
-    let loop = c .before .before .before .before .loop in
-    let loop-test = c .before .before .before .loop-test in
-    let is-alike = c .before .is-alike in
-    λ F held closed. let y = first-alike.result in let hy : y < args.n = omega (
-      arith,
-      first-alike.ensures,
-      lead-low
-          (related args.proposal.now) loop.x,
-      loop-test.taken,
-    ) in sym (judged-not F closed args.proposal.now loop.x
-    (omega (arith, held .size, loop-test.taken)) (ap (judgedWith F args.proposal.now loop.x) (sym
-    first-alike.ensures) ∙ sym (is-alike.ensures F held closed loop-test.taken hy) ∙ not-true is-alike.result
-    (c .if1 .taken)))
-
-add-x : tie.Need-add-x Inv-loop μ-loop
-add-x c =
-    let loop-test = c .before .before .before .loop-test in
-    omega (arith, loop-test.taken)
-
-loop-less : tie.Need-loop-less Inv-loop μ-loop
-loop-less c =
-    let loop-test = c .before .before .before .loop-test in
-    omega (arith, loop-test.taken)
-
-loop-again : tie.Need-loop-again Inv-loop μ-loop
-loop-again c =
-    let first-alike = c .before .before .first-alike in
-    let args = c .before .before .before .before .before .before .before .before .before .before .before .before .args in
-    let loop = c .before .before .before .before .loop in
-    let loop-test = c .before .before .before .loop-test in
-    let is-alike = c .before .is-alike in
-    λ F held closed. let y = first-alike.result in let hy : y < args.n = omega (
-      arith,
-      first-alike.ensures,
-      lead-low
-          (related args.proposal.now) loop.x,
-      loop-test.taken,
-    ) in judged-on F args.proposal.now loop.x y (loop.inv F
-    held closed) first-alike.ensures (sym (is-alike.ensures F held closed loop-test.taken hy) ∙ not-false
-    is-alike.result (c .if1 .left))
-
-returns-2 : tie.Need-returns-2 Inv-loop μ-loop
+returns-2 : tie.Need-returns-2
 returns-2 c =
-    let args = c .before .before .before .before .before .before .before .before .before .args in
-    let loop = c .before .loop in
-    λ F held closed. sym (judged-all F closed args.proposal.now args.n (held .size) (λ x h. loop.inv F held closed
-    x (omega (arith, (c .loop-test) .left))))
+    let list-firsts = c .before .before .before .list-firsts in
+    let args = c .before .before .before .before .before .before .before .before .before .before .before .before .before
+    .args in
+    λ F held closed. let reps = list-firsts.ensures.1 in let classes = related-equivalence args.n args.proposal.now in (c
+    .judge-firsts) .ensures F held closed (reps-own classes reps) ∙ accepts-agree F closed list-firsts.last.1.1.0
+    args.proposal.now (rw (← held .size) (reps-agree classes reps))
 
 pub judge-spec : {M : Type 1} → statement M
 judge-spec =
     tie.close
     (tie.spec
-    Inv-loop
-    μ-loop
-    loop-holds
-    first-alike-requires
-    is-alike-requires
     returns
-    add-x
-    loop-less
-    loop-again
+    slice-aggregate-list-firsts
+    list-firsts-requires
+    slice-aggregate-judge-firsts
+    judge-firsts-requires
     returns-2)

@@ -1,5 +1,4 @@
 -- `first_round` meets its contract. Assumes nothing.
-use mathlib.Core.Path.{sym, _∙_}
 use lib.ListN.{length-replicate, getD-replicate, replicate}
 use Prim.Native.Nat.{ℕ, _-_}
 use Rattle.partition.specs.Laws.Rounds.{seen-none}
@@ -25,8 +24,7 @@ lead-labels-requires c κs =
 same-length : tie.Need-same-length
 same-length c =
     let lead-labels = c .before .before .before .lead-labels in
-    let pre = c .before .before .before .before .before .before .before .before .pre in
-    lead-labels.ensures.0.0 ∙ sym pre.0
+    lead-labels.ensures.0.0
 
 returns : tie.Need-returns
 returns c =

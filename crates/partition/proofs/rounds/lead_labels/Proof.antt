@@ -3,7 +3,7 @@ use Rattle.partition.specs.Rounds.{Seen, Led, labelRoom}
 use Rattle.partition.specs.Laws.Rounds.{led-none, led-on, seen-lead, seen-on}
 use Rattle.bisimulation.specs.Finite.{related}
 use native.Mathlib.Omega.{arith}
-use mathlib.Core.Path.{_≡_, sym, _∙_, ap, subst}
+use mathlib.Core.Path.{_≡_, refl, sym, _∙_, ap, subst}
 use lib.ListN.{length, length-set}
 use Prim.Native.Nat.{ℕ, _≤_, _-_, _+_}
 use borrow.Author.Needs.{needs}
@@ -11,7 +11,7 @@ use Rattle.partition.proofs.rounds.lead_labels.Statement.{statement}
 use Rattle.partition.proofs.rounds.lead_labels.Tie as tie
 
 abbrev Inv-loop : tie.InvT-loop
-Inv-loop n labels seen₀ list₀ count₀ i₀ seen list count i = (length list ≡ n) × (length seen ≡ labelRoom) × (count ≤ i) × (i ≤ n) × Seen labels seen i × Led (related labels) list i count
+Inv-loop n labels seen₀ list₀ count₀ i₀ seen list count i = (length list ≡ length list₀) × (length seen ≡ labelRoom) × (count ≤ i) × (i ≤ n) × Seen labels seen i × Led (related labels) list i count
 
 abbrev μ-loop : tie.MeasureT-loop
 μ-loop n labels seen₀ list₀ count₀ i₀ seen list count i = n - i
@@ -20,7 +20,7 @@ loop-holds : tie.Need-loop-holds Inv-loop μ-loop
 loop-holds c =
     let pre = c .before .before .before .pre in
     let args = c .before .before .before .args in
-    (pre.0.0, pre.1.0, omega arith, omega arith, pre.1.1, led-none (related args.labels.now) args.list.now)
+    (refl, pre.1.0, omega arith, omega arith, pre.1.1, led-none (related args.labels.now) args.list.now)
 
 at16-requires : tie.Need-at16-requires Inv-loop μ-loop
 at16-requires c κs = search needs
@@ -66,6 +66,7 @@ loop-again c =
     let at16 = c .before .before .before .before .before .before .before .before .before .before .before .before .at16 in
     let loop-test = c .before .before .before .before .before .before .before .before .before .before .before .before .before .loop-test in
     let args = c .before .before .before .before .before .before .before .before .before .before .before .before .before .before .before .before .before .before .args in
+    let pre = c .before .before .before .before .before .before .before .before .before .before .before .before .before .before .before .before .before .before .pre in
     let at162 = c .before .before .before .before .before .before .before .before .before .before .at162 in (
       ap length put-index.ensures ∙ length-set loop.list loop.i lead-by.result ∙ loop.inv.0,
       ap length
@@ -88,6 +89,7 @@ loop-again c =
         arith,
         loop-test.taken,
         loop.inv.0,
+        pre.0.0,
       )) loop.inv.5 (seen-lead args.labels.now loop.seen loop.i at16.result
           at162.result lead-by.result loop.inv.4 at16.ensures.0 at16.ensures.1 loop.inv.1 at162.ensures.0
           lead-by.ensures.0)),
@@ -102,8 +104,7 @@ same-length c =
 same-length-2 : tie.Need-same-length-2 Inv-loop μ-loop
 same-length-2 c =
     let loop = c .before .loop in
-    let pre = c .before .before .before .before .before .pre in
-    loop.inv.0 ∙ sym pre.0.0
+    loop.inv.0
 
 returns : tie.Need-returns Inv-loop μ-loop
 returns c =

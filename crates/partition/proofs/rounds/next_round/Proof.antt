@@ -1,8 +1,6 @@
 -- `next_round` meets its contract. Assumes nothing.
-use Rattle.partition.specs.Rounds.{Step, Chains, Led}
-use Rattle.partition.specs.Held.{Held}
-use Rattle.bisimulation.specs.Structures.{Closed}
-use Rattle.bisimulation.specs.Finite.{Finite, structure, related, next}
+use Rattle.partition.specs.Rounds.{Keyed, Sorted, Chains, Led}
+use Rattle.bisimulation.specs.Finite.{Finite, related, next}
 use native.Mathlib.Omega.{arith}
 use mathlib.Core.Path.{_≡_, refl, sym, _∙_, ap, subst}
 use lib.ListN.{length, length-set}
@@ -13,31 +11,33 @@ use Rattle.partition.proofs.rounds.next_round.Statement.{statement}
 use Rattle.partition.proofs.rounds.next_round.Tie as tie
 
 abbrev Inv-loop : tie.InvT-loop
-Inv-loop n k old labels nexts flags resets spots rows links₀ new₀ count₀ x₀ links new count x = (length links ≡ length links₀) × (length new ≡ n) × (count ≤ x) × (x ≤ n) × ((F : Finite) → Held F n k labels nexts flags resets spots rows
-    → Closed (structure F) → Step (next F old) n old → Chains (next F old) (related old) links x × Led (next F old) new x count)
+Inv-loop n k marks mid names keys labels nexts flags resets spots rows links₀ new₀ count₀ x₀ links new count x = (length links ≡ length links₀) × (length new ≡ n) × (count ≤ x) × (x ≤ n)
+    × ((F : Finite) → Keyed F n k names keys labels nexts flags resets spots rows → Sorted (next F names) n marks mid
+    → Chains (next F names) (related mid) links x × Led (next F names) new x count)
 
 abbrev μ-loop : tie.MeasureT-loop
-μ-loop n k old labels nexts flags resets spots rows links₀ new₀ count₀ x₀ links new count x = n - x
+μ-loop n k marks mid names keys labels nexts flags resets spots rows links₀ new₀ count₀ x₀ links new count x = n - x
 
 loop-holds : tie.Need-loop-holds Inv-loop μ-loop
 loop-holds c =
-    let pre = c .before .before .before .before .before .before .before .before .before .pre in
-    let args = c .before .before .before .before .before .before .before .before .before .args in (
+    let pre = c .before .before .before .before .before .before .before .before .before .before .before .before .pre in
+    let args = c .before .before .before .before .before .before .before .before .before .before .before .before .args in (
       refl,
       pre.0,
       omega arith,
       omega arith,
-      λ F held closed step. (
-        chains-none (next F args.old.now) (related
-            args.old.now) args.links.now,
-        led-none (next F args.old.now) args.new.now,
+      λ F keyed sorted. (
+        chains-none (next F args.names.now) (related args.mid.now)
+            args.links.now,
+        led-none (next F args.names.now) args.new.now,
       ),
     )
 
 next-lead-requires : tie.Need-next-lead-requires Inv-loop μ-loop
 next-lead-requires c κs =
     let loop-test = c .before .loop-test in
-    let pre = c .before .before .before .before .before .before .before .before .before .before .before .before .pre in
+    let pre = c .before .before .before .before .before .before .before .before .before .before .before .before .before
+    .before .before .pre in
     let loop = c .before .before .loop in
     (loop-test.taken, pre.1, omega (arith, pre.2, loop.inv.0))
 
@@ -47,13 +47,15 @@ put-index-requires c κs = search needs
 count-lead-requires : tie.Need-count-lead-requires Inv-loop μ-loop
 count-lead-requires c κs =
     let loop = c .before .before .before .before .before .before .before .before .before .loop in
-    let pre = c .before .before .before .before .before .before .before .before .before .before .before .before .before .before .before .before .before .before .before .pre in
+    let pre = c .before .before .before .before .before .before .before .before .before .before .before .before .before
+    .before .before .before .before .before .before .before .before .before .pre in
     omega (arith, loop.inv.2, loop.inv.3, pre.1)
 
 add-x : tie.Need-add-x Inv-loop μ-loop
 add-x c =
     let loop-test = c .before .before .before .before .before .before .before .before .before .loop-test in
-    let pre = c .before .before .before .before .before .before .before .before .before .before .before .before .before .before .before .before .before .before .before .before .pre in
+    let pre = c .before .before .before .before .before .before .before .before .before .before .before .before .before
+    .before .before .before .before .before .before .before .before .before .before .pre in
     omega (arith, loop-test.taken, pre.1)
 
 loop-less : tie.Need-loop-less Inv-loop μ-loop
@@ -67,20 +69,17 @@ loop-again c =
     let loop = c .before .before .before .before .before .before .before .before .before .before .loop in
     let put-index = c .before .before .before .put-index in
     let loop-test = c .before .before .before .before .before .before .before .before .before .loop-test in
-    let args = c .before .before .before .before .before .before .before .before .before .before .before .before .before .before .before .before .before .before .before .before .args in (
+    let args = c .before .before .before .before .before .before .before .before .before .before .before .before .before
+    .before .before .before .before .before .before .before .before .before .before .args in (
       next-lead.ensures.0 ∙ loop.inv.0,
-      ap length put-index.ensures ∙ length-set loop.new loop.x
-          next-lead.result ∙ loop.inv.1,
+      ap length put-index.ensures ∙ length-set loop.new loop.x next-lead.result ∙ loop.inv.1,
       omega (arith, (c .count-lead) .ensures .1, loop.inv.2),
-      omega (
-        arith,
-        loop-test.taken,
-      ),
-      λ F held closed step. let (chains, led) = loop.inv.4 F held closed step in let (e, chains′) =
-          next-lead.ensures.1 F held closed step chains in (
+      omega (arith, loop-test.taken),
+      λ F keyed sorted. let (chains, led) = loop.inv.4 F keyed sorted in
+          let (e, chains′) = next-lead.ensures.1 F keyed sorted chains in (
             chains′,
             rw (put-index.ensures, (c .count-lead) .ensures .0)
-                (led-on (next F args.old.now) loop.new loop.x next-lead.result loop.count (omega (
+                (led-on (next F args.names.now) loop.new loop.x next-lead.result loop.count (omega (
                   arith,
                   loop-test.taken,
                   loop.inv.1,
@@ -96,17 +95,22 @@ same-length c =
 same-length-2 : tie.Need-same-length-2 Inv-loop μ-loop
 same-length-2 c =
     let loop = c .before .loop in
-    let pre = c .before .before .before .before .before .before .before .before .before .before .before .pre in
+    let pre = c .before .before .before .before .before .before .before .before .before .before .before .before .before
+    .before .pre in
     loop.inv.1 ∙ sym pre.0
 
 returns : tie.Need-returns Inv-loop μ-loop
 returns c =
     let loop = c .before .loop in
-    let args = c .before .before .before .before .before .before .before .before .before .before .before .args in (
+    let args = c .before .before .before .before .before .before .before .before .before .before .before .before .before
+    .before .args in (
       (loop.inv.0, loop.inv.1, omega (arith, loop.inv.2, loop.inv.3)),
-      λ F held closed step. subst (λ (i : ℕ). Led
-          (next F args.old.now) loop.new i loop.count) (omega (arith, loop.inv.3, (c .loop-test) .left)) (loop.inv.4 F
-          held closed step .1),
+      λ F keyed sorted. subst (λ (i : ℕ). Led (next F args.names.now) loop.new i loop.count) (omega (
+        arith,
+        loop.inv.3,
+        (c
+            .loop-test) .left,
+      )) (loop.inv.4 F keyed sorted .1),
     )
 
 pub next-round-spec : {M : Type 1} → statement M

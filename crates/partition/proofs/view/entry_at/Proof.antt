@@ -1,6 +1,6 @@
 -- `entry_at` meets its contract. Assumes nothing.
 use mathlib.Core.Path.{ap}
-use Rattle.regions.specs.declared.region.Region.{Region}
+use Rattle.regions.specs.Passed.{Region}
 use Rattle.partition.specs.declared.view.Entry.{Entry}
 use borrow.Author.Needs.{needs}
 use Rattle.partition.proofs.view.entry_at.Statement.{statement}
