@@ -1,17 +1,108 @@
-/* The calls of Terkwabu for C hosts.
+/* Terkwabu for C hosts: reduction of probabilistic timed automata.
  *
- * terkwabu_graph, terkwabu_place, terkwabu_reduce, terkwabu_pair and terkwabu_judge take a model table (docs/FORMAT.md) and lent bytes
- * for region entries, and explore the table's regions into these. Two more calls put text into a lent buffer: terkwabu_part a part of
- * the listing, from what terkwabu_reduce left, and terkwabu_refusal_line the line of a refusal. All calls answer with numbers only.
- * For every table, every number and every lent length the answer and all lent memory are proved to be what the definitions in the
- * specs/ folders of crates/table, crates/regions, crates/bisimulation, crates/partition, crates/listing and crates/terkwabu say.
+ * A host hands over a model as a table of bytes (docs/FORMAT.md) and lends memory; it gets numbers back. The library explores the
+ * model's regions, numbered from 0, finds the coarsest probabilistic time-abstracting bisimulation over them, whose classes are called
+ * blocks, and prints the reduced model:
  *
- * A slice is a pointer and a length, counted in elements: bytes for tables, entries and buffers, numbers of 64 bits for block lists
- * and proposals. The pointer must be aligned, valid for that many elements and not null, also where the length is 0; nothing that is lent
- * may overlap anything else that the call is given. A call keeps nothing, shares nothing with other calls, and may run beside others; it
- * takes no memory but the stack: less than 128 KB for terkwabu_graph and terkwabu_place; terkwabu_reduce, terkwabu_pair and
- * terkwabu_judge ran within 1.5 MB, and are meant for threads with 2 MB; terkwabu_part has arrays of about 105 KB, and is meant for
- * threads with 256 KB.
+ *   terkwabu_graph           explores the regions; N is their count
+ *   terkwabu_reduce          finds the block of each region
+ *   terkwabu_pair            says whether two regions share a block
+ *   terkwabu_judge           judges a partition of the regions that the host proposes
+ *   terkwabu_place           finds the region of a state: a location and the values of the clocks
+ *   terkwabu_part            puts a part of the listing, the reduced model as text, into a buffer
+ *   terkwabu_refusal_line    puts the line of a refusal into a buffer
+ *
+ * For every table, every number and every lent length it is proved which answer comes back, and what all lent memory holds after the
+ * call. What follows says it in words; the definitions are in the specs/ folders under crates/. Stack and time are measured, not proved.
+ * An example that compiles is at the end.
+ *
+ * Link with build/libterkwabu.a or build/libterkwabu.so; it needs nothing but the C library's memcpy and memset.
+ *
+ *
+ * RULES FOR ALL CALLS
+ *
+ * Slices. Where a call takes a pointer and a length, the length counts elements: bytes for tables, entries and buffers, but numbers
+ * of 64 bits, not bytes, for block lists and proposals. What the pointers must be is for the host to see to; the library cannot test it:
+ *
+ *   valid       the memory can be read, and where the pointer is not const written, for that many elements
+ *   not null    also where the length is 0: hand over the address of any object then
+ *   aligned     for numbers of 64 bits as a uint64_t is; for bytes any address will do
+ *   apart       no slice overlaps another slice of the same call; two block lists are two pieces of memory
+ *
+ * Apart from that any input will do: bytes that are no table are refused, and memory that is too short is refused or partly filled, as
+ * said below. Nothing outside a slice is read or written, nothing that is const is written, and each call comes back.
+ *
+ * Threads. A call keeps no pointer and no state, and shares nothing with other calls. Calls may run side by side; while one runs,
+ * nobody else may write what it was given, or touch what it may write. Any number of calls may read one table.
+ *
+ * Memory. The library takes none but the stack. How much of it is measured (x86-64, Linux), not proved (KB are 1,024 bytes):
+ *
+ *   terkwabu_graph, terkwabu_place                     32 KB
+ *   terkwabu_reduce, terkwabu_pair, terkwabu_judge     1,480 KB
+ *   terkwabu_part                                      112 KB
+ *   terkwabu_refusal_line                              4 KB
+ *
+ * bench/stack.c runs each call on a painted stack, on tables up to the longest and with up to 4,096 regions, and prints how deep it went:
+ * 27,784, 1,484,056, 97,160 and 200 bytes, rounded up above. The first call into a shared library takes about 3 KB more for the loader.
+ * So 2 MB should do for a thread that makes any of the calls. Some systems give threads less if nothing is said. On another system, or
+ * with a library built otherwise, measure anew.
+ *
+ * Time. It depends on the table. Most models are reduced in some ten milliseconds, tables made to be slow take a second or more
+ * (bench/run prints both), and a call cannot be broken off.
+ *
+ *
+ * ANSWERS AND REFUSALS
+ *
+ * Each call answers with five numbers. refusal is 0 where nothing is refused, and else says what is wrong; look at it first. On a
+ * refusal place says where in the table, and value, blocks and rounds are 0. Without one value is the call's result, and what a call
+ * does not use is 0; only the two calls that write text use place then, for a buffer that is too short.
+ *
+ * Refusals 1 to 13 are about the table. Its length, refusal 1, comes before any record. Then its records are read in order; the first that
+ * meets a condition decides, and of its conditions the lowest number. place is a count of bytes from the table's beginning.
+ *
+ *   No.  What is wrong                                                              place
+ *    1   the table exceeds 16,384 bytes                                             0
+ *    2   no byte stands where a record should begin                                 the table's length
+ *    3   the kind of the record is none of 1 to 7                                   where the record begins
+ *    4   the record's body runs past the table's end                                where the record begins
+ *    5   the record breaks the order; also a location too many, or another          where the record begins
+ *        record while locations are missing
+ *    6   a header number is outside its range, or the initial location is none      where the record begins: 0
+ *    7   a location, clock or mask bit that does not exist is named                 where the record begins
+ *    8   the comparison is unknown; an invariant knows < and <= only                where the record begins
+ *    9   the constant exceeds 15                                                    where the record begins
+ *   10   the denominator is 0 or above 60,000, or a weight is 0                     where the record begins
+ *   11   the record is one more than its maximum                                    where the record begins
+ *   12   an edge that the next edge or the end closes has weights that do not       where that edge begins
+ *        sum to its denominator, or no branches
+ *   13   bytes follow the end record                                                the first of them
+ *
+ * From 14 on place is 0, and the lowest number that fits the call decides.
+ *
+ *   No.  What is wrong                                                              calls
+ *   14   region 0 breaks its invariant                                              graph, reduce, pair, judge, place
+ *   15   N exceeds 4,096, or the whole entries lent                                 graph, reduce, pair, judge, place
+ *   16   one of the two block lists is shorter than N                               reduce, pair
+ *   17   the proposal's length is not N                                             judge
+ *   18   the proposal is no bisimulation                                            judge
+ *   19   an asked region is not below N                                             pair
+ *   20   the location is not below the count, the denominator is 0 or above         place
+ *        1,000,000, or a clock that the model does not have is not 0
+ *   21   the state's region was not reached                                         place
+ *
+ *
+ * WHAT LENT MEMORY HOLDS AFTER A CALL
+ *
+ *   Answer                    entries                                               both block lists (reduce, pair)
+ *   refusal 1 to 14           as they were                                          as they were
+ *   refusal 15                the first regions, as many as there is room for,      as they were
+ *                             4,096 at most
+ *   refusal 16 to 21          all N regions                                         as they were
+ *   no refusal                all N regions                                         the blocks of the N regions
+ *
+ * This holds for the five calls that explore. What stands behind these regions, or behind these N numbers, is as it was; so are bytes at
+ * the end of the entries that make no whole entry. terkwabu_part and terkwabu_refusal_line write to their buffer alone: as many bytes as
+ * value says, at its front, and none where value is 0. Tables and proposals never change.
  */
 #ifndef TERKWABU_H
 #define TERKWABU_H
@@ -23,82 +114,159 @@
 extern "C" {
 #endif
 
-/* An entry: location, four integer parts (16 for over), four ranks (0 for over); clocks beyond the model's hold 0. */
+/* A region's entry has nine bytes; that of region r begins at byte 9 r:
+ *
+ *   0        its location
+ *   1 to 4   the integer parts of clocks 0 to 3; 16 for a clock that is over, that is above the largest constant of the table
+ *   5 to 8   their ranks: 0 where the fraction is zero or the clock is over, else the place of its fraction among the different non-zero
+ *            fractions of clocks that are not over, from 1, smallest first
+ *
+ * Clocks that the model does not have hold 0. */
 #define TERKWABU_ENTRY_BYTES 9
 
-/* No model has more regions than these and is accepted. */
+/* No model with more regions is accepted. Entries of TERKWABU_MAX_REGIONS * TERKWABU_ENTRY_BYTES bytes, and block lists of
+ * TERKWABU_MAX_REGIONS numbers, are never too short for one that is. */
 #define TERKWABU_MAX_REGIONS 4096
 
-/* A buffer of so many bytes is enough for every part of a listing, and for every refusal's line. */
+/* A buffer of so many bytes is never too short: for a part of a listing, and for a refusal's line. */
 #define TERKWABU_PART_BYTES 65536
+#define TERKWABU_LINE_BYTES 128
 
-/* refusal is 0 where nothing is refused. What does not apply is 0; on a refusal everything but refusal and place is 0. Where nothing is
- * refused, place is used by terkwabu_part and terkwabu_refusal_line alone: how many bytes a buffer that is too short should have. */
+/* The refusals of the tables above by name. */
+enum terkwabu_refusal {
+    TERKWABU_NO_REFUSAL = 0,
+    TERKWABU_LONG_TABLE = 1,
+    TERKWABU_NO_RECORD = 2,
+    TERKWABU_UNKNOWN_KIND = 3,
+    TERKWABU_CUT_BODY = 4,
+    TERKWABU_ORDER = 5,
+    TERKWABU_HEADER = 6,
+    TERKWABU_NOT_THERE = 7,
+    TERKWABU_COMPARISON = 8,
+    TERKWABU_CONSTANT = 9,
+    TERKWABU_WEIGHT = 10,
+    TERKWABU_MAXIMUM = 11,
+    TERKWABU_SUM = 12,
+    TERKWABU_AFTER_END = 13,
+    TERKWABU_REGION_0 = 14,
+    TERKWABU_ENTRIES = 15,
+    TERKWABU_BLOCK_LIST = 16,
+    TERKWABU_PROPOSAL_LENGTH = 17,
+    TERKWABU_NO_BISIMULATION = 18,
+    TERKWABU_ASKED_REGION = 19,
+    TERKWABU_STATE = 20,
+    TERKWABU_NOT_REACHED = 21
+};
+
+/* What each call answers. value is the call's result; blocks and rounds are used by terkwabu_reduce alone. */
 typedef struct {
     uint64_t refusal, place, value, blocks, rounds;
 } terkwabu_answer;
 
-/* Explores the regions of a table into the lent entries; value is N. Refusals 1 to 14 change nothing; 15 leaves the first
- * regions, as many as fit (at most 4,096); otherwise the first N entries hold the graph. Bytes after the entries never change. */
+/* Explores the regions of a table into the entries. Region 0 is the initial location with all clocks 0; then come the regions in the
+ * order in which they are met: of each region in turn its delay first, then its available edges in table order, branches in order.
+ *
+ * value: N. Refusals: 1 to 15. */
 terkwabu_answer terkwabu_graph(const uint8_t *table, size_t table_len, uint8_t *entries, size_t entries_len);
 
-/* Explores as above, and finds the region of a state: at a location, with the value v0/denominator for clock 0, and so on; a clock
- * that the model does not have takes 0. value is the region's number. Beside 1 to 15: 20 where the call does not take it
- * (location not below the count, denominator 0 or above 1,000,000, a clock beyond the model's not 0), 21 where its region was
- * not reached; the entries then hold the graph too. Values may be any numbers of 64 bits. */
+/* Explores as terkwabu_graph does, and finds the region of a state: at a location, with the value v0/denominator for clock 0,
+ * v1/denominator for clock 1 and so on. Values may be any numbers of 64 bits and are compared exactly; clocks that the model does not
+ * have take 0. A state that breaks its location's invariant lies in no region that is reached: 21.
+ *
+ * value: the region's number. Refusals: 1 to 15, 20, 21. */
 terkwabu_answer terkwabu_place(const uint8_t *table, size_t table_len, uint8_t *entries, size_t entries_len, uint64_t location,
                                uint64_t v0, uint64_t v1, uint64_t v2, uint64_t v3, uint64_t denominator);
 
-/* Explores, and reduces: both lists then hold the block numbers of the regions in their first N numbers, and are unchanged after
- * them. value is N; blocks and rounds count the blocks and the rounds. Beside 1 to 15: 16 where a list is shorter than N. On a
- * refusal both lists stay as they were. */
+/* Explores, and finds the blocks: number r of either list is then the block of region r. The two lists hold the same; the work is done
+ * in both. Blocks are numbered from 0 by their lowest region, so region 0 is in block 0. Two states that lie in regions of the graph
+ * are related by some bisimulation over all states exactly where their regions share a block.
+ *
+ * value: N. blocks: how many there are. rounds: after how many rounds of splitting, from the labels on, nothing changes any more.
+ * Refusals: 1 to 16. */
 terkwabu_answer terkwabu_reduce(const uint8_t *table, size_t table_len, uint8_t *entries, size_t entries_len, uint64_t *first,
                                 size_t first_len, uint64_t *second, size_t second_len);
 
-/* Leaves the blocks in both lists as reduce does, for two regions r and s: value is 1 where they share a block, 0 where not; blocks and
- * rounds are 0. Beside 1 to 16: 19 where r or s is not below N. */
+/* Explores, finds the blocks as terkwabu_reduce does, and compares two regions r and s, which may be the same.
+ *
+ * value: 1 where they share a block, 0 where not; both are success, and fill both lists. Refusals: 1 to 16, 19. */
 terkwabu_answer terkwabu_pair(const uint8_t *table, size_t table_len, uint8_t *entries, size_t entries_len, uint64_t *first,
                               size_t first_len, uint64_t *second, size_t second_len, uint64_t r, uint64_t s);
 
-/* Judges a proposed partition, equal numbers meaning related: value is 1 where it is a bisimulation. Beside 1 to 15: 17 where its
- * length is not N, 18 where it is no bisimulation. The proposal is never changed. */
+/* Explores, and judges a proposed partition: number r is any number for region r, and regions with equal numbers are meant to be related.
+ * It need not be the coarsest, nor numbered as blocks are.
+ *
+ * value: 1, where it is a bisimulation; where it is none, that is refusal 18. Refusals: 1 to 15, 17, 18. */
 terkwabu_answer terkwabu_judge(const uint8_t *table, size_t table_len, uint8_t *entries, size_t entries_len,
                                const uint64_t *proposal, size_t proposal_len);
 
-/* Puts a part of the listing, the printed model, into the buffer: part 0 is the first line, then comes a part for each region and one
- * for each block. entries, list and the three counts are to be those that terkwabu_reduce left for this table: regions is its value (N),
- * blocks and rounds are its blocks and rounds, and list is either of the two. Then the bytes of all parts, joined in the order of their
- * numbers, are the listing. Only the buffer is written to. The answer:
+/* Puts a part of the listing into the buffer. Part 0 is the first line, then comes a part for each region, its line, and then one for
+ * each block, its lines; joined in the order of their numbers the parts are the listing. Each part ends with a line feed, and no
+ * zero byte is put behind it. Hand over what terkwabu_reduce left for the same table: the entries, either of the two lists, and its
+ * value, blocks and rounds for regions, blocks and rounds. The table is read again, but nothing is explored or reduced.
  *
- *   refusal above 0                   reading refuses the table, 1 to 13, at place; the buffer is as it was
- *   value above 0                     so many bytes were written at the buffer's front; those after them are as they were
- *   refusal and value 0, place not    the buffer is too short: place is how many bytes the part takes; the buffer is as it was
- *   refusal, value and place 0        there is no such part; the buffer is as it was
+ *   refusal   value     place     What it means
+ *   1 to 13   0         any       the table is refused, at place (not where terkwabu_reduce has just taken it)
+ *   0         above 0   0         so many bytes, as value says, were written at the buffer's front
+ *   0         0         above 0   the buffer is too short (not with TERKWABU_PART_BYTES): the part takes as many bytes as place says
+ *   0         0         0         there is no such part: the listing has ended, or the counts cannot be those of what is lent
  *
- * To get the whole listing, ask for part 0, 1, 2 and so on until refusal, value and place are all 0. A buffer of TERKWABU_PART_BYTES is
- * never too short, and a table that terkwabu_reduce took is not refused here, so that with both value 0 is the end:
- *
- *   r = terkwabu_reduce(table, table_len, entries, entries_len, first, first_len, second, second_len);
- *   for (part = 0; r.refusal == 0; part++) {
- *       p = terkwabu_part(table, table_len, entries, entries_len, first, first_len, r.value, r.blocks, r.rounds, part, buffer,
- *                         TERKWABU_PART_BYTES);
- *       if (p.value == 0) break;
- *       fwrite(buffer, 1, p.value, stdout);
- *   }
- *
- * Other entries, lists and counts are taken as they are: nothing out of bounds is read, and where the counts cannot be those of what is
- * lent (more than 4,096 regions, entries or a list too short for them, no block, more blocks than regions) there is no part. */
+ * Other entries, lists and counts than those that terkwabu_reduce left are taken as they are, and give some text or none. Where the
+ * counts cannot be those of what is lent there is no part: regions above 4,096, entries or list too short for them, blocks 0 or
+ * above regions. */
 terkwabu_answer terkwabu_part(const uint8_t *table, size_t table_len, const uint8_t *entries, size_t entries_len,
                               const uint64_t *list, size_t list_len, uint64_t regions, uint64_t blocks, uint64_t rounds,
                               uint64_t part, uint8_t *buffer, size_t buffer_len);
 
-/* Puts the line of a refusal, such as "refused 5 place 0" and a line feed, into the buffer: where terkwabu_reduce refuses a table with
- * 1 to 15, this line is its listing. Any two numbers are taken. value is how many bytes were written; where it is 0 the buffer is too
- * short, place is how many bytes the line takes (never above 128), and the buffer is as it was. refusal is always 0. */
+/* Puts the line of a refusal, such as "refused 5 place 0" and a line feed, into the buffer. Where terkwabu_reduce refuses a table with 1 to
+ * 15, this line is its listing. Any two numbers are taken.
+ *
+ * value: how many bytes were written at the buffer's front. Where it is 0 the buffer is too short (not with TERKWABU_LINE_BYTES), and
+ * place is how many bytes the line takes. There are no refusals. */
 terkwabu_answer terkwabu_refusal_line(uint64_t number, uint64_t place, uint8_t *buffer, size_t buffer_len);
 
 #ifdef __cplusplus
 }
 #endif
+
+/* EXAMPLE: prints the listing of a small model. host/host.c has all calls.
+ *
+ *   gcc -std=c11 -Iinclude -o example example.c build/libterkwabu.a
+ *
+ * ---- example.c
+ *   #include <stdio.h>
+ *   #include "terkwabu.h"
+ *
+ *   static const uint8_t table[] = {
+ *       1, 1, 2, 0,      // header: one clock, two locations, of which 0 is the initial one
+ *       2, 5,            // location 0 has label 5
+ *       2, 9,            // location 1 has label 9
+ *       3, 0, 0, 1, 1,   // at location 0, clock 0 is at most 1
+ *       4, 0, 3, 3, 0,   // an edge from location 0, action 3, chances over 3
+ *       5, 0, 3, 1,      // its guard: clock 0 is at least 1
+ *       6, 1, 0, 1, 0,   // with a chance of 1/3 to location 1
+ *       6, 2, 0, 0, 1,   // with a chance of 2/3 to location 0, where clock 0 starts again
+ *       7};              // end
+ *   static uint8_t entries[TERKWABU_MAX_REGIONS * TERKWABU_ENTRY_BYTES];
+ *   static uint64_t first[TERKWABU_MAX_REGIONS], second[TERKWABU_MAX_REGIONS];
+ *   static uint8_t buffer[TERKWABU_PART_BYTES];
+ *
+ *   int main(void) {
+ *       terkwabu_answer r = terkwabu_reduce(table, sizeof table, entries, sizeof entries, first, TERKWABU_MAX_REGIONS,
+ *                                           second, TERKWABU_MAX_REGIONS);
+ *       if (r.refusal != TERKWABU_NO_REFUSAL) {
+ *           terkwabu_answer line = terkwabu_refusal_line(r.refusal, r.place, buffer, sizeof buffer);
+ *           fwrite(buffer, 1, (size_t)line.value, stdout);
+ *           return 1;
+ *       }
+ *       for (uint64_t part = 0; part < 1 + r.value + r.blocks; part++) {
+ *           terkwabu_answer p = terkwabu_part(table, sizeof table, entries, sizeof entries, first, TERKWABU_MAX_REGIONS,
+ *                                             r.value, r.blocks, r.rounds, part, buffer, sizeof buffer);
+ *           if (p.refusal != 0 || p.value == 0) return 2;  // not with what terkwabu_reduce left, and such a buffer
+ *           fwrite(buffer, 1, (size_t)p.value, stdout);
+ *       }
+ *       return 0;
+ *   }
+ * ---- end of example.c
+ */
 
 #endif
