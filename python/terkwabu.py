@@ -1,0 +1,526 @@
+"""Terkwabu for designers' scripts: the proved calls of the library, with Python's numbers, fractions and exceptions.
+
+    reduce(table)                     the regions, their blocks, and the listing
+    pair(table, r, s)                 whether two regions share a block
+    place(table, location, values)    the region of a state; exact, no floats
+    judge(table, proposal)            whether a proposed partition is a bisimulation
+    graph(table)                      the regions alone
+    listing(table)                    the printed model
+
+A table is bytes (docs/FORMAT.md says which); models/assemble writes it from a model text. What the library refuses is raised as Refused,
+with document 01's number and place. What a call cannot take at all (a negative number, 2**64 or more, a float) is a ValueError or a
+TypeError, and is raised before the call.
+
+The library is the file that the environment variable TERKWABU_LIBRARY names, or else build/libterkwabu.so of this project, which ./library
+builds. It is loaded at the first call.
+
+Threads. A call keeps nothing and holds no lock of Python's while it runs, so calls run side by side. reduce, pair and judge want a thread
+with 2 MB of stack. Most systems give threads 8 MB; where less is set, call threading.stack_size(4 * 1024 * 1024) before
+the threads are started. A thread whose stack is too small gets a RuntimeError in place of the call, where the system tells the size of the
+stack (glibc and musl do). It tells the whole stack: a thread deep in its own recursion needs more.
+"""
+
+from __future__ import annotations
+
+import ctypes
+import enum
+import functools
+import math
+import numbers
+import operator
+import os
+import re
+import threading
+from dataclasses import dataclass
+from decimal import Decimal
+from fractions import Fraction
+from pathlib import Path
+from typing import Any, Dict, Iterable, Iterator, List, NamedTuple, Optional, Tuple, Union
+
+__all__ = ["graph", "judge", "listing", "pair", "place", "reduce"]
+__all__ += ["Block", "Clock", "LibraryMissing", "MAX_REGIONS", "OVER", "Over", "Reduced", "Refused", "Region", "Step"]
+
+MAX_REGIONS = 4096
+"""No model with more regions is accepted; so many entries are lent unless a call is told otherwise."""
+
+Table = Union[bytes, bytearray, memoryview]
+Value = Union[int, Fraction, Decimal, str]
+
+_CLOCKS = 4
+_ENTRY_BYTES = 1 + 2 * _CLOCKS  # location, integer parts, ranks
+_OVER_BYTE = 16  # the integer part of a clock that is over
+_LARGEST = 2**64 - 1
+_PART_BYTES = 65536  # enough for every part of a listing
+_LINE_BYTES = 128  # enough for every refusal's line
+
+
+# Refusals.
+
+
+_MEANINGS = {
+    1: "the table is longer than 16,384 bytes",
+    2: "the table ends at byte {place}, where another record should begin",
+    3: "the record at byte {place} is of no known kind: its first byte is none of 1 to 7",
+    4: "the record at byte {place} runs past the end of the table",
+    5: "the record at byte {place} breaks the order: header, as many locations as it says, invariant atoms, edges (each followed by its "
+    "guard atoms, then its branches), end",
+    6: "the header at byte {place} has not 0 to 4 clocks or not 1 to 64 locations, or its initial location is not one of them",
+    7: "the record at byte {place} names a location, a clock or a bit of the reset mask that the model does not have",
+    8: "the atom at byte {place} has an unknown comparison; an invariant atom takes < and <= only",
+    9: "the atom at byte {place} has a constant above 15",
+    10: "the edge at byte {place} has a denominator W of 0 or above 60,000, or the branch at byte {place} has a weight of 0",
+    11: "the record at byte {place} is one too many: at most 128 invariant atoms, 128 edges, 8 guard atoms and 8 branches to an edge",
+    12: "the edge at byte {place} has branches whose weights do not sum to its denominator W, or no branches",
+    13: "bytes follow the end record, the first of them at byte {place}",
+    14: "the model begins outside the invariant of its initial location",
+    15: "the model has more regions than entries were lent, or more than 4,096",
+    16: "one of the two lent block lists has fewer numbers than the model has regions",
+    17: "the proposed partition has not exactly one number for each region",
+    18: "the proposed partition is no bisimulation",
+    19: "an asked region number is not below the count of regions",
+    20: "the state names a location that the model does not have, its values have a common denominator of 0 or above 1,000,000, or a "
+    "clock that the model does not have is not 0",
+    21: "the state lies in a region that the model does not reach",
+}
+
+
+class Refused(Exception):
+    """The library refuses what it was asked.
+
+    number   which refusal of document 01's list, 1 to 21
+    place    for 2 to 13 a byte of the table, counted from 0: where the record begins that is refused (2: where it should begin; 12: where
+             the edge begins; 13: the first byte after the end); for 1, and from 14 on, 0
+    meaning  the refusal in words
+    """
+
+    def __init__(self, number: int, place: int) -> None:
+        super().__init__(number, place)
+        self.number = number
+        self.place = place
+
+    @property
+    def meaning(self) -> str:
+        known = _MEANINGS.get(self.number, "a refusal that this module does not know: the library is newer")
+        return known.format(place=self.place)
+
+    def line(self) -> str:
+        """The line that stands for the listing, such as "refused 5 place 0" and a line feed."""
+        buffer = _Lent(ctypes.c_uint8, _LINE_BYTES)
+        return _text(_call("terkwabu_refusal_line", self.number, self.place, buffer), buffer)
+
+    def __str__(self) -> str:
+        return f"refused {self.number} place {self.place}: {self.meaning}"
+
+
+# What a designer gets.
+
+
+class Over(enum.Enum):
+    """A clock above the largest constant of the table: nothing more is known of it. OVER is the one value."""
+
+    OVER = ">"
+
+    def __str__(self) -> str:
+        return ">"
+
+    def __repr__(self) -> str:
+        return "OVER"
+
+
+OVER = Over.OVER
+
+
+class Clock(NamedTuple):
+    """A clock that is not over: its integer part, and the rank of its fraction.
+
+    Rank 0 is a fraction of zero. Otherwise the rank is the fraction's place among the different non-zero fractions of clocks that are not
+    over, from 1, smallest first: clocks with equal ranks have equal fractions.
+    """
+
+    whole: int
+    rank: int
+
+    def __str__(self) -> str:
+        return f"{self.whole}+{self.rank}" if self.rank else f"{self.whole}"
+
+
+class Region(NamedTuple):
+    """A region: its location, and the model's clocks in order, each a Clock or OVER."""
+
+    location: int
+    clocks: Tuple[Union[Clock, Over], ...]
+
+    def __str__(self) -> str:
+        return " ".join([f"location {self.location}", *map(str, self.clocks)])
+
+
+class Step(NamedTuple):
+    """An edge that is available in a block: its action, and each block landed in with its share in ten-thousandths, half rounded up."""
+
+    action: int
+    shares: Dict[int, int]
+
+
+class Block(NamedTuple):
+    """A block: its label, its regions, the other blocks that it reaches by delay, and its steps in table order.
+
+    Delays and steps are those of the block's lowest region, as in the listing.
+    """
+
+    number: int
+    label: int
+    members: Tuple[int, ...]
+    delays: Tuple[int, ...]
+    steps: Tuple[Step, ...]
+
+
+@dataclass(frozen=True, repr=False)
+class Reduced:
+    """A reduced model, as reduce gives it."""
+
+    table: bytes
+    """The table that was reduced."""
+    regions: Tuple[Region, ...]
+    """The regions; a region's number is its index."""
+    blocks: int
+    """How many blocks there are."""
+    rounds: int
+    """After how many rounds nothing changes any more."""
+    block_of: Tuple[int, ...]
+    """The block number of each region."""
+    _entries: bytes
+
+    def members(self, block: int) -> Tuple[int, ...]:
+        """The numbers of the block's regions, rising."""
+        self._known(block)
+        return tuple(region for region, its in enumerate(self.block_of) if its == block)
+
+    def block(self, block: int) -> Block:
+        """What the listing says of a block."""
+        self._known(block)
+        (text,) = self._parts([1 + len(self.regions) + block])
+        words = [line.split() for line in text.splitlines()]
+        return Block(
+            number=block,
+            label=int(words[0][2]),
+            members=self.members(block),
+            delays=tuple(int(word) for line in words if line[0] == "delay" for word in line[2:]),
+            steps=tuple(_step(line) for line in words if line[0] == "step"),
+        )
+
+    def listing(self) -> str:
+        """The printed model, as the program prints it."""
+        return "".join(self._parts(range(1 + len(self.regions) + self.blocks)))
+
+    def _known(self, block: int) -> None:
+        if not 0 <= operator.index(block) < self.blocks:
+            raise IndexError(f"there is no block {block}: the blocks are 0 to {self.blocks - 1}")
+
+    def _parts(self, parts: Iterable[int]) -> Iterator[str]:
+        """Parts of the listing: 0 is its first line, then comes one for each region and one for each block."""
+        left = self.table, self._entries, _lent_numbers(self.block_of, "a block"), len(self.regions), self.blocks, self.rounds
+        buffer = _Lent(ctypes.c_uint8, _PART_BYTES)
+        for part in parts:
+            yield _text(_call("terkwabu_part", *left, part, buffer), buffer)
+
+    def __repr__(self) -> str:
+        return f"<Reduced: regions {len(self.regions)} blocks {self.blocks} rounds {self.rounds}>"
+
+
+def _step(words: List[str]) -> Step:
+    """Of the words of a step line: "step", the block, the action, then block:share."""
+    return Step(int(words[2]), {int(block): int(share) for block, share in (word.split(":") for word in words[3:])})
+
+
+# The calls for scripts.
+
+
+def reduce(table: Table, *, entries: int = MAX_REGIONS) -> Reduced:
+    """Explores the model's regions and finds the coarsest bisimulation: as few blocks as there can be.
+
+    entries is how many regions there is room for; a model that has more is refused with 15. The program ./reduce has room for 2,048.
+    """
+    data = _table(table)
+    lent = _lent_entries(entries)
+    first, second = _Lent(ctypes.c_uint64, MAX_REGIONS), _Lent(ctypes.c_uint64, MAX_REGIONS)
+    answer = _accepted(_call("terkwabu_reduce", data, lent, first, second))
+    return Reduced(
+        table=data,
+        regions=_regions(data, lent, answer.value),
+        blocks=answer.blocks,
+        rounds=answer.rounds,
+        block_of=first.as_numbers(answer.value),
+        _entries=lent.as_bytes(answer.value * _ENTRY_BYTES),
+    )
+
+
+def pair(table: Table, r: int, s: int, *, entries: int = MAX_REGIONS) -> bool:
+    """Whether the regions numbered r and s share a block, which is so exactly where some bisimulation relates their states.
+
+    A number that is not below the count of regions is refused with 19. To ask of many pairs, compare block_of of reduce.
+    """
+    data = _table(table)
+    asked = _number(r, "a region number"), _number(s, "a region number")
+    first, second = _Lent(ctypes.c_uint64, MAX_REGIONS), _Lent(ctypes.c_uint64, MAX_REGIONS)
+    return _accepted(_call("terkwabu_pair", data, _lent_entries(entries), first, second, *asked)).value == 1
+
+
+def place(table: Table, location: int, values: Iterable[Value] = (), *, entries: int = MAX_REGIONS) -> int:
+    """The number of the region in which a state lies: at a location, with a value for each clock, clock 0 first.
+
+    A value is exact: an int, a Fraction, a Decimal, or a string such as "3", "0.25" or "1/3". A float is a TypeError: 0.1 is not 1/10.
+    Clocks left out are 0. Refused with 20 where the values' common denominator is above 1,000,000, where the location is not one of the
+    model's, or where a clock that the model does not have is not 0; with 21 where the model does not reach the state's region.
+    """
+    data = _table(table)
+    whole, denominator = _common(values)
+    state = _number(location, "a location"), *whole, denominator
+    return _accepted(_call("terkwabu_place", data, _lent_entries(entries), *state)).value
+
+
+def judge(table: Table, proposal: Iterable[int], *, entries: int = MAX_REGIONS) -> bool:
+    """True where a proposed partition is a bisimulation; Refused where it is not.
+
+    The proposal has a number for each region, in order; equal numbers mean related, and which numbers they are does not matter. Refused
+    with 17 where there are not as many numbers as regions, with 18 where the partition is no bisimulation.
+
+    Both are refusals in document 01, and both are raised here, so that a script which does not look at the answer stops at a wrong
+    partition and does not go on with it.
+    """
+    data = _table(table)
+    lent = _lent_numbers(proposal, "a proposal's number")
+    return _accepted(_call("terkwabu_judge", data, _lent_entries(entries), lent)).value == 1
+
+
+def graph(table: Table, *, entries: int = MAX_REGIONS) -> Tuple[Region, ...]:
+    """The regions that the model reaches, in document 01's order: a region's number is its index."""
+    data = _table(table)
+    lent = _lent_entries(entries)
+    return _regions(data, lent, _accepted(_call("terkwabu_graph", data, lent)).value)
+
+
+def listing(table: Table, *, entries: int = MAX_REGIONS) -> str:
+    """The printed model. With entries=2048 it is what ./reduce prints; the line that it prints for a refusal is Refused.line()."""
+    return reduce(table, entries=entries).listing()
+
+
+# From Python's values to what a call takes, and back.
+
+
+def _number(value: Any, what: str, largest: int = _LARGEST) -> int:
+    """A whole number, 0 to the largest: that of 64 bits, if no other is given."""
+    try:
+        number = operator.index(value)
+    except TypeError:
+        raise TypeError(f"{what} must be a whole number, not {value!r}") from None
+    if not 0 <= number <= largest:
+        raise ValueError(f"{what} must be 0 to {largest}, not {number}")
+    return number
+
+
+def _table(table: Table) -> bytes:
+    if not isinstance(table, (bytes, bytearray, memoryview)):
+        raise TypeError(f"a table must be bytes, not {type(table).__name__}; open its file with 'rb'")
+    return bytes(table)
+
+
+_DECIMAL_TEXT = re.compile(r"[0-9]+(\.[0-9]+|/[0-9]+)?")
+
+
+def _exact(value: Any) -> Fraction:
+    """A clock's value as a fraction, 0 or more."""
+    if isinstance(value, str):
+        if not _DECIMAL_TEXT.fullmatch(value.strip()):
+            raise ValueError(f'a clock\'s value must look like "3", "0.25" or "1/3", not {value!r}')
+    elif isinstance(value, Decimal):
+        # A short Decimal such as 1E+999999999 stands for more digits than there is memory for.
+        if not value.is_finite() or (value and abs(value.adjusted()) > 40):
+            raise ValueError(f"a clock's value does not fit a call: {value!r}")
+    elif not isinstance(value, numbers.Rational):
+        raise TypeError(f"a clock's value must be exact (int, Fraction, Decimal or str), not {value!r}")
+    try:
+        exact = Fraction(value)
+    except ZeroDivisionError:
+        raise ValueError(f"a clock's value must not be over 0: {value!r}") from None
+    if exact < 0:
+        raise ValueError(f"a clock's value must be 0 or more, not {value!r}")
+    return exact
+
+
+def _common(values: Iterable[Value]) -> Tuple[List[int], int]:
+    """Four whole numbers, and the least denominator with which they are the values."""
+    if isinstance(values, str):
+        raise TypeError(f"the values must be a list, with an item for each clock, not the string {values!r}")
+    exact = [_exact(value) for value in values]
+    if len(exact) > _CLOCKS:
+        raise ValueError(f"a model has at most {_CLOCKS} clocks: {len(exact)} values are too many")
+    exact += [Fraction(0)] * (_CLOCKS - len(exact))
+    denominator = math.lcm(*(value.denominator for value in exact))
+    whole = [int(value * denominator) for value in exact]
+    if max(denominator, *whole) > _LARGEST:
+        raise ValueError(f"over their common denominator, {denominator}, the values do not fit a call: numbers go to {_LARGEST}")
+    return whole, denominator
+
+
+class _Lent:
+    """Memory lent to a call: count numbers of one kind, and behind them one more that the call is not told of.
+
+    For its sake the pointer is valid also where count is 0; and where it changes, a call has written past the end.
+    """
+
+    def __init__(self, kind: Any, count: int, fill: int = 0) -> None:
+        self.count = count
+        self.memory = (kind * (count + 1))()
+        if fill:
+            self.memory[:] = [fill] * (count + 1)
+
+    def as_numbers(self, count: int) -> Tuple[int, ...]:
+        """The first numbers."""
+        return tuple(self.memory[:count])
+
+    def as_bytes(self, count: int) -> bytes:
+        """The bytes of the first numbers."""
+        return memoryview(self.memory)[:count].tobytes()
+
+    def behind(self) -> int:
+        """The number that the call is not told of."""
+        return self.memory[self.count]
+
+
+def _lent_entries(entries: int) -> _Lent:
+    return _Lent(ctypes.c_uint8, _number(entries, "entries", MAX_REGIONS) * _ENTRY_BYTES)
+
+
+def _lent_numbers(values: Iterable[int], what: str) -> _Lent:
+    checked = [_number(value, what) for value in values]
+    lent = _Lent(ctypes.c_uint64, len(checked))
+    lent.memory[: len(checked)] = checked
+    return lent
+
+
+def _regions(table: bytes, lent: _Lent, count: int) -> Tuple[Region, ...]:
+    """The first regions of the lent entries. The table is accepted: its second byte is the count of clocks."""
+    entries, clocks = lent.as_bytes(count * _ENTRY_BYTES), table[1]
+    return tuple(_region(entries[at : at + _ENTRY_BYTES], clocks) for at in range(0, len(entries), _ENTRY_BYTES))
+
+
+def _region(entry: bytes, clocks: int) -> Region:
+    parts, ranks = entry[1 : 1 + clocks], entry[1 + _CLOCKS : 1 + _CLOCKS + clocks]
+    return Region(entry[0], tuple(OVER if part == _OVER_BYTE else Clock(part, rank) for part, rank in zip(parts, ranks)))
+
+
+# The library.
+
+
+class LibraryMissing(OSError):
+    """The library is not there, or is none that this module can use."""
+
+
+class _Answer(ctypes.Structure):
+    """terkwabu_answer of include/terkwabu.h."""
+
+    _fields_ = [(name, ctypes.c_uint64) for name in ("refusal", "place", "value", "blocks", "rounds")]
+
+
+_READ = (ctypes.c_char_p, ctypes.c_size_t)  # bytes that a call only reads
+_BYTES = (ctypes.POINTER(ctypes.c_uint8), ctypes.c_size_t)
+_NUMBERS = (ctypes.POINTER(ctypes.c_uint64), ctypes.c_size_t)
+_NUMBER = (ctypes.c_uint64,)
+_KB = 1024
+
+# Each call: what it takes, in the header's order, and the stack that a thread needs for it, with room for Python.
+_CALLS = {
+    "terkwabu_graph": (_READ + _BYTES, 256 * _KB),
+    "terkwabu_place": (_READ + _BYTES + 6 * _NUMBER, 256 * _KB),
+    "terkwabu_reduce": (_READ + _BYTES + _NUMBERS + _NUMBERS, 2048 * _KB),
+    "terkwabu_pair": (_READ + _BYTES + _NUMBERS + _NUMBERS + 2 * _NUMBER, 2048 * _KB),
+    "terkwabu_judge": (_READ + _BYTES + _NUMBERS, 2048 * _KB),
+    "terkwabu_part": (_READ + _READ + _NUMBERS + 4 * _NUMBER + _BYTES, 256 * _KB),
+    "terkwabu_refusal_line": (2 * _NUMBER + _BYTES, 0),
+}
+
+
+def _library_path() -> Path:
+    named = os.environ.get("TERKWABU_LIBRARY")
+    path = Path(named) if named else Path(__file__).resolve().parent.parent / "build" / "libterkwabu.so"
+    if not path.is_file():
+        raise LibraryMissing(f"{path} is not there: build the library with ./library, or name another in TERKWABU_LIBRARY")
+    return path.resolve()
+
+
+@functools.lru_cache(maxsize=None)
+def _library() -> ctypes.CDLL:
+    """The library with its calls declared. CDLL lets other threads of Python run during a call."""
+    path = _library_path()
+    try:
+        library = ctypes.CDLL(str(path))
+        for name, (takes, _) in _CALLS.items():
+            call = getattr(library, name)
+            call.argtypes, call.restype = takes, _Answer
+    except (OSError, AttributeError) as trouble:
+        raise LibraryMissing(f"{path} cannot be used ({trouble}): build it anew with ./library") from trouble
+    return library
+
+
+def _call(name: str, *arguments: Union[bytes, _Lent, int]) -> _Answer:
+    """A call as the header has it. A slice is one argument here, so that no pointer goes with a wrong length, and none is null."""
+    call = getattr(_library(), name)
+    _look_at_stack(name, _CALLS[name][1])
+    given: List[Any] = []
+    for argument in arguments:
+        if isinstance(argument, bytes):
+            given += argument, len(argument)
+        elif isinstance(argument, _Lent):
+            given += argument.memory, argument.count
+        else:
+            given.append(_number(argument, "a number for a call"))  # ctypes by itself would cut it to 64 bits
+    return call(*given)
+
+
+def _accepted(answer: _Answer) -> _Answer:
+    if answer.refusal:
+        raise Refused(answer.refusal, answer.place)
+    return answer
+
+
+def _text(answer: _Answer, buffer: _Lent) -> str:
+    """What a call wrote into a buffer that is never too short. The parts that are asked for are there, so there must be some text."""
+    if _accepted(answer).value == 0:
+        raise RuntimeError(f"the library wrote no text, though there is some: its answer has value 0 and place {answer.place}")
+    return buffer.as_bytes(answer.value).decode("ascii")
+
+
+# The stack of the thread that calls.
+
+
+_this_thread = threading.local()
+
+
+def _look_at_stack(name: str, wanted: int) -> None:
+    if not hasattr(_this_thread, "stack"):
+        _this_thread.stack = _stack_size()
+    size = _this_thread.stack
+    # The size told may lack the guard page, or what stood on the stack when the program began.
+    if size is not None and size < wanted - wanted // 32:
+        raise RuntimeError(
+            f"{name} wants a thread with {wanted // _KB} KB of stack, and this one has {size // _KB} KB: "
+            "call threading.stack_size(4 * 1024 * 1024) before the thread is started, or raise the limit of the main thread (ulimit -s)"
+        )
+
+
+def _stack_size() -> Optional[int]:
+    """The bytes of stack that this thread has in all, or None where the system does not tell."""
+    system = ctypes.CDLL(None)
+    try:
+        ask, destroy = system.pthread_getattr_np, system.pthread_attr_destroy
+    except AttributeError:
+        return None
+    system.pthread_self.restype = ctypes.c_void_p
+    ask.argtypes = ctypes.c_void_p, ctypes.c_void_p
+    attributes = (ctypes.c_uint64 * 32)()  # several times a pthread_attr_t
+    if ask(system.pthread_self(), attributes) != 0:
+        return None
+    size = ctypes.c_size_t()
+    told = system.pthread_attr_getstacksize(attributes, ctypes.byref(size)) == 0
+    destroy(attributes)
+    return size.value if told else None

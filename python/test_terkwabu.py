@@ -1,0 +1,863 @@
+#!/usr/bin/env python3
+"""Tests of the Python module: python3 python/test_terkwabu.py, or python3 -m unittest discover -s python.
+
+What is expected comes from tests/vectors and models/listings, which other implementations made from document 01, or from document 01
+itself; nothing is taken from the library's own answers. The library must be built (./library).
+"""
+
+import _ctypes
+import ctypes
+import dataclasses
+import doctest
+import hashlib
+import json
+import math
+import os
+import pickle
+import re
+import struct
+import subprocess
+import sys
+import tempfile
+import threading
+import time
+import unittest
+from concurrent.futures import ThreadPoolExecutor
+from decimal import Decimal
+from fractions import Fraction
+from pathlib import Path
+from unittest import mock
+
+import terkwabu
+
+HERE = Path(__file__).resolve().parent
+ROOT = HERE.parent
+MB = 1024 * 1024
+
+# Document 01's example, and what the document prints for it.
+EXAMPLE = bytes.fromhex("01010200 0205 0209 0300000101 0400030300 05000301 0601000100 0602000001 07")
+EXAMPLE_LISTING = """\
+regions 5 blocks 3 rounds 1
+region 0 0 0 0
+region 1 0 0 0+1
+region 2 0 1 1
+region 3 1 2 1
+region 4 1 2 >
+block 0 5 2
+delay 0 1
+block 1 5 1
+step 1 3 0:6667 2:3333
+block 2 9 2
+"""
+
+# Each function for scripts, with what it takes beside a table.
+EACH_FUNCTION = [
+    (terkwabu.graph,),
+    (terkwabu.reduce,),
+    (terkwabu.listing,),
+    (terkwabu.pair, 0, 0),
+    (terkwabu.place, 0),
+    (terkwabu.judge, [0, 0, 1, 2, 2]),
+]
+
+
+def vectors(name):
+    """The lines of a file of vectors: what is asked, the table, and the answer."""
+    with open(ROOT / "tests" / "vectors" / f"{name}.jsonl", encoding="utf-8") as lines:
+        rows = [json.loads(line) for line in lines]
+    return [(row["ask"], bytes.fromhex(row["ask"]["table"]), row["answer"]) for row in rows]
+
+
+def sample_models():
+    """The name, table and expected listing of each sample model."""
+    for expected in sorted((ROOT / "models" / "listings").glob("*.txt")):
+        model = ROOT / "models" / f"{expected.stem}.model"
+        table = subprocess.run([sys.executable, str(ROOT / "models" / "assemble"), str(model)], check=True, stdout=subprocess.PIPE).stdout
+        yield expected.stem, table, expected.read_text(encoding="ascii")
+
+
+def lines_of(listing, word):
+    """The fields of the lines of a listing that begin with the word, the word left out."""
+    return [line.split()[1:] for line in listing.splitlines() if line.split()[0] == word]
+
+
+def clock_of(text):
+    """A clock as a listing prints it."""
+    whole, _, rank = text.partition("+")
+    return terkwabu.OVER if text == ">" else terkwabu.Clock(int(whole), int(rank or 0))
+
+
+def run_python(program, **environment):
+    """A program in a Python of its own, so that no thread has run there before."""
+    known = {**os.environ, "PYTHONPATH": str(HERE), **environment}
+    return subprocess.run([sys.executable, "-c", program], stdout=subprocess.PIPE, stderr=subprocess.PIPE, env=known, text=True)
+
+
+class CallsAgainstVectors(unittest.TestCase):
+    """Each line of each file, with the lengths and fills that it asks for: the answer, and every byte of what was lent.
+
+    Where a line gives a SHA-256 in place of the bytes, that is compared."""
+
+    def lend_entries(self, ask):
+        return terkwabu._Lent(ctypes.c_uint8, ask["entries"], ask["fill"])
+
+    def lend_lists(self, ask):
+        return [terkwabu._Lent(ctypes.c_uint64, length, ask["list_fill"]) for length in ask["lists"]]
+
+    def expect_entries(self, lent, ask, answer):
+        held = lent.as_bytes(lent.count)
+        self.assertEqual(len(held), ask["entries"])
+        if "entries" in answer:
+            self.assertEqual(held.hex(), answer["entries"])
+        else:
+            self.assertEqual(hashlib.sha256(held).hexdigest(), answer["entries_sha256"])
+        self.assertEqual(lent.behind(), ask["fill"], "written past the end of the entries")
+
+    def expect_list(self, lent, ask, answer, name):
+        held = lent.as_numbers(lent.count)
+        if name in answer:
+            self.assertEqual(list(held), answer[name])
+        else:
+            packed = struct.pack(f"<{len(held)}Q", *held)
+            self.assertEqual(hashlib.sha256(packed).hexdigest(), answer[f"{name}_sha256"])
+        self.assertEqual(lent.behind(), ask["list_fill"], "written past the end of a list")
+
+    def expect_answer(self, got, answer, result):
+        """The numbers of an answer: the refusal and place, or the result as (value, blocks, rounds)."""
+        expected = (*answer["refused"], 0, 0, 0) if "refused" in answer else (0, 0, *result(answer["result"]))
+        self.assertEqual((got.refusal, got.place, got.value, got.blocks, got.rounds), expected)
+
+    def check(self, name, count, one):
+        rows = vectors(name)
+        self.assertEqual(len(rows), count)
+        for line, row in enumerate(rows, start=1):
+            with self.subTest(file=name, line=line):
+                one(*row)
+
+    def one_graph(self, ask, table, answer):
+        entries = self.lend_entries(ask)
+        got = terkwabu._call("terkwabu_graph", table, entries)
+        self.expect_answer(got, answer, lambda regions: (regions, 0, 0))
+        self.expect_entries(entries, ask, answer)
+
+    def one_partition(self, ask, table, answer):
+        entries, (first, second) = self.lend_entries(ask), self.lend_lists(ask)
+        got = terkwabu._call("terkwabu_reduce", table, entries, first, second)
+        self.expect_answer(got, answer, tuple)
+        self.expect_entries(entries, ask, answer)
+        self.expect_list(first, ask, answer, "list1")
+        self.expect_list(second, ask, answer, "list2")
+
+    def one_pair(self, ask, table, answer):
+        entries, (first, second) = self.lend_entries(ask), self.lend_lists(ask)
+        got = terkwabu._call("terkwabu_pair", table, entries, first, second, *ask["asked"])
+        self.expect_answer(got, answer, lambda shared: (int(shared), 0, 0))
+        self.expect_entries(entries, ask, answer)
+        self.expect_list(first, ask, answer, "list1")
+        self.expect_list(second, ask, answer, "list2")
+
+    def one_judgement(self, ask, table, answer):
+        entries, proposal = self.lend_entries(ask), terkwabu._lent_numbers(ask["proposal"], "a number")
+        got = terkwabu._call("terkwabu_judge", table, entries, proposal)
+        self.expect_answer(got, answer, lambda accepted: (int(accepted), 0, 0))
+        self.expect_entries(entries, ask, answer)
+        self.assertEqual(list(proposal.as_numbers(proposal.count)), ask["proposal"])
+
+    def one_place(self, ask, table, answer):
+        entries = self.lend_entries(ask)
+        got = terkwabu._call("terkwabu_place", table, entries, *ask["state"])
+        self.expect_answer(got, answer, lambda region: (region, 0, 0))
+        self.expect_entries(entries, ask, answer)
+
+    def one_listing(self, ask, table, answer):
+        entries = terkwabu._Lent(ctypes.c_uint8, 9 * ask["lent"])
+        first, second = (terkwabu._Lent(ctypes.c_uint64, ask["lent"]) for _ in range(2))
+        got = terkwabu._call("terkwabu_reduce", table, entries, first, second)
+        buffer = terkwabu._Lent(ctypes.c_uint8, 65536)
+        if got.refusal:
+            end = terkwabu._call("terkwabu_refusal_line", got.refusal, got.place, buffer)
+            text = buffer.as_bytes(end.value)
+        else:
+            text = b"".join(self.parts(table, entries, second, got, buffer))
+        self.assertEqual(text.decode("ascii"), answer["text"])
+
+    def test_table(self):
+        self.check("table", 480, self.one_graph)
+
+    def test_graph(self):
+        self.check("graph", 160, self.one_graph)
+
+    def test_partition(self):
+        self.check("partition", 160, self.one_partition)
+
+    def test_pair(self):
+        self.check("pair", 160, self.one_pair)
+
+    def test_judge(self):
+        self.check("judge", 160, self.one_judgement)
+
+    def test_place(self):
+        self.check("place", 480, self.one_place)
+
+    def test_listing(self):
+        self.check("listing", 160, self.one_listing)
+
+    def parts(self, table, entries, blocks, left, buffer):
+        """The parts of a listing by the loop that the header gives: until refusal, value and place are 0."""
+        for part in range(2 * 4096 + 2):
+            counts = left.value, left.blocks, left.rounds
+            got = terkwabu._call("terkwabu_part", table, entries.as_bytes(entries.count), blocks, *counts, part, buffer)
+            self.assertEqual((got.refusal, got.place, got.blocks, got.rounds), (0, 0, 0, 0))
+            if got.value == 0:
+                return
+            yield buffer.as_bytes(got.value)
+        self.fail("the parts do not end")
+
+
+class FunctionsAgainstVectors(unittest.TestCase):
+    """The same lines through the functions for scripts, where these can ask what the line asks."""
+
+    def answer_of(self, function, *arguments, **named):
+        """The result, or the number and place of the refusal."""
+        try:
+            return "result", function(*arguments, **named)
+        except terkwabu.Refused as refusal:
+            return "refused", [refusal.number, refusal.place]
+
+    def entries(self, ask):
+        return min(ask["entries"] // 9, 4096)
+
+    def numbers(self, regions):
+        """Location, integer parts and ranks of regions, as an entry has them."""
+        return [
+            [region.location]
+            + [16 if clock is terkwabu.OVER else clock.whole for clock in region.clocks]
+            + [0] * (4 - len(region.clocks))
+            + [0 if clock is terkwabu.OVER else clock.rank for clock in region.clocks]
+            + [0] * (4 - len(region.clocks))
+            for region in regions
+        ]
+
+    def expect_regions(self, regions, table, answer):
+        """The regions hold what the entries of an answer say, and have as many clocks as the header of the table."""
+        self.assertEqual({len(region.clocks) for region in regions}, {table[1]})
+        if "entries" in answer:
+            held = bytes.fromhex(answer["entries"])
+            self.assertEqual(self.numbers(regions), [list(held[9 * at : 9 * at + 9]) for at in range(len(regions))])
+
+    def test_graph(self):
+        for line, (ask, table, answer) in enumerate(vectors("graph") + vectors("table"), start=1):
+            with self.subTest(line=line):
+                kind, got = self.answer_of(terkwabu.graph, table, entries=self.entries(ask))
+                self.assertIn(kind, answer)
+                if kind == "refused":
+                    self.assertEqual(got, answer["refused"])
+                else:
+                    self.assertEqual(len(got), answer["result"])
+                    self.expect_regions(got, table, answer)
+
+    def test_reduce(self):
+        looked = 0
+        for line, (ask, table, answer) in enumerate(vectors("partition"), start=1):
+            if answer.get("refused") == [16, 0]:
+                continue  # the module lends lists that are never too short
+            with self.subTest(line=line):
+                kind, got = self.answer_of(terkwabu.reduce, table, entries=self.entries(ask))
+                self.assertIn(kind, answer)
+                if kind == "refused":
+                    self.assertEqual(got, answer["refused"])
+                else:
+                    self.assertEqual([len(got.regions), got.blocks, got.rounds], answer["result"])
+                    self.expect_regions(got.regions, table, answer)
+                    self.assertEqual(len(got.block_of), len(got.regions))
+                    if "list1" in answer:
+                        self.assertEqual(list(got.block_of), answer["list1"][: len(got.regions)])
+                looked += 1
+        self.assertGreater(looked, 100)
+
+    def test_pair(self):
+        looked = 0
+        for line, (ask, table, answer) in enumerate(vectors("pair"), start=1):
+            if answer.get("refused") == [16, 0]:
+                continue
+            with self.subTest(line=line):
+                kind, got = self.answer_of(terkwabu.pair, table, *ask["asked"], entries=self.entries(ask))
+                self.assertEqual(got, answer.get(kind))
+                looked += 1
+        self.assertGreater(looked, 100)
+
+    def test_judge(self):
+        for line, (ask, table, answer) in enumerate(vectors("judge"), start=1):
+            with self.subTest(line=line):
+                kind, got = self.answer_of(terkwabu.judge, table, ask["proposal"], entries=self.entries(ask))
+                self.assertEqual(got, answer.get(kind))
+
+    def test_place(self):
+        """With fractions, which have their least denominator: where the line refuses a larger one, there is nothing to compare."""
+        looked = 0
+        for line, (ask, table, answer) in enumerate(vectors("place"), start=1):
+            location, *numbers, denominator = ask["state"]
+            if denominator == 0:
+                continue
+            values = [Fraction(number, denominator) for number in numbers]
+            if answer.get("refused") == [20, 0] and math.lcm(*(value.denominator for value in values)) != denominator:
+                continue
+            with self.subTest(line=line):
+                kind, got = self.answer_of(terkwabu.place, table, location, values, entries=self.entries(ask))
+                self.assertEqual(got, answer.get(kind))
+                looked += 1
+        self.assertGreater(looked, 300)
+
+    def test_listing(self):
+        for line, (ask, table, answer) in enumerate(vectors("listing"), start=1):
+            with self.subTest(line=line):
+                try:
+                    text = terkwabu.listing(table, entries=ask["lent"])
+                except terkwabu.Refused as refusal:
+                    text = refusal.line()
+                self.assertEqual(text, answer["text"])
+
+
+class SampleModels(unittest.TestCase):
+    """The sample models against the listings that the independent implementation printed."""
+
+    @classmethod
+    def setUpClass(cls):
+        cls.models = list(sample_models())
+
+    def check(self, one):
+        self.assertEqual(len(self.models), 6)
+        for name, table, expected in self.models:
+            with self.subTest(model=name):
+                one(table, expected)
+
+    def one_listing(self, table, expected):
+        self.assertEqual(terkwabu.listing(table), expected)
+        self.assertEqual(terkwabu.reduce(table).listing(), expected)
+
+    def one_graph(self, table, expected):
+        reduced = terkwabu.reduce(table)
+        lines = lines_of(expected, "region")
+        self.assertEqual(reduced.regions, tuple((int(line[1]), tuple(map(clock_of, line[3:]))) for line in lines))
+        self.assertEqual(reduced.regions, terkwabu.graph(table))
+        self.assertEqual(reduced.block_of, tuple(int(line[2]) for line in lines))
+        self.assertEqual([str(region).split()[1:] for region in reduced.regions], [[line[1], *line[3:]] for line in lines])
+
+    def one_blocks(self, table, expected):
+        reduced = terkwabu.reduce(table)
+        regions, blocks = lines_of(expected, "region"), lines_of(expected, "block")
+        self.assertEqual([[str(reduced.blocks), str(reduced.rounds)]], [line[2::2] for line in lines_of(expected, "regions")])
+        self.assertEqual(reduced.blocks, len(blocks))
+        for number, label, size in blocks:
+            members = tuple(int(line[0]) for line in regions if line[2] == number)
+            delays = tuple(int(word) for line in lines_of(expected, "delay") if line[0] == number for word in line[1:])
+            steps = [line[1:] for line in lines_of(expected, "step") if line[0] == number]
+            block = reduced.block(int(number))
+            self.assertEqual((block.number, block.label, block.members, block.delays), (int(number), int(label), members, delays))
+            self.assertEqual(
+                [[str(step.action), *(f"{landed}:{share}" for landed, share in step.shares.items())] for step in block.steps], steps
+            )
+            self.assertEqual(len(block.members), int(size))
+            self.assertEqual(reduced.members(int(number)), members)
+
+    def one_pair(self, table, expected):
+        """Each of the first forty regions with region 0, with itself, and with the one before it."""
+        blocks = [line[2] for line in lines_of(expected, "region")][:40]
+        for region, block in enumerate(blocks):
+            for other in (0, region, max(region - 1, 0)):
+                self.assertIs(terkwabu.pair(table, region, other), block == blocks[other])
+
+    def one_judge(self, table, expected):
+        """The blocks are a bisimulation, under any numbers; so is equality; what relates regions of two blocks is none."""
+        blocks = [int(line[2]) for line in lines_of(expected, "region")]
+        self.assertIs(terkwabu.judge(table, blocks), True)
+        self.assertIs(terkwabu.judge(table, (2**64 - 1 - block for block in blocks)), True)
+        self.assertIs(terkwabu.judge(table, range(len(blocks))), True)
+        for merged in range(1, 1 + max(blocks)):
+            with self.assertRaises(terkwabu.Refused) as caught:
+                terkwabu.judge(table, [0 if block == merged else block for block in blocks])
+            self.assertEqual((caught.exception.number, caught.exception.place), (18, 0))
+
+    def one_place(self, table, expected):
+        """A state in each region: fractions spread evenly by rank, and 16 for a clock that is over, since no constant is above 15."""
+        for number, location, _, *clocks in lines_of(expected, "region"):
+            clocks = [clock_of(clock) for clock in clocks]
+            parts = 1 + max([0] + [clock.rank for clock in clocks if clock is not terkwabu.OVER])
+            values = [16 if clock is terkwabu.OVER else clock.whole + Fraction(clock.rank, parts) for clock in clocks]
+            self.assertEqual(terkwabu.place(table, int(location), values), int(number))
+            self.assertEqual(terkwabu.place(table, int(location), map(str, values)), int(number))
+
+    def test_listing(self):
+        self.check(self.one_listing)
+
+    def test_graph(self):
+        self.check(self.one_graph)
+
+    def test_blocks(self):
+        self.check(self.one_blocks)
+
+    def test_pair(self):
+        self.check(self.one_pair)
+
+    def test_judge(self):
+        self.check(self.one_judge)
+
+    def test_place(self):
+        self.check(self.one_place)
+
+
+class DocumentExample(unittest.TestCase):
+    """The example and the points of document 01."""
+
+    def test_listing(self):
+        self.assertEqual(terkwabu.listing(EXAMPLE), EXAMPLE_LISTING)
+
+    def test_table_of_any_bytes(self):
+        self.assertEqual(terkwabu.listing(bytearray(EXAMPLE)), EXAMPLE_LISTING)
+        self.assertEqual(terkwabu.listing(memoryview(EXAMPLE + b"?")[:-1]), EXAMPLE_LISTING)
+        doubled = b"".join(bytes([byte, 0xFF]) for byte in EXAMPLE)
+        self.assertEqual(terkwabu.listing(memoryview(doubled)[::2]), EXAMPLE_LISTING)
+
+    def test_entries(self):
+        """With 5 entries it is accepted; with 4 it gets 15 and four regions."""
+        self.assertEqual(len(terkwabu.graph(EXAMPLE, entries=5)), 5)
+        for function, *arguments in EACH_FUNCTION:
+            for few in (4, 0):
+                with self.subTest(function=function.__name__, entries=few), self.assertRaises(terkwabu.Refused) as caught:
+                    function(EXAMPLE, *arguments, entries=few)
+                self.assertEqual((caught.exception.number, caught.exception.place), (15, 0))
+        entries = terkwabu._Lent(ctypes.c_uint8, 4 * 9 + 8, 0xA5)
+        self.assertEqual(terkwabu._call("terkwabu_graph", EXAMPLE, entries).refusal, 15)
+        regions = [(0, 0, 0), (0, 0, 1), (0, 1, 0), (1, 1, 0)]  # location, integer part and rank, from the listing
+        expected = b"".join(bytes([location, part, 0, 0, 0, rank, 0, 0, 0]) for location, part, rank in regions)
+        self.assertEqual(entries.as_bytes(entries.count), expected + 8 * b"\xa5")
+
+    def test_borders_of_the_table(self):
+        points = [(b"", 2, 0), (b"\x07", 5, 0), (bytes(16384), 3, 0), (bytes(16385), 1, 0)]
+        points += [(bytes([1, 5, 1, 0]), 6, 0), (bytes([1, 4, 1, 0]), 2, 4)]
+        for table, number, place in points:
+            with self.subTest(table=table[:8]), self.assertRaises(terkwabu.Refused) as caught:
+                terkwabu.reduce(table)
+            self.assertEqual((caught.exception.number, caught.exception.place), (number, place))
+
+    def test_states(self):
+        """M is 1, so that 2/2 is 1 and 3/2 is over; the invariant of location 0 ends at 1."""
+        states = [(0, [], 0), (0, ["0"], 0), (0, ["1/2"], 1), (0, ["2/2"], 2), (1, [1], 3), (1, ["3/2"], 4), (1, [2**64 - 1], 4)]
+        for location, values, region in states:
+            with self.subTest(location=location, values=values):
+                self.assertEqual(terkwabu.place(EXAMPLE, location, values), region)
+        refused = [(0, ["3/2"], 21), (1, ["1/2"], 21), (2, [0], 20), (0, [0, 1], 20), (0, [0, 0, 0, "1/2"], 20), (0, ["1/1000001"], 20)]
+        for location, values, number in refused:
+            with self.subTest(location=location, values=values), self.assertRaises(terkwabu.Refused) as caught:
+                terkwabu.place(EXAMPLE, location, values)
+            self.assertEqual((caught.exception.number, caught.exception.place), (number, 0))
+        self.assertEqual(terkwabu.place(EXAMPLE, 0, ["1/1000000"]), 1)
+
+    def test_values_are_exact(self):
+        """The same value in each form that is taken; and values next to 1 that a float could not tell from it."""
+        for value in (Fraction(1, 4), Decimal("0.25"), "0.25", "1/4", " 0.250 ", "2/8", Decimal("25E-2")):
+            with self.subTest(value=value):
+                self.assertEqual(terkwabu._common([value, 3]), ([1, 12, 0, 0], 4))
+        self.assertEqual(terkwabu._common(["1/6", Decimal("0.1"), 2]), ([5, 3, 60, 0], 30))
+        self.assertEqual(terkwabu._common([Decimal("0E+999999999"), Decimal("-0.0")]), ([0, 0, 0, 0], 1))
+        below, above = (2**64 - 2, 2**64 - 1), (2**64 - 1, 2**64 - 2)
+        self.assertEqual(terkwabu._common([Fraction(*below)]), ([below[0], 0, 0, 0], below[1]))
+        self.assertEqual(terkwabu._common([Fraction(*above)]), ([above[0], 0, 0, 0], above[1]))
+        self.assertEqual(terkwabu.place(EXAMPLE, 0, ["0.999999"]), 1)
+        self.assertEqual(terkwabu.place(EXAMPLE, 1, ["1.000001"]), 4)
+
+    def test_reduced_can_be_kept(self):
+        """What reduce gave can be compared, and sent to another process, and prints its listing there."""
+        reduced = terkwabu.reduce(EXAMPLE)
+        copy = pickle.loads(pickle.dumps(reduced))
+        self.assertEqual(copy, reduced)
+        self.assertEqual(copy.listing(), EXAMPLE_LISTING)
+        self.assertIs(copy.regions[4].clocks[0], terkwabu.OVER)
+        self.assertNotEqual(reduced, terkwabu.reduce(EXAMPLE[:5] + b"\x09" + EXAMPLE[6:]))
+
+    def test_no_such_block(self):
+        reduced = terkwabu.reduce(EXAMPLE)
+        for ask in (reduced.block, reduced.members):
+            for number in (3, -1, 2**64):
+                with self.subTest(ask=ask.__name__, number=number), self.assertRaises(IndexError):
+                    ask(number)
+
+
+class PartsAndLines(unittest.TestCase):
+    """The two calls that write text, with buffers that are too short, and with what they cannot use."""
+
+    def setUp(self):
+        lines = EXAMPLE_LISTING.splitlines(keepends=True)
+        # The first line, five regions, and the blocks: block 0 has a delay line, block 1 a step line.
+        self.parts = [*lines[:6], "".join(lines[6:8]), "".join(lines[8:10]), lines[10]]
+        self.entries = terkwabu._Lent(ctypes.c_uint8, 45)
+        self.first, second = (terkwabu._Lent(ctypes.c_uint64, 5) for _ in range(2))
+        terkwabu._call("terkwabu_reduce", EXAMPLE, self.entries, self.first, second)
+
+    def part(self, number, buffer, counts=(5, 3, 1), table=EXAMPLE):
+        got = terkwabu._call("terkwabu_part", table, self.entries.as_bytes(45), self.first, *counts, number, buffer)
+        self.assertEqual((got.blocks, got.rounds), (0, 0))
+        return got.refusal, got.place, got.value
+
+    def test_part(self):
+        for number, text in enumerate(self.parts):
+            with self.subTest(part=number):
+                exact = terkwabu._Lent(ctypes.c_uint8, len(text), 0xA5)
+                self.assertEqual(self.part(number, exact), (0, 0, len(text)))
+                self.assertEqual(exact.as_bytes(exact.count), text.encode())
+                self.assertEqual(exact.behind(), 0xA5)
+                short = terkwabu._Lent(ctypes.c_uint8, len(text) - 1, 0xA5)
+                self.assertEqual(self.part(number, short), (0, len(text), 0))
+                self.assertEqual(short.as_bytes(len(text)), len(text) * b"\xa5")
+
+    def test_no_part(self):
+        asked = [(9, (5, 3, 1)), (2**64 - 1, (5, 3, 1)), (0, (6, 3, 1)), (0, (4097, 3, 1)), (0, (5, 0, 1)), (0, (5, 6, 1))]
+        for number, counts in asked:
+            with self.subTest(part=number, counts=counts):
+                buffer = terkwabu._Lent(ctypes.c_uint8, 65536, 0xA5)
+                self.assertEqual(self.part(number, buffer, counts), (0, 0, 0))
+                self.assertEqual(buffer.as_bytes(65537), 65537 * b"\xa5")
+
+    def test_no_text_is_no_listing(self):
+        """Counts that cannot be those of the model: a listing with nothing in it would be wrong."""
+        for counts in ({"blocks": 6}, {"blocks": 0}):
+            wrong = dataclasses.replace(terkwabu.reduce(EXAMPLE), **counts)
+            with self.subTest(counts=counts), self.assertRaisesRegex(RuntimeError, "no text"):
+                wrong.listing()
+
+    def test_part_of_a_refused_table(self):
+        buffer = terkwabu._Lent(ctypes.c_uint8, 100, 0xA5)
+        self.assertEqual(self.part(0, buffer, table=b"\x07"), (5, 0, 0))
+        self.assertEqual(buffer.as_bytes(101), 101 * b"\xa5")
+
+    def test_refusal_line(self):
+        for number, place in ((5, 0), (12, 13), (0, 0), (2**64 - 1, 2**64 - 1)):
+            with self.subTest(number=number):
+                text = f"refused {number} place {place}\n".encode()
+                exact, short = (terkwabu._Lent(ctypes.c_uint8, length, 0xA5) for length in (len(text), len(text) - 1))
+                got = terkwabu._call("terkwabu_refusal_line", number, place, exact)
+                self.assertEqual((got.refusal, got.place, got.value), (0, 0, len(text)))
+                self.assertEqual(exact.as_bytes(len(text) + 1), text + b"\xa5")
+                got = terkwabu._call("terkwabu_refusal_line", number, place, short)
+                self.assertEqual((got.refusal, got.place, got.value), (0, len(text), 0))
+                self.assertEqual(short.as_bytes(len(text)), len(text) * b"\xa5")
+                self.assertEqual(terkwabu.Refused(number, place).line().encode(), text)
+
+
+class Refusals(unittest.TestCase):
+    # What the meaning of each must speak of, from document 01's list.
+    SPEAKS_OF = {
+        1: "16,384", 2: "ends", 3: "1 to 7", 4: "past the end", 5: "order", 6: "header", 7: "mask", 8: "comparison", 9: "15", 10: "60,000",
+        11: "one too many", 12: "sum to", 13: "follow the end", 14: "invariant", 15: "4,096", 16: "block lists", 17: "one number for each",
+        18: "no bisimulation", 19: "region number", 20: "1,000,000", 21: "not reach",
+    }
+
+    def test_meanings(self):
+        for number in range(1, 22):
+            with self.subTest(number=number):
+                refusal = terkwabu.Refused(number, 4711)
+                self.assertIn(self.SPEAKS_OF[number], refusal.meaning)
+                self.assertEqual(str(refusal), f"refused {number} place 4711: {refusal.meaning}")
+                # The place is a byte of the table for 2 to 13, and says nothing for the others.
+                self.assertIs("byte 4711" in refusal.meaning, 2 <= number <= 13)
+        self.assertEqual(sorted(terkwabu._MEANINGS), list(range(1, 22)))
+        self.assertIn("does not know", terkwabu.Refused(22, 0).meaning)
+
+    def test_refusal_can_be_kept(self):
+        """It can be sent to another process, as a pool of processes does with what a worker raises."""
+        copy = pickle.loads(pickle.dumps(terkwabu.Refused(12, 13)))
+        self.assertEqual((copy.number, copy.place, str(copy)), (12, 13, str(terkwabu.Refused(12, 13))))
+
+    def test_weights_that_do_not_sum(self):
+        """The example with a weight of 3 in its second branch: the edge begins at byte 13."""
+        with self.assertRaises(terkwabu.Refused) as caught:
+            terkwabu.reduce(EXAMPLE[:28] + b"\x03" + EXAMPLE[29:])
+        self.assertEqual((caught.exception.number, caught.exception.place), (12, 13))
+        self.assertIn("the edge at byte 13", str(caught.exception))
+        self.assertEqual(caught.exception.line(), "refused 12 place 13\n")
+
+    def test_asked_and_proposed(self):
+        """17 before 18, and 19 of either number, up to the largest."""
+        asked = [(terkwabu.judge, 17, [0, 0, 1, 2]), (terkwabu.judge, 17, []), (terkwabu.judge, 18, [0] * 5), (terkwabu.judge, 17, [0] * 6)]
+        asked += [(terkwabu.pair, 19, 5, 0), (terkwabu.pair, 19, 0, 5), (terkwabu.pair, 19, 2**64 - 1, 2**64 - 1)]
+        for function, number, *arguments in asked:
+            with self.subTest(function=function.__name__, arguments=arguments), self.assertRaises(terkwabu.Refused) as caught:
+                function(EXAMPLE, *arguments)
+            self.assertEqual((caught.exception.number, caught.exception.place), (number, 0))
+
+
+class WhatACallCannotTake(unittest.TestCase):
+    """Nothing is called, and nothing is cut to 64 bits."""
+
+    def expect(self, kind, function, *arguments, **named):
+        with self.subTest(function=function.__name__, arguments=arguments, named=named):
+            with mock.patch.object(terkwabu, "_library", side_effect=AssertionError("the library was called")):
+                with self.assertRaises(kind):
+                    function(*arguments, **named)
+
+    def test_tables(self):
+        for table in ("01010200", None, 5, [1, 2], EXAMPLE.hex(), Path("x.table")):
+            for function, *arguments in EACH_FUNCTION:
+                self.expect(TypeError, function, table, *arguments)
+
+    def test_numbers(self):
+        for wrong in (-1, 2**64, 2**64 + 1, 1.0, "1", None):
+            kind = ValueError if isinstance(wrong, int) else TypeError
+            self.expect(kind, terkwabu.pair, EXAMPLE, wrong, 0)
+            self.expect(kind, terkwabu.pair, EXAMPLE, 0, wrong)
+            self.expect(kind, terkwabu.place, EXAMPLE, wrong, [0])
+            self.expect(kind, terkwabu.judge, EXAMPLE, [0, 0, 1, 2, wrong])
+        for wrong in (-1, 4097, 2**64, 5.0, None):
+            kind = ValueError if isinstance(wrong, int) else TypeError
+            for function, *arguments in EACH_FUNCTION:
+                self.expect(kind, function, EXAMPLE, *arguments, entries=wrong)
+
+    def test_values(self):
+        for wrong in (0.5, 1.0, float("nan"), None, b"1", 1j, [1]):
+            self.expect(TypeError, terkwabu.place, EXAMPLE, 0, [wrong])
+        for wrong in ("", "x", "-1", "1e3", "1/2/3", "0x10", ".5", "1.", "1/0", "½", "1_0", "nan"):
+            self.expect(ValueError, terkwabu.place, EXAMPLE, 0, [wrong])
+        for wrong in (-1, Fraction(-1, 2), 2**64, Fraction(1, 2**64)):
+            self.expect(ValueError, terkwabu.place, EXAMPLE, 0, [wrong])
+        for wrong in ("NaN", "Infinity", "-0.5", "1E+30", "1E-30", "1E+999999999", "1E-999999999"):
+            self.expect(ValueError, terkwabu.place, EXAMPLE, 0, [Decimal(wrong)])
+        self.expect(ValueError, terkwabu.place, EXAMPLE, 0, [2**63, "1/3"])  # 3 * 2**63 thirds
+        self.expect(ValueError, terkwabu.place, EXAMPLE, 0, [0, 0, 0, 0, 0])
+        self.expect(TypeError, terkwabu.place, EXAMPLE, 0, "0")
+        self.expect(TypeError, terkwabu.place, EXAMPLE, 0, 1)
+
+    def test_the_call_itself(self):
+        """The layer beneath does not cut numbers either, and takes no null and no memory of the wrong kind."""
+        entries, first, second = (terkwabu._Lent(kind, 45) for kind in (ctypes.c_uint8, ctypes.c_uint64, ctypes.c_uint64))
+        for wrong, kind in ((-1, ValueError), (2**64, ValueError), (1.0, TypeError)):
+            with self.subTest(wrong=wrong), self.assertRaises(kind):
+                terkwabu._call("terkwabu_pair", EXAMPLE, entries, first, second, 0, wrong)
+        for arguments in ((None, entries), (EXAMPLE, None), (EXAMPLE, first), (EXAMPLE,)):
+            with self.subTest(arguments=arguments), self.assertRaises((TypeError, ctypes.ArgumentError)):
+                terkwabu._call("terkwabu_graph", *arguments)
+
+
+class Threads(unittest.TestCase):
+    # 128 edges of 8 branches at one location, four clocks: exploring as many regions as there is room for takes a while.
+    SLOW = bytes([1, 4, 1, 0, 2, 0, 3, 0, 0, 1, 15]) + b"".join(
+        bytes([4, 0, edge, 8, 0]) + b"".join(bytes([6, 1, 0, 0, (edge + branch) % 16]) for branch in range(8)) for edge in range(128)
+    ) + b"\x07"
+
+    def test_side_by_side(self):
+        """Calls of all kinds at once, each with its own answer."""
+        wanted = [row for row in vectors("partition") if row[2].get("refused") != [16, 0]] * 2
+
+        def differs(row):
+            ask, table, answer = row
+            try:
+                reduced = terkwabu.reduce(table, entries=min(ask["entries"] // 9, 4096))
+                got = {"result": [len(reduced.regions), reduced.blocks, reduced.rounds]}
+                judged = terkwabu.judge(table, reduced.block_of)
+                placed = terkwabu.place(table, reduced.regions[0].location)
+                listed = int(reduced.listing().split()[3])
+                if (judged, placed, listed) != (True, 0, reduced.blocks):
+                    return ask
+            except terkwabu.Refused as refusal:
+                got = {"refused": [refusal.number, refusal.place]}
+            return None if got.items() <= answer.items() else ask
+
+        with ThreadPoolExecutor(8) as pool:
+            self.assertEqual([ask for ask in pool.map(differs, wanted) if ask], [])
+
+    def test_python_runs_on_meanwhile(self):
+        """Other threads of Python get their turns while a call runs."""
+        state = []
+
+        def call():
+            state.append("begun")
+            try:
+                terkwabu.graph(self.SLOW)
+            except terkwabu.Refused as refusal:
+                state.append(refusal.number)
+
+        thread, turns = threading.Thread(target=call), 0
+        thread.start()
+        while len(state) < 2 and thread.is_alive():
+            time.sleep(0.001)
+            turns += len(state) == 1
+        thread.join()
+        self.assertEqual(state, ["begun", 15])
+        self.assertGreater(turns, 10)
+
+    # Runs its calls on a thread with so many KB of stack, and prints what came of each.
+    ON_A_SMALL_STACK = """
+import threading, terkwabu
+table = bytes.fromhex("{table}")
+def tried(function, *arguments):
+    try:
+        print("took", function(*arguments))
+    except terkwabu.Refused as refusal:
+        print("refused", refusal.number)
+    except RuntimeError as error:
+        print("stack", "threading.stack_size" in str(error))
+def calls():
+    tried(lambda: len(terkwabu.graph(table)))
+    tried(terkwabu.place, table, table[3])
+    tried(lambda: terkwabu.reduce(table).blocks)
+    tried(terkwabu.pair, table, 0, 0)
+    tried(terkwabu.judge, table, [0, 0, 1, 2, 2])
+threading.stack_size({size} * 1024)
+thread = threading.Thread(target=calls)
+thread.start()
+thread.join()
+"""
+
+    def on_a_stack(self, size, table=EXAMPLE):
+        done = run_python(self.ON_A_SMALL_STACK.format(table=table.hex(), size=size))
+        self.assertEqual((done.returncode, done.stderr), (0, ""))
+        return done.stdout.split("\n")[:-1]
+
+    def test_small_stacks(self):
+        """Too small a stack is found before the call, not by a crash."""
+        took = ["took 5", "took 0", "took 3", "took True", "took True"]
+        self.assertEqual(self.on_a_stack(2048), took)
+        self.assertEqual(self.on_a_stack(4096), took)
+        self.assertEqual(self.on_a_stack(1024), took[:2] + 3 * ["stack True"])
+        self.assertEqual(self.on_a_stack(256), took[:2] + 3 * ["stack True"])
+        self.assertEqual(self.on_a_stack(128), 5 * ["stack True"])
+
+    def test_stack_that_is_enough(self):
+        """The largest model of the vectors, and one with too many regions, on just the stack that is asked for."""
+        _, table, answer = max(vectors("partition"), key=lambda row: row[2].get("result", [0])[0])
+        regions, blocks, _ = answer["result"]
+        self.assertGreater(regions, 500)
+        took = [f"took {regions}", "took 0", f"took {blocks}", "took True", "refused 17"]
+        self.assertEqual(self.on_a_stack(2048, table), took)
+        self.assertEqual(self.on_a_stack(2048, self.SLOW), 5 * ["refused 15"])
+
+    def test_main_thread(self):
+        program = f"import terkwabu\nprint(terkwabu.reduce(bytes.fromhex('{EXAMPLE.hex()}')).blocks)"
+        for limit, expected in ((1024, "RuntimeError"), (2048, "3\n")):
+            command = f'ulimit -s {limit} && exec "$0" -c "$1"'
+            known = {**os.environ, "PYTHONPATH": str(HERE)}
+            done = subprocess.run(
+                ["sh", "-c", command, sys.executable, program], stdout=subprocess.PIPE, stderr=subprocess.PIPE, env=known, text=True
+            )
+            with self.subTest(limit=limit):
+                self.assertIn(expected, done.stdout + done.stderr)
+
+
+class TheLibrary(unittest.TestCase):
+    ASK = f"import terkwabu\nprint(terkwabu.reduce(bytes.fromhex('{EXAMPLE.hex()}')).blocks)"
+
+    def test_named(self):
+        """Another copy, named by the environment; the one beside the project is then not looked at."""
+        with tempfile.TemporaryDirectory() as folder:
+            copy = Path(folder, "another.so")
+            copy.write_bytes(terkwabu._library_path().read_bytes())
+            done = run_python(self.ASK + "\nprint(terkwabu._library()._name)", TERKWABU_LIBRARY=str(copy))
+            self.assertEqual((done.stdout, done.stderr), (f"3\n{copy.resolve()}\n", ""))
+
+    def test_missing(self):
+        """The module can be imported without the library; the first call says how to build it."""
+        with tempfile.TemporaryDirectory() as folder:
+            text = Path(folder, "text.so")
+            text.write_text("no library")
+            another = _ctypes.__file__  # a library, but not this one
+            for named in (f"{folder}/none.so", str(text), another, folder):
+                with self.subTest(named=named):
+                    done = run_python(self.ASK, TERKWABU_LIBRARY=named)
+                    self.assertEqual(done.stdout, "")
+                    trouble = "cannot be used" if named in (str(text), another) else "is not there"
+                    last = done.stderr.splitlines()[-1]
+                    self.assertRegex(last, rf"^terkwabu\.LibraryMissing: {re.escape(named)} {trouble}.*\./library")
+
+    def test_not_built(self):
+        """The module in a project where nothing was built."""
+        with tempfile.TemporaryDirectory() as folder:
+            Path(folder, "python").mkdir()
+            Path(folder, "python", "terkwabu.py").write_bytes((HERE / "terkwabu.py").read_bytes())
+            done = run_python(self.ASK, PYTHONPATH=f"{folder}/python", TERKWABU_LIBRARY="")
+            self.assertRegex(done.stderr.splitlines()[-1], r"^terkwabu\.LibraryMissing: .*build/libterkwabu\.so is not there.*\./library")
+
+    # The C types of the header, as ctypes has them.
+    TYPES = {
+        "const uint8_t *": (ctypes.c_char_p, ctypes.POINTER(ctypes.c_uint8)),
+        "uint8_t *": (ctypes.POINTER(ctypes.c_uint8),),
+        "const uint64_t *": (ctypes.POINTER(ctypes.c_uint64),),
+        "uint64_t *": (ctypes.POINTER(ctypes.c_uint64),),
+        "size_t ": (ctypes.c_size_t,),
+        "uint64_t ": (ctypes.c_uint64,),
+    }
+
+    def test_header(self):
+        """The module declares each call as the header does, and has its numbers."""
+        header = (ROOT / "include" / "terkwabu.h").read_text(encoding="utf-8")
+        plain = re.sub(r"/\*.*?\*/", "", header, flags=re.S)
+        calls = dict(re.findall(r"^terkwabu_answer (\w+)\(([^)]*)\);", plain, flags=re.M))
+        self.assertEqual(sorted(calls), sorted(terkwabu._CALLS))
+        for name, text in calls.items():
+            with self.subTest(call=name):
+                declared = [re.sub(r"\w+$", "", " ".join(one.split())) for one in text.split(",")]
+                takes = terkwabu._CALLS[name][0]
+                self.assertEqual(len(takes), len(declared))
+                for kind, one in zip(takes, declared):
+                    self.assertIn(kind, self.TYPES[one])
+        fields = re.search(r"uint64_t ([\w, ]+);\s*\} terkwabu_answer", plain)
+        self.assertEqual([name for name, _ in terkwabu._Answer._fields_], fields[1].split(", "))
+        defined = dict(re.findall(r"#define TERKWABU_(\w+) (\d+)", plain))
+        module = {
+            "ENTRY_BYTES": terkwabu._ENTRY_BYTES,
+            "MAX_REGIONS": terkwabu.MAX_REGIONS,
+            "PART_BYTES": terkwabu._PART_BYTES,
+            "LINE_BYTES": terkwabu._LINE_BYTES,
+        }
+        self.assertEqual({name: int(number) for name, number in defined.items()}, module)
+
+
+class ReadmeAndExamples(unittest.TestCase):
+    def test_readme(self):
+        """The examples in the README give what stands there."""
+        text = (HERE / "README.md").read_text(encoding="utf-8")
+        fenced = re.sub(r"^```.*$", "", text, flags=re.M)
+        examples = doctest.DocTestParser().get_doctest(fenced, {}, "README.md", "python/README.md", 0)
+        self.assertGreater(len(examples.examples), 10)
+        report = []
+        doctest.DocTestRunner(verbose=False).run(examples, out=report.append)
+        self.assertEqual("".join(report), "")
+
+    def alike(self, *pairs):
+        command = [sys.executable, str(HERE / "examples" / "alike.py"), str(ROOT / "models" / "handover.model"), *pairs]
+        done = subprocess.run(command, stdout=subprocess.PIPE, stderr=subprocess.PIPE, text=True)
+        return done.returncode, done.stdout.splitlines(), done.stderr
+
+    def test_alike(self):
+        """The blocks are those of the listing. The stations are alike; a good link and a weak one have different labels."""
+        expected = (ROOT / "models" / "listings" / "handover.txt").read_text(encoding="ascii")
+        names = re.findall(r"^location (\S+)", (ROOT / "models" / "handover.model").read_text(encoding="utf-8"), flags=re.M)
+        regions = lines_of(expected, "region")
+        shown = {region: " ".join([names[int(location)], *clocks]) for region, location, _, *clocks in regions}
+        blocks = [f"{len(regions)} regions in {len(lines_of(expected, 'block'))} blocks"] + [
+            f"block {block}, label {label}: " + ", ".join(shown[line[0]] for line in regions if line[2] == block)
+            for block, label, _ in lines_of(expected, "block")
+        ]
+        stations = {"good-b": "good-a", "weak-b": "weak-a", "b-to-a": "a-to-b"}
+        groups = {(stations.get(names[int(line[1])], names[int(line[1])]), *line[3:]) for line in regions}
+
+        status, lines, errors = self.alike("good-a=good-b", "weak-a=weak-b", "a-to-b=b-to-a")
+        self.assertEqual((status, errors), (0, ""))
+        self.assertEqual(lines, [*blocks, f"accepted: the {len(groups)} proposed groups are a bisimulation"])
+
+        status, lines, errors = self.alike("good-a=weak-a")
+        self.assertEqual((status, errors, lines[: len(blocks)]), (1, "", blocks))
+        self.assertTrue(lines[-2].startswith("refused 18 place 0: "))
+        told = re.fullmatch(r"for instance good-a (.+) and weak-a (.+) can be told apart", lines[-1])
+        self.assertEqual(told[1], told[2])
+
+        # One station's good link alone: beacons then lead from related regions to weak-a and weak-b, which are not related.
+        status, lines, errors = self.alike("good-a=good-b")
+        self.assertEqual((status, errors), (1, ""))
+        self.assertEqual(lines[-1], "what it relates can never be told apart: relate more, and it is accepted")
+
+        status, lines, errors = self.alike("good-a=nowhere")
+        self.assertEqual((status, lines), (1, []))
+        self.assertIn("good-a=nowhere", errors)
+
+
+if __name__ == "__main__":
+    unittest.main()
