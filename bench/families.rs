@@ -1,0 +1,356 @@
+//! The models that are measured, one function a family. Each has close to 4,096 regions, the most that a model may have.
+
+use crate::table::{Branch, Guard, Model, AT_LEAST, AT_MOST, EQUAL, LESS, MORE};
+
+/// A family: its name and its table.
+pub struct Family {
+    pub name: &'static str,
+    pub table: Vec<u8>,
+}
+
+pub fn all() -> Vec<Family> {
+    let family = |name, model: Model| Family { name, table: model.table() };
+    vec![
+        family("link with retries", link(14, 6)),
+        family("duty cycle", duty_cycle(8, 4, 11)),
+        family("carrier sense", carrier_sense(5, 15)),
+        family("handover", handover(20, 10)),
+        family("colliding tags", tags(3, 4, 1)),
+        family("random, few edges", random(247, 2, 30, 40, 12)),
+        family("random, many edges", random(371, 2, 12, 128, 9)),
+        family("random, four clocks", random(388, 4, 8, 20, 2)),
+        family("alike stations", alike_stations(56, 5)),
+        family("chain", chain(63, [9, 7])),
+        family("wide chain", wide_chain([15, 13, 7], 18)),
+        family("cross products", cross_products([15, 13, 7], 18)),
+        family("equal actions", equal_actions([15, 13, 7], 120)),
+        family("last edge", last_edge([13, 11, 9], 88)),
+        family("long delays", long_delays([15, 11, 4], 15)),
+        family("slowest", slowest([13, 11, 9], 120)),
+    ]
+}
+
+/// The mask with these clocks' bits.
+fn mask(clocks: &[u8]) -> u8 {
+    clocks.iter().map(|clock| 1 << clock).sum()
+}
+
+/// A link that sends, waits for an answer and retries: locations in a ring. Clock 0 is the time since it last went on or retried, clock 1
+/// the time since it last began anew, clock 2 the time since the start, which nothing reads.
+fn link(locations: u8, timeout: u8) -> Model {
+    let labels: Vec<u8> = (0..locations).map(|location| location % 4).collect();
+    let mut model = Model::new(3, &labels);
+    for location in 0..locations {
+        model.invariant(location, 0, AT_MOST, timeout);
+        model.edge(location, 1, &[(0, AT_LEAST, 2)], &[(9, (location + 1) % locations, 1), (1, location, 3)]);
+        model.edge(location, 2, &[(1, EQUAL, timeout - 1)], &[(1, (location + 2) % locations, 2)]);
+    }
+    model
+}
+
+/// A receiver that sleeps, wakes, listens for a unit and sleeps again; its cycle lasts from `cycle` to `cycle` + 1 units. A call comes
+/// with a chance of 3/100, and frames of one to `frame` units follow, each damaged with 1/10 and then sent again. Clock 0 is the time
+/// since it woke, clock 1 the time in the present frame, clock 2 the time since a frame last came through: after more than `lost` units it
+/// listens for a whole cycle.
+fn duty_cycle(cycle: u8, frame: u8, lost: u8) -> Model {
+    let [listen, asleep, receive, search] = [0, 1, 2, 3];
+    let mut model = Model::new(3, &[1, 0, 2, 1]);
+    model.invariant(listen, 0, AT_MOST, 1);
+    model.invariant(asleep, 0, AT_MOST, cycle + 1);
+    model.invariant(receive, 1, AT_MOST, frame);
+    model.invariant(search, 0, AT_MOST, cycle);
+    let again = mask(&[1]);
+    let afresh = mask(&[0, 1]);
+    model.edge(asleep, 1, &[(0, AT_LEAST, cycle), (2, AT_MOST, lost)], &[(1, listen, afresh)]);
+    model.edge(asleep, 1, &[(0, AT_LEAST, cycle), (2, MORE, lost)], &[(1, search, afresh)]);
+    model.edge(listen, 2, &[(0, EQUAL, 1)], &[(97, asleep, 0), (3, receive, again)]);
+    model.edge(search, 2, &[(0, EQUAL, cycle)], &[(9, asleep, again), (1, receive, again)]);
+    model.edge(receive, 3, &[(1, AT_LEAST, 1), (0, LESS, cycle)], &[(9, asleep, mask(&[1, 2])), (1, receive, again)]);
+    model.edge(receive, 3, &[(1, AT_LEAST, 1), (0, AT_LEAST, cycle)], &[(9, listen, mask(&[0, 1, 2])), (1, receive, again)]);
+    model
+}
+
+/// A station that waits for a random number of slots, looks for one slot whether the channel is clear (7/10), and then sends for two or
+/// three. After a busy channel or a collision (1/20) it waits anew, in each stage for up to twice as many slots as in the one before and
+/// for at most eight. A frame older than `age` slots is dropped. Clock 0 is the time in the present phase, clock 1 the frame's age.
+fn carrier_sense(stages: u8, age: u8) -> Model {
+    let waits = |stage: u8| (2 << stage).min(8);
+    // Location 0 has no frame. A stage has its waits, by their length, and then the look and the sending.
+    let first = |stage: u8| (0..stage).map(|before| waits(before) + 2).sum::<u8>() + 1;
+    let mut labels = vec![0];
+    for stage in 0..stages {
+        labels.extend(vec![1; usize::from(waits(stage))]);
+        labels.extend([2, 3]);
+    }
+    let mut model = Model::new(2, &labels);
+    let begin: Vec<Branch> = (0..waits(0)).map(|wait| (1, first(0) + wait, 3)).collect();
+    model.edge(0, 1, &[], &begin);
+    for stage in 0..stages {
+        let look = first(stage) + waits(stage);
+        let send = look + 1;
+        let later = (stage + 1).min(stages - 1);
+        for wait in 0..waits(stage) {
+            let location = first(stage) + wait;
+            model.invariant(location, 0, AT_MOST, wait + 1);
+            model.edge(location, 2, &[(0, EQUAL, wait + 1)], &[(1, look, 1)]);
+        }
+        model.invariant(look, 0, AT_MOST, 1);
+        model.invariant(send, 0, AT_MOST, 3);
+        // One good outcome, and with weight 3 each of the waits to come; but an edge has no more than eight branches.
+        let waits_to_come = waits(later).min(7);
+        let or_wait = |weight: u16, target: u8, mask: u8| -> Vec<Branch> {
+            let wait = |wait: u8| (3, first(later) + wait, 1);
+            let good = (weight * u16::from(waits_to_come), target, mask);
+            std::iter::once(good).chain((0..waits_to_come).map(wait)).collect()
+        };
+        model.edge(look, 3, &[(0, EQUAL, 1), (1, AT_MOST, age)], &or_wait(7, send, 1));
+        model.edge(look, 4, &[(0, EQUAL, 1), (1, MORE, age)], &[(1, 0, 3)]);
+        model.edge(send, 5, &[(0, AT_LEAST, 2)], &or_wait(57, 0, 3));
+    }
+    model
+}
+
+/// A sensor that moves between base stations in a ring and hears a beacon of its station every two units. The link is good, weak or gone;
+/// from a weak one it may change to the next station once it has stayed for `stay` units, and gives the station up after eight units
+/// without a good link. Clock 0 is the time since the beacon, clock 1 the stay, clock 2 the time since the link was good.
+fn handover(stations: u8, stay: u8) -> Model {
+    let mut labels = vec![0];
+    labels.extend([1, 2, 3].repeat(stations.into()));
+    let mut model = Model::new(3, &labels);
+    let search = 0;
+    model.invariant(search, 0, AT_MOST, 4);
+    let good = |station: u8| 1 + 3 * (station % stations);
+    let found: Vec<Branch> = (0..stations.min(8)).map(|station| (1, good(station), 7)).collect();
+    model.edge(search, 4, &[(0, AT_LEAST, 2)], &found);
+    for station in 0..stations {
+        let [here, weak, change] = [0, 1, 2].map(|part| good(station) + part);
+        model.invariant(here, 0, AT_MOST, 2);
+        model.invariant(weak, 0, AT_MOST, 2);
+        model.invariant(change, 0, AT_MOST, 1);
+        let beacon = [(0, EQUAL, 2)];
+        model.edge(here, 1, &beacon, &[(90, here, mask(&[0, 2])), (9, weak, mask(&[0, 2])), (1, search, 7)]);
+        model.edge(weak, 1, &beacon, &[(40, here, mask(&[0, 2])), (50, weak, mask(&[0])), (10, search, 7)]);
+        model.edge(weak, 2, &[(1, AT_LEAST, stay)], &[(1, change, mask(&[0]))]);
+        model.edge(weak, 5, &[(2, AT_LEAST, 8)], &[(1, search, 7)]);
+        model.edge(change, 3, &[(0, EQUAL, 1)], &[(19, good(station + 1), 7), (1, search, 7)]);
+    }
+    model
+}
+
+/// Equal tags on one channel that do not listen to each other, a clock each. A tag sleeps for one unit to `sleep`, then sends for `send`
+/// units with a chance of 1/4 or sleeps again. A location is a set of senders; its label is how many there are, at most 2.
+fn tags(tags: u8, sleep: u8, send: u8) -> Model {
+    let sets = 1 << tags;
+    let labels: Vec<u8> = (0..sets).map(|senders: u8| senders.count_ones().min(2) as u8).collect();
+    let mut model = Model::new(tags, &labels);
+    for senders in 0..sets {
+        for tag in 0..tags {
+            let own = mask(&[tag]);
+            if senders & own == 0 {
+                model.invariant(senders, tag, LESS, sleep);
+                model.edge(senders, 1, &[(tag, AT_LEAST, 1)], &[(1, senders | own, own), (3, senders, own)]);
+            } else {
+                model.invariant(senders, tag, AT_MOST, send);
+                model.edge(senders, 2, &[(tag, EQUAL, send)], &[(1, senders - own, own)]);
+            }
+        }
+    }
+    model
+}
+
+/// A source of chance: the steps of a linear congruence, of which the high bits are taken.
+struct Chance(u64);
+
+impl Chance {
+    fn below(&mut self, bound: u8) -> u8 {
+        self.0 = self.0.wrapping_mul(6_364_136_223_846_793_005).wrapping_add(1_442_695_040_888_963_407);
+        ((self.0 >> 33) % u64::from(bound)) as u8
+    }
+}
+
+/// A model by chance: each edge has up to two guard atoms and one to four branches, each location a bound on one clock. The
+/// seeds are chosen so that there are close to 4,096 regions.
+fn random(seed: u64, clocks: u8, locations: u8, edges: u8, largest: u8) -> Model {
+    let mut chance = Chance(seed);
+    let labels: Vec<u8> = (0..locations).map(|_| chance.below(2)).collect();
+    let mut model = Model::new(clocks, &labels);
+    for location in 0..locations {
+        model.invariant(location, chance.below(clocks), AT_MOST, 1 + chance.below(largest));
+    }
+    for edge in 0..edges {
+        let guards: Vec<Guard> = (0..chance.below(3)).map(|_| (chance.below(clocks), chance.below(5), chance.below(largest + 1))).collect();
+        let branches: Vec<Branch> = (0..1 + chance.below(4))
+            .map(|_| (1 + u16::from(chance.below(3)), chance.below(locations), chance.below(1 << clocks)))
+            .collect();
+        model.edge(edge % locations, chance.below(3), &guards, &branches);
+    }
+    model
+}
+
+/// Stations that are all alike: from location 0 a call goes to one of them, which answers after one to `wait` units or is tried again.
+/// Their regions share blocks, and so do those that differ in clock 1, the time since the last answer, which nothing reads.
+fn alike_stations(stations: u8, wait: u8) -> Model {
+    let mut labels = vec![0];
+    labels.extend(vec![1; stations.into()]);
+    let mut model = Model::new(2, &labels);
+    let numbers: Vec<u8> = (1..=stations).collect();
+    for group in numbers.chunks(8) {
+        let branches: Vec<Branch> = group.iter().map(|&station| (1, station, 1)).collect();
+        model.edge(0, 1, &[(0, AT_LEAST, 1)], &branches);
+    }
+    for station in 1..=stations {
+        model.invariant(station, 0, AT_MOST, wait);
+        model.edge(station, 2, &[(0, AT_LEAST, 1)], &[(9, 0, 3), (1, station, 1)]);
+    }
+    model
+}
+
+/// A counter that ticks: at `source` clock 0 runs from 0 to 1 and is then reset, and clock i + 1 is reset with it where it has come to
+/// `periods[i]`. No two periods have a common divisor, so that all clocks are full at once only after as many ticks as the product of the
+/// periods: there the counter stops. A tick has three regions: clock 0 at 0, between 0 and 1, and at 1.
+///
+/// `edges` adds the edges of one way to tick, given its guards and the mask of its resets.
+fn counter(model: &mut Model, source: u8, periods: &[u8], mut edges: impl FnMut(&mut Model, &[Guard], u8)) {
+    model.invariant(source, 0, AT_MOST, 1);
+    let all = (1 << periods.len()) - 1;
+    for full in 0..all {
+        let mut guards = vec![(0, EQUAL, 1)];
+        for (clock, &period) in (1..).zip(periods) {
+            let comparison = if full >> (clock - 1) & 1 == 1 { EQUAL } else { LESS };
+            guards.push((clock, comparison, period));
+        }
+        edges(model, &guards, full << 1 | 1);
+    }
+}
+
+/// One region is split off in each round. Locations follow each other in no time, each one region; the last one ticks, and the counter
+/// tells the passes apart. All regions look alike but the very last, so that each is told from the others only once the next one has been.
+/// Between ticks an edge leads back to region 0, which is the last to be split off.
+fn chain(locations: u8, periods: [u8; 2]) -> Model {
+    let last = locations - 1;
+    let mut model = Model::new(3, &vec![0; locations.into()]);
+    for location in 0..last {
+        model.invariant(location, 0, AT_MOST, 0);
+        model.edge(location, 0, &[], &[(1, location + 1, 0)]);
+    }
+    model.edge(last, 0, &[(0, LESS, 1)], &[(1, 0, 7)]);
+    counter(&mut model, last, &periods, |model, guards, mask| model.edge(last, 0, guards, &[(1, 0, mask)]));
+    model
+}
+
+/// A location for branches that lead nowhere: one region, of another label.
+fn add_end(model: &mut Model, end: u8) {
+    model.invariant(end, 0, AT_MOST, 0);
+}
+
+/// A counter at one location with nearly as many edges and branches as there may be: at the end of a tick a region has `copies` edges of
+/// eight branches, all with the same action, which lead on and to an end with different shares. Two ticks part only when the ticks after
+/// them have; until then each edge has to be held against those of the other region until the one with the same shares is found.
+fn wide_chain(periods: [u8; 3], copies: u16) -> Model {
+    let mut model = Model::new(4, &[0, 1]);
+    add_end(&mut model, 1);
+    counter(&mut model, 0, &periods, |model, guards, mask| {
+        for copy in 0..copies {
+            let [on, end] = [(10 + copy, 0, mask), (50 - copy, 1, 15)];
+            model.edge(0, 0, guards, &[on, end, on, end, on, end, on, end]);
+        }
+    });
+    model
+}
+
+/// The same with large weights: each way to tick has its own denominator, so that equal shares are equal only by their cross products.
+fn cross_products(periods: [u8; 3], copies: u16) -> Model {
+    let mut model = Model::new(4, &[0, 1]);
+    add_end(&mut model, 1);
+    counter(&mut model, 0, &periods, |model, guards, mask| {
+        let times = 1000 - u16::from(mask);
+        for copy in 0..copies {
+            model.edge(0, 0, guards, &[((10 + copy) * times, 0, mask), ((50 - copy) * times, 1, 15)]);
+        }
+    });
+    model
+}
+
+/// A counter that does not stop, with `edges` edges of one action and different shares at the end of each tick, where any two regions are
+/// compared edge by edge. The tick at which clocks 2 and 3 are both full has another action; what clock 1 says does not matter, so that
+/// regions with all its values share blocks.
+fn equal_actions(periods: [u8; 3], edges: u16) -> Model {
+    let mut model = Model::new(4, &[0, 1]);
+    add_end(&mut model, 1);
+    for edge in 1..=edges {
+        model.edge(0, 0, &[(0, EQUAL, 1)], &[(edge, 0, 15), (1000 - edge, 1, 15)]);
+    }
+    let told = mask(&[2, 3]);
+    counter(&mut model, 0, &periods, |model, guards, mask| {
+        model.edge(0, u8::from(mask & told == told), guards, &[(1, 0, mask)]);
+    });
+    let full: Vec<Guard> = (1..).zip(periods).map(|(clock, period)| (clock, EQUAL, period)).collect();
+    model.edge(0, 1, &full, &[(1, 0, 15)]);
+    model
+}
+
+/// A counter's model with eight ends of different labels. `edges` edges lead to all of them under these guards; they have one action and
+/// differ among themselves only in the shares of the last two ends.
+fn with_ends(edges: u16, guards: &[Guard]) -> Model {
+    let ends = 1..=8;
+    let mut model = Model::new(4, &[0, 1, 2, 3, 4, 5, 6, 7, 8]);
+    ends.clone().for_each(|end| add_end(&mut model, end));
+    for edge in 1..=edges {
+        let weight = |end| match end {
+            7 => edge,
+            8 => 1000 - edge,
+            _ => 10,
+        };
+        let branches: Vec<Branch> = ends.clone().map(|end| (weight(end), end, 15)).collect();
+        model.edge(0, 0, guards, &branches);
+    }
+    model
+}
+
+/// A counter in which the beginning of each tick is told from all others in round 1, by an edge for each value of each clock, and its end
+/// in round 2, by where its last edge leads; the `edges` edges before that one are the same everywhere. Hundreds of thousands of pairs
+/// are then compared in one round, and differ only in the last edge.
+fn last_edge(periods: [u8; 3], edges: u16) -> Model {
+    let mut model = with_ends(edges, &[(0, EQUAL, 1)]);
+    let values = (1..).zip(periods).flat_map(|(clock, period)| (0..period).map(move |value| (clock, value)));
+    for (action, (clock, value)) in (1..).zip(values) {
+        model.edge(0, action, &[(0, EQUAL, 0), (clock, EQUAL, value)], &[(1, 0, 15)]);
+    }
+    counter(&mut model, 0, &periods, |model, guards, mask| model.edge(0, 0, guards, &[(1, 0, mask)]));
+    model
+}
+
+/// All of it at once: a counter of thousands of rounds, and at every region `edges` edges that have to be compared one by one, down to
+/// their last branch.
+fn slowest(periods: [u8; 3], edges: u16) -> Model {
+    let mut model = with_ends(edges, &[]);
+    counter(&mut model, 0, &periods, |model, guards, mask| model.edge(0, 0, guards, &[(1, 0, mask)]));
+    model
+}
+
+/// Long delays: four clocks with four different fractions pass through 129 regions until all are above M, which is 15. There are `chains`
+/// locations with such a chain, and a counter for thousands of rounds; from seven places of each chain an edge leads to different places
+/// of the counter, so that the blocks reached by delay change through all rounds.
+fn long_delays(periods: [u8; 3], chains: u8) -> Model {
+    let [begin, second, third, tick, first] = [0, 1, 2, 3, 4];
+    let mut model = Model::new(4, &vec![0; usize::from(first + chains)]);
+    // One clock after the other is reset within one unit, so that no two have the same fraction.
+    for location in [begin, second, third] {
+        model.invariant(location, 0, LESS, 1);
+    }
+    model.edge(begin, 0, &[(0, MORE, 0)], &[(1, second, mask(&[1]))]);
+    model.edge(second, 0, &[(1, MORE, 0)], &[(1, third, mask(&[2]))]);
+    let into: Vec<Branch> = (0..chains).map(|chain| (1, first + chain, mask(&[3]))).collect();
+    for branches in into.chunks(8) {
+        model.edge(third, 0, &[(2, MORE, 0)], branches);
+    }
+    for chain in 0..chains {
+        for number in 0..7 {
+            let clock = 1 + (chain + number) % 3;
+            let value = (chain + 3 * number) % periods[usize::from(clock - 1)];
+            model.edge(first + chain, 0, &[(clock, EQUAL, value)], &[(1, tick, 15 - mask(&[clock]))]);
+        }
+    }
+    counter(&mut model, tick, &periods, |model, guards, mask| model.edge(tick, 0, guards, &[(1, tick, mask)]));
+    model
+}
