@@ -66,6 +66,19 @@ pub enum What {
     Judge { proposal: Vec<u64> },
 }
 
+impl What {
+    /// The place of the call in tables of calls: graph, place, reduce, pair, judge.
+    pub fn call(&self) -> usize {
+        match self {
+            What::Graph => 0,
+            What::Place { .. } => 1,
+            What::Reduce { .. } => 2,
+            What::Pair { .. } => 3,
+            What::Judge { .. } => 4,
+        }
+    }
+}
+
 /// A call: the table, how many bytes are lent for entries, and what is asked.
 #[derive(Clone, Debug)]
 pub struct Ask {

@@ -49,7 +49,7 @@ pub fn summary(seed: u64, count: u64) -> String {
     for number in 0..count {
         let ask = asks::ask(seed, number);
         let answer = answered(&ask);
-        met[answer.refusal as usize][call_of(&ask.what)] += 1;
+        met[answer.refusal as usize][ask.what.call()] += 1;
         let graph = calls::graph(&ask.table, &mut vec![0; ask.entries]);
         if graph.refusal == 0 {
             regions.note(graph.value);
@@ -71,16 +71,6 @@ pub fn summary(seed: u64, count: u64) -> String {
     }
     text.push_str(&(regions.text() + &blocks.text() + &rounds.text()));
     text + &format!("pairs that share a block: {sharing}\n")
-}
-
-fn call_of(what: &What) -> usize {
-    match what {
-        What::Graph => 0,
-        What::Place { .. } => 1,
-        What::Reduce { .. } => 2,
-        What::Pair { .. } => 3,
-        What::Judge { .. } => 4,
-    }
 }
 
 /// The answer to an ask.

@@ -18,23 +18,13 @@ pub struct Tally {
     largest: u64,
 }
 
-fn kind(what: &What) -> usize {
-    match what {
-        What::Graph => 0,
-        What::Place { .. } => 1,
-        What::Reduce { .. } => 2,
-        What::Pair { .. } => 3,
-        What::Judge { .. } => 4,
-    }
-}
-
 pub fn name(what: &What) -> &'static str {
-    KINDS[kind(what)]
+    KINDS[what.call()]
 }
 
 impl Tally {
     pub fn add(&mut self, what: &What, answer: Answer, parts: u64) {
-        self.calls[kind(what)][answer.refusal as usize] += 1;
+        self.calls[what.call()][answer.refusal as usize] += 1;
         self.parts += parts;
         if matches!(what, What::Graph | What::Reduce { .. }) {
             self.largest = self.largest.max(answer.value);
