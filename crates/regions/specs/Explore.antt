@@ -230,6 +230,12 @@ module _ {A : Type 0} (g : A → List Region) (l : List A) (i : ℕ) (d : A) whe
         ∙ met-on cap n k (gather g (take i l)) (g (getD l i d)) es es′ es″ met all one
         ∙ ap (λ b. foundOf b (listed es″ (met .count))) room
 
+    -- Item i gives nothing.
+    pub loop-past : i < length l → g (getD l i d) ≡ []
+        → AllMet cap n (gather g (take (i + 1) l)) es es′ (record { full = false; count = k })
+    loop-past h nothing =
+        loop-on h es′ (record { full = false; count = k }) refl (ap (meet sameRegion cap (listed es′ k)) nothing)
+
     -- There was no room for what item i gives.
     pub loop-full : i < length l → (es″ : List ℕ) (met : Met) → met .full ≡ true → AllMet cap k (g (getD l i d)) es′ es″ met
         → AllMet cap n (gather g l) es es″ met

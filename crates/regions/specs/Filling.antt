@@ -63,6 +63,29 @@ pub record RowTo (e : Edge) (at i : ℕ) (rows : List ℕ) : Type 0 where
 abbrev pub RowsTo : Model → ℕ → List ℕ → Type 0
 RowsTo m k rows = (e : ℕ) → e < k → RowTo (edgeOf m e) (32 * e) (length (edgeOf m e .branches)) rows
 
+-- ---- Masks in use
+
+-- A mask is in use with the first k rows: 0, or the mask of a branch of one of them.
+pub data InUse (rows : List ℕ) (k : ℕ) : ℕ → Type 0 where
+  no-reset : InUse rows k 0
+  by-branch : (e i : ℕ) → e < k → i < getD rows (32 * e + 2) 0 → InUse rows k (getD rows (32 * e + 4 + 3 * i) 0)
+
+-- Flags that are set stay set, and the length.
+pub record Still (l l′ : List ℕ) : Type 0 where
+  pub as-long : length l′ ≡ length l
+  pub kept : (k : ℕ) → getD l k 0 ≡ 1 → getD l′ k 0 ≡ 1
+
+-- The masks of the first i branches of the row at a place are flagged, where there is room for them.
+abbrev pub RowFlagged : (rows : List ℕ) → (at i : ℕ) → (used : List ℕ) → Type 0
+RowFlagged rows at i used =
+    (j : ℕ) → j < i → getD rows (at + 4 + 3 * j) 0 < length used → getD used (getD rows (at + 4 + 3 * j) 0) 0 ≡ 1
+
+-- The masks in use are flagged.
+pub record Flagged (rows : List ℕ) (k : ℕ) (used : List ℕ) : Type 0 where
+  pub as-long : length used ≡ 16
+  pub first : getD used 0 0 ≡ 1
+  pub row : (e : ℕ) → e < k → RowFlagged rows (32 * e) (getD rows (32 * e + 2) 0) used
+
 -- ---- Sets of clocks
 
 -- The clocks of a region, at location 0.
@@ -113,8 +136,9 @@ Numbers bounds r sets count mask v =
     (j : ℕ) → j < count → regionAt sets j ≡ bare (afterReset bounds r mask)
     → (v < count) × (regionAt sets v ≡ bare (afterReset bounds r mask))
 
--- The region with the clocks of region x after a reset is found in two steps.
-abbrev pub Targeted : List ℕ → ℕ → Bounds → (resets spots : List ℕ) → Type 0
-Targeted es n bounds resets spots =
-    (x mask t : ℕ) → x < n → mask < 16 → t < n → bare (regionAt es t) ≡ bare (afterReset bounds (regionAt es x) mask)
+-- The region with the clocks of region x after a reset by a mask in use is found in two steps.
+abbrev pub Targeted : List ℕ → ℕ → Bounds → (rows : List ℕ) → (k : ℕ) → (resets spots : List ℕ) → Type 0
+Targeted es n bounds rows k resets spots =
+    (x mask t : ℕ) → x < n → mask < 16 → InUse rows k mask → t < n
+    → bare (regionAt es t) ≡ bare (afterReset bounds (regionAt es x) mask)
     → getD spots (64 * getD resets (16 * x + mask) 0 + regionAt es t .location) 0 ≡ t

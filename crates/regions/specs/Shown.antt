@@ -1,11 +1,13 @@
--- The graph in slices, as the layer above goes by it: for each region its label, its delay region by number, and which edges are
--- available; for each edge a row with its action, its denominator and its branches. The target of a branch is found in two steps:
--- `resets` holds what the clocks of a region become under a mask, as the number of a set of clocks, and `spots` the number of the
--- region with those clocks at a location. How sets of clocks are numbered, and what stands past the last region, edge or branch and
--- for masks and locations that no available edge uses, is a choice of the code; what every choice has in common is said here.
-use Prim.Native.Nat.{ℕ, _+_, _*_, _≤_, _<_}
+-- The graph in slices, as the layer above goes by it: for each region its label, its delay region by number, and its available
+-- edges; for each edge a row with its action, its denominator and its branches. Of the available edges `flags` holds at each edge the
+-- number after the last one up to and with it: who starts at the last edge goes from one available edge to the one before, and meets no
+-- other. The target of a branch is found in two steps: `resets` holds what the clocks of a region become under a mask, as the number of
+-- a set of clocks, and `spots` the number of the region with those clocks at a location. How sets of clocks are numbered, and what
+-- stands past the last region, edge or branch and for masks and locations that no available edge uses, is a choice of the code; what
+-- every choice has in common is said here.
+use Prim.Native.Nat.{ℕ, zero, suc, _+_, _*_, _≤_, _<_}
 use mathlib.Core.Path.{_≡_}
-use mathlib.Core.Bool.{true, cond}
+use mathlib.Core.Bool.{Bool, true, cond}
 use mathlib.Core.List.{List, [], _∷_}
 use lib.Dec.{ltb}
 use lib.ListN.{length, getD}
@@ -38,6 +40,11 @@ followers size next = cond (ltb next size) (next ∷ []) []
 abbrev pub shownRegion : Model → List Region → ℕ → Region
 shownRegion m found x = getD found x (first m)
 
+-- The number after the last of the numbers below e that pass, and 0 where none does.
+unfoldable pub openBelow : (ℕ → Bool) → ℕ → ℕ
+openBelow p zero = 0
+openBelow p (suc e) = cond (p e) (suc e) (openBelow p e)
+
 -- Branch i of edge e.
 abbrev pub branchOf : Model → (e i : ℕ) → Branch
 branchOf m e i = getD (edgeOf m e .branches) i noBranch
@@ -46,7 +53,7 @@ pub record Shown (m : Model) (found : List Region) (labels nexts flags resets sp
   pub label : (x : ℕ) → x < length found → getD labels x 0 ≡ labelOf m (shownRegion m found x)
   pub delay : (x : ℕ) → x < length found → delayNumbers m found (shownRegion m found x) ≡ followers (length found) (getD nexts x 0)
   pub flag : (x e : ℕ) → x < length found → e < length (m .edges)
-      → getD flags (flagRoom * x + e) 0 ≡ cond (available m (edgeOf m e) (shownRegion m found x)) 1 0
+      → getD flags (flagRoom * x + e) 0 ≡ openBelow (λ f. available m (edgeOf m f) (shownRegion m found x)) (suc e)
   pub action : (e : ℕ) → e < length (m .edges) → getD rows (rowRoom * e) 0 ≡ edgeOf m e .action
   pub whole : (e : ℕ) → e < length (m .edges) → getD rows (rowRoom * e + 1) 0 ≡ edgeOf m e .denominator
   pub count : (e : ℕ) → e < length (m .edges) → getD rows (rowRoom * e + 2) 0 ≡ length (edgeOf m e .branches)

@@ -1,15 +1,17 @@
 // Sets of clocks by number: a list of entries of their own, as regions at location 0. Where a branch leads is found by the set of
-// clocks after its reset, and its location.
+// clocks after its reset, and its location. Only masks that the model uses are looked up, since each costs a reset of every region.
 ghost use Prim.Native.Nat.{ℕ, _+_, _*_, _≤_, _<_};
 ghost use mathlib.Core.Path.{_≡_};
-ghost use lib.ListN.{length};
+ghost use lib.ListN.{length, getD};
 ghost use Rattle.regions.specs.Entries.{entryBytes, maxEntries, regionAt};
 ghost use Rattle.regions.specs.Index.{Index};
-ghost use Rattle.regions.specs.Filling.{Run, Blocks, Before, bare, Distinct, Classed, Grouped, SetRoom, Numbers, Targeted};
+ghost use Rattle.regions.specs.Filling.{Run, Blocks, Before, Still, RowFlagged, Flagged};
+ghost use Rattle.regions.specs.Filling.{bare, Distinct, Classed, Grouped, SetRoom, Numbers, Targeted};
 use crate::entry::read_entry;
 use crate::index::Lookup;
 use crate::index::add;
 use crate::index::find;
+use crate::slices::load;
 use crate::slices::store;
 use clocks::Bounds;
 use clocks::Region;
@@ -99,7 +101,35 @@ fn reset_number(
     }
 }
 
-// These numbers for all masks, from a place on.
+// Flags the masks of the branches of an edge, by its row.
+fn flag_row(rows: &[u16], at: usize, used: &mut [u16])
+    requires { ⌜ at ≤ 128 * 32 ⌝ }
+    ensures { λ _. ⌜ Still (now (used .entry)) (now (used .exit)) ⌝ }
+    ensures { λ _. ⌜ RowFlagged (now (rows .entry)) at (getD (now (rows .entry)) (at + 2) 0) (now (used .exit)) ⌝ }
+{
+    let count = load(rows, at + 2);
+    let mut i = 0;
+    while i < count {
+        let mask = load(rows, at + 4 + 3 * i);
+        store(used, mask, 1);
+        i = i + 1;
+    }
+}
+
+// Flags the masks in use: those of all branches, and 0, under which the layer above finds the clocks of a region as they are.
+fn flag_masks(rows: &[u16], edges: usize, used: &mut [u16])
+    requires { ⌜ (edges ≤ 128) × (length (now used) ≡ 16) ⌝ }
+    ensures { λ _. ⌜ Flagged (now (rows .entry)) edges (now (used .exit)) ⌝ }
+{
+    store(used, 0, 1);
+    let mut e = 0;
+    while e < edges {
+        flag_row(rows, 32 * e, used);
+        e = e + 1;
+    }
+}
+
+// These numbers for the masks in use, from a place on.
 fn number_masks(
     bounds: Bounds,
     r: Region,
@@ -108,17 +138,22 @@ fn number_masks(
     links: &[u16],
     count: usize,
     base: usize,
+    used: &[u16],
     resets: &mut [u16],
 )
     requires { ⌜ Index (now sets) (now heads) (now links) count ⌝ }
     requires { ⌜ base + 16 ≤ length (now resets) ⌝ }
     ensures { λ _. ⌜ Before base (now (resets .entry)) (now (resets .exit)) ⌝ }
-    ensures { λ _. ⌜ Run base 16 (λ mask v. Numbers bounds r (now (sets .entry)) count mask v) (now (resets .exit)) ⌝ }
+    ensures { λ _. ⌜ Run base 16 (λ mask v. getD (now (used .entry)) mask 0 ≡ 1 → Numbers bounds r (now (sets .entry)) count mask v)
+        (now (resets .exit)) ⌝ }
 {
     let mut mask = 0u8;
     while mask < 16 {
-        let number = reset_number(bounds, r, mask, sets, heads, links, count);
-        store(resets, base + (mask as usize), number);
+        let k = mask as usize;
+        if load(used, k) == 1 {
+            let number = reset_number(bounds, r, mask, sets, heads, links, count);
+            store(resets, base + k, number);
+        }
         mask = mask + 1;
     }
 }
@@ -132,17 +167,18 @@ fn show_resets(
     heads: &[u16],
     links: &[u16],
     count: usize,
+    used: &[u16],
     resets: &mut [u16],
 )
     requires { ⌜ Index (now sets) (now heads) (now links) count ⌝ }
     requires { ⌜ (n ≤ maxEntries) × (4096 * 16 ≤ length (now resets)) ⌝ }
-    ensures { λ _. ⌜ Blocks 16 16 n (λ x mask v. Numbers bounds (regionAt (now (entries .entry)) x) (now (sets .entry)) count mask v)
-        (now (resets .exit)) ⌝ }
+    ensures { λ _. ⌜ Blocks 16 16 n (λ x mask v. getD (now (used .entry)) mask 0 ≡ 1
+        → Numbers bounds (regionAt (now (entries .entry)) x) (now (sets .entry)) count mask v) (now (resets .exit)) ⌝ }
 {
     let mut x = 0;
     while x < n {
         let r = read_entry(entries, x);
-        number_masks(bounds, r, sets, heads, links, count, 16 * x, resets);
+        number_masks(bounds, r, sets, heads, links, count, 16 * x, used, resets);
         x = x + 1;
     }
 }
@@ -152,16 +188,30 @@ pub(crate) fn show_targets(
     bounds: Bounds,
     entries: &[u8],
     n: usize,
+    rows: &[u16],
+    edges: usize,
     resets: &mut [u16],
     spots: &mut [u16],
 )
-    requires { ⌜ (n ≤ maxEntries) × (4096 * 16 ≤ length (now resets)) × (4096 * 64 ≤ length (now spots)) ⌝ }
+    requires { ⌜ (n ≤ maxEntries) × (4096 * 16 ≤ length (now resets)) × (4096 * 64 ≤ length (now spots)) × (edges ≤ 128) ⌝ }
     ensures { λ _. ⌜ (Distinct (now (entries .entry)) n
-        → Targeted (now (entries .entry)) n bounds (now (resets .exit)) (now (spots .exit))) ⌝ }
+        → Targeted (now (entries .entry)) n bounds (now (rows .entry)) edges (now (resets .exit)) (now (spots .exit))) ⌝ }
 {
     let mut sets = [0u8; 36864];
     let mut heads = [0u16; 4096];
     let mut links = [0u16; 4096];
     let count = list_sets(entries, n, &mut sets, &mut heads, &mut links, spots);
-    show_resets(bounds, entries, n, &sets, &heads, &links, count, resets);
+    let mut used = [0u16; 16];
+    flag_masks(rows, edges, &mut used);
+    show_resets(
+        bounds,
+        entries,
+        n,
+        &sets,
+        &heads,
+        &links,
+        count,
+        &used,
+        resets,
+    );
 }

@@ -165,7 +165,7 @@ fn meet_delay(
     meet_one(q, n, cap, entries, heads, nexts)
 }
 
-// The targets of all available edges are met, in table order.
+// The targets of all available edges are met, in table order. (Most edges start at another location: these are passed at once.)
 fn meet_edges(
     bytes: &[u8],
     shape: Shape,
@@ -188,28 +188,31 @@ fn meet_edges(
         → AllMet cap n (gather (edgeNext m r) (m .edges)) (now (entries .entry)) (now (entries .exit)) met) ⌝ }
 {
     let edges = shape.edges;
+    let location = r.location as usize;
     let mut listed = n;
     let mut i = 0;
     while i < edges {
-        let place = table::number_at(places, i);
         let source = table::number_at(sources, i);
-        let met = meet_edge(
-            bytes,
-            limits,
-            place,
-            source,
-            bounds,
-            r,
-            listed,
-            cap,
-            entries,
-            heads,
-            nexts,
-        );
-        if met.full {
-            return met;
+        if source == location {
+            let place = table::number_at(places, i);
+            let met = meet_edge(
+                bytes,
+                limits,
+                place,
+                source,
+                bounds,
+                r,
+                listed,
+                cap,
+                entries,
+                heads,
+                nexts,
+            );
+            if met.full {
+                return met;
+            }
+            listed = met.count;
         }
-        listed = met.count;
         i = i + 1;
     }
     Met {

@@ -1,7 +1,6 @@
 // Labels, delay regions and available edges of the regions of a graph, stored in slices.
-ghost use Prim.Native.Nat.{ℕ, _+_, _*_, _≤_, _<_};
+ghost use Prim.Native.Nat.{ℕ, suc, _+_, _*_, _≤_, _<_};
 ghost use mathlib.Core.Path.{_≡_};
-ghost use mathlib.Core.Bool.{cond};
 ghost use lib.ListN.{getD, length};
 ghost use Rattle.table.specs.Model.{Model};
 ghost use Rattle.table.specs.Reading.{readTable, accepted};
@@ -13,7 +12,7 @@ ghost use Rattle.regions.specs.Entries.{entryBytes, maxEntries, regionAt
 ghost use Rattle.regions.specs.Index.{Index};
 ghost use Rattle.regions.specs.Explore.{listed};
 ghost use Rattle.regions.specs.View.{labelOf, delayNumbers};
-ghost use Rattle.regions.specs.Shown.{followers};
+ghost use Rattle.regions.specs.Shown.{followers, openBelow};
 ghost use Rattle.regions.specs.Filling.{Run, Blocks, Before};
 ghost use Rattle.regions.specs.Laws.Call.{AllRegions};
 use crate::entry::read_entry;
@@ -22,7 +21,6 @@ use crate::index::Lookup;
 use crate::index::find;
 use crate::index::link_entry;
 use crate::limits::meets_invariant;
-use crate::slices::mark;
 use crate::slices::store;
 use clocks::Bounds;
 use clocks::Region;
@@ -132,7 +130,8 @@ pub(crate) fn show_delays(
     show_nexts(limits, bounds, entries, &heads, &links, n, nexts);
 }
 
-// Which edges are available at a region, from a place on.
+// The available edges of a region, from a place on: at each edge the number after the last one up to and with it. (Most edges start
+// at another location: these are passed at once.)
 fn mark_edges(
     bytes: &[u8],
     limits: &[u16],
@@ -144,23 +143,29 @@ fn mark_edges(
     base: usize,
     flags: &mut [u8],
 )
-    requires { ⌜ base + edges ≤ length (now flags) ⌝ }
+    requires { ⌜ (edges ≤ 128) × (base + edges ≤ length (now flags)) ⌝ }
     ensures { λ _. ⌜ Before base (now (flags .entry)) (now (flags .exit)) ⌝ }
     ensures { λ _. ⌜ ((m : Model) → readTable (now (bytes .entry)) ≡ accepted m → Limited m (now (limits .entry))
         → Arrays m (now (places .entry)) (now (sources .entry)) → bounds ≡ boundsOf m → edges ≡ length (m .edges)
-        → Run base edges (λ e v. v ≡ cond (available m (edgeOf m e) r) 1 0) (now (flags .exit))) ⌝ }
+        → Run base edges (λ e v. v ≡ openBelow (λ f. available m (edgeOf m f) r) (suc e)) (now (flags .exit))) ⌝ }
 {
+    let location = r.location as usize;
+    let mut last = 0u8;
     let mut e = 0;
     while e < edges {
-        let place = table::number_at(places, e);
         let source = table::number_at(sources, e);
-        let fits = is_available(bytes, limits, place, source, bounds, r);
-        mark(flags, base + e, fits);
+        if source == location {
+            let place = table::number_at(places, e);
+            if is_available(bytes, limits, place, source, bounds, r) {
+                last = (e + 1) as u8;
+            }
+        }
+        flags[base + e] = last;
         e = e + 1;
     }
 }
 
-// Which edges are available at each of the first n entries.
+// The available edges of each of the first n entries.
 pub(crate) fn show_flags(
     bytes: &[u8],
     limits: &[u16],
@@ -175,7 +180,8 @@ pub(crate) fn show_flags(
     requires { ⌜ (n ≤ maxEntries) × (edges ≤ 128) × (4096 * 128 ≤ length (now flags)) ⌝ }
     ensures { λ _. ⌜ ((m : Model) → readTable (now (bytes .entry)) ≡ accepted m → Limited m (now (limits .entry))
         → Arrays m (now (places .entry)) (now (sources .entry)) → bounds ≡ boundsOf m → edges ≡ length (m .edges)
-        → Blocks 128 edges n (λ x e v. v ≡ cond (available m (edgeOf m e) (regionAt (now (entries .entry)) x)) 1 0) (now (flags .exit))) ⌝ }
+        → Blocks 128 edges n (λ x e v. v ≡ openBelow (λ f. available m (edgeOf m f) (regionAt (now (entries .entry)) x)) (suc e))
+        (now (flags .exit))) ⌝ }
 {
     let mut x = 0;
     while x < n {

@@ -1,7 +1,6 @@
 // The graph call for the layer above: it explores, and stores the graph in slices.
-ghost use Prim.Native.Nat.{ℕ, _*_, _≤_, _<_};
+ghost use Prim.Native.Nat.{ℕ, suc, _*_, _≤_, _<_};
 ghost use mathlib.Core.Path.{_≡_};
-ghost use mathlib.Core.Bool.{cond};
 ghost use mathlib.Core.List.{List};
 ghost use lib.ListN.{getD, length};
 ghost use Rattle.table.specs.Model.{Model};
@@ -12,7 +11,7 @@ ghost use Rattle.regions.specs.Graph.{available};
 ghost use Rattle.regions.specs.Explore.{listed};
 ghost use Rattle.regions.specs.View.{delayNumbers};
 ghost use Rattle.regions.specs.Call.{roomFor, whole, fromAnswer, outcomeOf, graphOf, entriesAfter};
-ghost use Rattle.regions.specs.Shown.{Shown, Roomy, followers};
+ghost use Rattle.regions.specs.Shown.{Shown, Roomy, followers, openBelow};
 ghost use Rattle.regions.specs.Filling.{Blocks, RowsTo};
 ghost use Rattle.regions.specs.Laws.Call.{AllRegions};
 ghost use Rattle.clocks.specs.declared.region.Region.{Region};
@@ -48,7 +47,8 @@ fn show_steps(
     ensures { λ _. ⌜ ((m : Model) → Reads (now (bytes .entry)) shape m → AllRegions m (listed (now (entries .entry)) n)
         → ((x : ℕ) → x < n
         → delayNumbers m (listed (now (entries .entry)) n) (regionAt (now (entries .entry)) x) ≡ followers n (getD (now (nexts .exit)) x 0))
-        × Blocks 128 (length (m .edges)) n (λ x e v. v ≡ cond (available m (edgeOf m e) (regionAt (now (entries .entry)) x)) 1 0) (now (flags .exit))
+        × Blocks 128 (length (m .edges)) n (λ x e v. v ≡ openBelow (λ f. available m (edgeOf m f) (regionAt (now (entries .entry)) x)) (suc e))
+        (now (flags .exit))
         × RowsTo m (length (m .edges)) (now (rows .exit))) ⌝ }
 {
     let mut places = [0usize; 128];
@@ -104,7 +104,8 @@ fn show_listed(
     show_labels(bytes, shape, entries, n, labels);
     show_steps(bytes, shape, entries, n, nexts, flags, rows);
     let bounds = bounds_for(bytes, shape);
-    show_targets(bounds, entries, n, resets, spots);
+    let edges = at_most(shape.edges, 128);
+    show_targets(bounds, entries, n, rows, edges, resets, spots);
 }
 
 // Is there room for n entries, and for a graph of 4,096 regions and 128 edges?

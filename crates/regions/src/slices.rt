@@ -1,8 +1,7 @@
-// Numbers stored in the slices of the graph.
-ghost use Prim.Native.Nat.{_+_, _%_, _≤_};
+// Numbers in the slices of the graph.
+ghost use Prim.Native.Nat.{_+_, _%_, _≤_, _<_};
 ghost use mathlib.Core.Path.{_≡_};
-ghost use mathlib.Core.Bool.{cond};
-ghost use lib.ListN.{length, set};
+ghost use lib.ListN.{length, getD, set};
 ghost use Rattle.regions.specs.Filling.{threeSet};
 
 // Stores a number, its lowest 16 bits, where the list has room for it.
@@ -14,16 +13,14 @@ pub(crate) fn store(list: &mut [u16], at: usize, v: usize)
     }
 }
 
-// Stores 1 for true, and 0 for false, where the list has room for it.
-pub(crate) fn mark(list: &mut [u8], at: usize, b: bool)
-    ensures { λ _. ⌜ now (list .exit) ≡ set (now (list .entry)) at (cond b 1 0) ⌝ }
+// The number at a place, and 0 past the end.
+pub(crate) fn load(list: &[u16], at: usize) -> usize
+    ensures { λ r. ⌜ (r ≡ getD (now (list .entry)) at 0) × (r < 65536) ⌝ }
 {
     if at < list.len() {
-        if b {
-            list[at] = 1;
-        } else {
-            list[at] = 0;
-        }
+        list[at] as usize
+    } else {
+        0
     }
 }
 

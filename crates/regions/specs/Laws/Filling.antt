@@ -6,18 +6,19 @@ use native.Mathlib.Numerals.{add-one}
 use mathlib.Core.Path.{_≡_, refl, sym, _∙_, ap, ap₂, subst}
 use mathlib.Core.Bool.{Bool, true, false, cond}
 use mathlib.Core.List.{List, [], _∷_, map, List·Memᴰ, List·Memᴰ·head}
-use lib.Dec.{eqb}
+use lib.Dec.{eqb, ltb}
 use lib.ListN.{length, getD, set, length-set}
-use lib.Seq.{getD-set-same, getD-set-other}
-use borrow.Author.Tests.{eqb-true, eqb-false, lt-ltb, le-ltb}
+use lib.Seq.{getD-set-same, getD-set-other, set-out}
+use borrow.Author.Tests.{eqb-true, eqb-false, ltb-true, ltb-false, lt-ltb, le-ltb}
 use Rattle.table.specs.Model.{Model}
 use Rattle.regions.specs.Entries.{entryBytes, maxEntries, regionAt}
 use Rattle.regions.specs.Graph.{delayNext, first}
 use Rattle.regions.specs.Index.{hashOf, Index, Added, index-on}
 use Rattle.regions.specs.Explore.{listed, listed-length, listed-at}
 use Rattle.regions.specs.View.{numberIn, labelOf, delayNumbers}
-use Rattle.regions.specs.Shown.{followers}
-use Rattle.regions.specs.Filling.{Run, Blocks, Before, bare, Apart, Distinct, Classed, Grouped, Numbers}
+use Rattle.regions.specs.Shown.{followers, openBelow}
+use Rattle.regions.specs.Filling.{Run, Blocks, Before, InUse, no-reset, by-branch, Still, RowFlagged, Flagged}
+use Rattle.regions.specs.Filling.{bare, Apart, Distinct, Classed, Grouped, Numbers}
 use Rattle.regions.specs.Laws.Call.{AllRegions}
 use Rattle.regions.specs.Laws.Worklist.{member}
 use Rattle.regions.specs.Laws.View.{number-at, delay-number}
@@ -25,19 +26,22 @@ use Rattle.clocks.specs.declared.region.Region.{Region}
 
 -- ---- Numbers one after the other
 
--- One more number is stored, after those from a place on.
+-- One more number is there, after those from a place on.
+pub run-past : (base k : ℕ) (P : ℕ → ℕ → Type 0) (l : List ℕ) → Run base k P l → P k (getD l (base + k) 0) → Run base (k + 1) P l
+run-past base k P l run here j h = go (eqb j k) refl
+  where
+    go : (b : Bool) → eqb j k ≡ b → P j (getD l (base + j) 0)
+    go true t = subst (λ i. P i (getD l (base + i) 0)) (sym (eqb-true j k t)) here
+    go false t = run j (omega (arith, eqb-false j k t, h))
+
+-- It is stored.
 pub run-on : (base k : ℕ) (P : ℕ → ℕ → Type 0) (l l′ : List ℕ) (v : ℕ) → base + k < length l → l′ ≡ set l (base + k) v
     → Run base k P l → P k v → Run base (k + 1) P l′
-run-on base k P l l′ v room e run new j h = go (eqb j k) refl
-  where
-    go : (b : Bool) → eqb j k ≡ b → P j (getD l′ (base + j) 0)
-    go true t =
-        subst (λ i. P i (getD l′ (base + i) 0)) (sym (eqb-true j k t))
-        (subst (P k) (sym (ap (λ x. getD x (base + k) 0) e ∙ getD-set-same l (base + k) v 0 room)) new)
-    go false t =
-        let other = eqb-false j k t in
-        subst (P j) (sym (ap (λ x. getD x (base + j) 0) e ∙ getD-set-other l (base + k) (base + j) v 0 (λ s. other (omega (arith, s)))))
-        (run j (omega (arith, other, h)))
+run-on base k P l l′ v room e run new =
+    run-past base k P l′
+    (λ j h.
+    subst (P j) (sym (ap (λ x. getD x (base + j) 0) e ∙ getD-set-other l (base + k) (base + j) v 0 (omega arith))) (run j h))
+    (subst (P k) (sym (ap (λ x. getD x (base + k) 0) e ∙ getD-set-same l (base + k) v 0 room)) new)
 
 -- One more number is stored, after the first.
 pub each-on : (k : ℕ) (P : ℕ → ℕ → Type 0) (l l′ : List ℕ) (v : ℕ) → k < length l → l′ ≡ set l k v
@@ -110,6 +114,89 @@ module _ (m : Model) (es : List ℕ) (n : ℕ) (r : Region) where
         let k = delay-number m found all r q here (subst (List·Memᴰ q) (sym e) (List·Memᴰ·head refl)) in
         let inside : numberIn found q < n = omega (arith, k .inside, listed-length es n) in
         absent (numberIn found q) inside (sym (listed-at es n (numberIn found q) q inside) ∙ k .is q)
+
+-- ---- Available edges
+
+module _ (p : ℕ → Bool) (e : ℕ) where
+  -- Number e passes.
+  pub open-here : p e ≡ true → openBelow p (suc e) ≡ e + 1
+  unfolding openBelow
+  open-here t = rw (t, add-one e)
+
+  -- It does not.
+  pub open-past : p e ≡ false → openBelow p (suc e) ≡ openBelow p e
+  unfolding openBelow
+  open-past t = rw t
+
+-- ---- Masks in use
+
+pub still-none : (l : List ℕ) → Still l l
+still-none l = record { as-long = refl; kept = λ k t. t }
+
+-- One more flag is set, where there is room for it.
+pub still-on : (l l′ l″ : List ℕ) (at : ℕ) → l″ ≡ set l′ at 1 → Still l l′ → Still l l″
+still-on l l′ l″ at e s =
+    record {
+      as-long = ap length e ∙ length-set l′ at 1 ∙ s .as-long;
+      kept = λ k t. ap (λ x. getD x k 0) e ∙ go k (s .kept k t) (eqb k at) refl;
+    }
+  where
+    go : (k : ℕ) → getD l′ k 0 ≡ 1 → (b : Bool) → eqb k at ≡ b → getD (set l′ at 1) k 0 ≡ 1
+    go k t false other = getD-set-other l′ at k 1 0 (eqb-false k at other) ∙ t
+    go k t true same = inside k t (eqb-true k at same) (ltb at (length l′)) refl
+      where
+        inside : (k : ℕ) → getD l′ k 0 ≡ 1 → k ≡ at → (b : Bool) → ltb at (length l′) ≡ b → getD (set l′ at 1) k 0 ≡ 1
+        inside k t same true h = rw same (getD-set-same l′ at 1 0 (ltb-true at (length l′) h))
+        inside k t same false h = rw (set-out l′ at 1 (ltb-false at (length l′) h)) t
+
+-- The masks of the first branches are flagged, and that of one more.
+pub row-flagged-on : (rows l l′ : List ℕ) (at i : ℕ) → l′ ≡ set l (getD rows (at + 4 + 3 * i) 0) 1 → RowFlagged rows at i l
+    → RowFlagged rows at (i + 1) l′
+row-flagged-on rows l l′ at i e flagged j h room = go (eqb j i) refl
+  where
+    mask : ℕ → ℕ
+    mask j = getD rows (at + 4 + 3 * j) 0
+
+    still : Still l l′
+    still = still-on l l l′ (getD rows (at + 4 + 3 * i) 0) e (still-none l)
+
+    go : (b : Bool) → eqb j i ≡ b → getD l′ (mask j) 0 ≡ 1
+    go true t =
+        let same : mask j ≡ mask i = ap mask (eqb-true j i t) in
+        ap₂ (λ (x : List ℕ) (k : ℕ). getD x k 0) e same
+        ∙ getD-set-same l (mask i) 1 0 (omega (arith, same, room, still .as-long))
+    go false t = still .kept (mask j) (flagged j (omega (arith, h, eqb-false j i t)) (omega (arith, room, still .as-long)))
+
+-- Mask 0 is flagged first.
+pub flagged-none : (rows l l′ : List ℕ) → length l ≡ 16 → l′ ≡ set l 0 1 → Flagged rows 0 l′
+flagged-none rows l l′ long e =
+    record {
+      as-long = ap length e ∙ length-set l 0 1 ∙ long;
+      first = ap (λ x. getD x 0 0) e ∙ getD-set-same l 0 1 0 (omega arith);
+      row = λ e h. absurd (omega arith);
+    }
+
+-- One more row is flagged.
+pub flagged-on : (rows l l′ : List ℕ) (k : ℕ) → Still l l′ → Flagged rows k l
+    → RowFlagged rows (32 * k) (getD rows (32 * k + 2) 0) l′ → Flagged rows (k + 1) l′
+flagged-on rows l l′ k still flagged here =
+    record {
+      as-long = still .as-long ∙ flagged .as-long;
+      first = still .kept 0 (flagged .first);
+      row = λ e h. go e h (eqb e k) refl;
+    }
+  where
+    go : (e : ℕ) → e < k + 1 → (b : Bool) → eqb e k ≡ b → RowFlagged rows (32 * e) (getD rows (32 * e + 2) 0) l′
+    go e h true t = subst (λ i. RowFlagged rows (32 * i) (getD rows (32 * i + 2) 0) l′) (sym (eqb-true e k t)) here
+    go e h false t =
+        λ j less room.
+        still .kept (getD rows (32 * e + 4 + 3 * j) 0)
+        (flagged .row e (omega (arith, h, eqb-false e k t)) j less (omega (arith, room, still .as-long)))
+
+-- A mask in use is flagged.
+pub in-use : (rows used : List ℕ) (k mask : ℕ) → Flagged rows k used → mask < 16 → InUse rows k mask → getD used mask 0 ≡ 1
+in-use rows used k _ flagged h no-reset = flagged .first
+in-use rows used k _ flagged h (by-branch e i he hi) = flagged .row e he i hi (omega (arith, h, flagged .as-long))
 
 -- ---- Sets of clocks
 

@@ -29,6 +29,10 @@ module _ (m : Model) (e : Edge) (r : Region) where
   unfolding edgeNext
   edge-none h = rw h
 
+  -- The edge starts at another location.
+  pub edge-elsewhere : (e .source ≡ r .location → ⊥) → edgeNext m r e ≡ []
+  edge-elsewhere h = edge-none (not-source h)
+
   pub edge-some : available m e r ≡ true → edgeNext m r e ≡ gather (λ b. landing (boundsOf m) r b ∷ []) (e .branches)
   unfolding edgeNext
   edge-some h = rw h

@@ -1,8 +1,8 @@
 -- What the slices of the graph hold once all of them are filled (`shown`), and what the graph call says of the entries that it leaves.
-use Prim.Native.Nat.{ℕ, _+_, _*_, _≤_, _<_}
+use Prim.Native.Nat.{ℕ, suc, _+_, _*_, _≤_, _<_}
 use native.Mathlib.Omega.{arith}
 use mathlib.Core.Path.{_≡_, refl, sym, _∙_, ap, ap₂, subst}
-use mathlib.Core.Bool.{true, cond}
+use mathlib.Core.Bool.{true}
 use mathlib.Core.List.{List, List·Memᴰ}
 use lib.ListN.{length, getD}
 use Rattle.table.specs.Model.{Model}
@@ -16,12 +16,13 @@ use Rattle.clocks.specs.Packed.{afterReset}
 use Rattle.regions.specs.Graph.{boundsOf, landing, available, first}
 use Rattle.regions.specs.Explore.{listed, listed-length, listed-at}
 use Rattle.regions.specs.View.{numberIn, labelOf, delayNumbers}
-use Rattle.regions.specs.Shown.{Shown, followers, shownRegion, branchOf}
-use Rattle.regions.specs.Filling.{Blocks, RowsTo, bare, Distinct, Grouped, Numbers, Targeted}
+use Rattle.regions.specs.Shown.{Shown, followers, shownRegion, openBelow, branchOf}
+use Rattle.regions.specs.Filling.{Blocks, RowsTo, InUse, by-branch, Flagged, bare, Distinct, Grouped, Numbers, Targeted}
 use Rattle.regions.specs.Call.{Outcome, whole, fromAnswer, outcomeOf, graphOf, entriesAfter}
 use Rattle.regions.specs.Laws.Bounds.{all-at}
 use Rattle.regions.specs.Laws.Bytes.{listed-whole, entries-length}
 use Rattle.regions.specs.Laws.Call.{AllRegions, whole-graph, whole-model}
+use Rattle.regions.specs.Laws.Filling.{in-use}
 use Rattle.regions.specs.Laws.Locations.{reached-location}
 use Rattle.regions.specs.Laws.Numbers.{answers-n}
 use Rattle.regions.specs.Laws.Rows.{edge-fits}
@@ -33,12 +34,12 @@ use Rattle.clocks.specs.declared.region.Region.{Region}
 
 -- The set of clocks after a reset, and then the region with that set at a location.
 pub targeted : (es : List ℕ) (n : ℕ) (bounds : Bounds) (sets heads links spots resets : List ℕ) (count : ℕ)
-    → Grouped es n n sets heads links spots count
-    → Blocks 16 16 n (λ x mask v. Numbers bounds (regionAt es x) sets count mask v) resets
-    → Distinct es n → Targeted es n bounds resets spots
-targeted es n bounds sets heads links spots resets count g blocks d x mask t hx hm ht e =
+    → Grouped es n n sets heads links spots count → (rows used : List ℕ) (k : ℕ) → Flagged rows k used
+    → Blocks 16 16 n (λ x mask v. getD used mask 0 ≡ 1 → Numbers bounds (regionAt es x) sets count mask v) resets
+    → Distinct es n → Targeted es n bounds rows k resets spots
+targeted es n bounds sets heads links spots resets count g rows used k flagged blocks d x mask t hx hm used-so ht e =
     let (j, less, is) = g .covered t ht in
-    let (inside, at) = blocks x mask hx hm j less (is ∙ e) in
+    let (inside, at) = blocks x mask hx hm (in-use rows used k mask flagged hm used-so) j less (is ∙ e) in
     g .spotted d t (getD resets (16 * x + mask) 0) ht inside (at ∙ sym e)
 
 -- The clocks that a branch lands with are those after its reset.
@@ -82,9 +83,9 @@ module _ (table : List ℕ) (m : Model) (bytes : Bytes table) (read : readTable 
   module _ (labels nexts flags resets spots rows : List ℕ)
       (named : (x : ℕ) → x < n → getD labels x 0 ≡ labelOf m (regionAt es x))
       (delays : (x : ℕ) → x < n → delayNumbers m (listed es n) (regionAt es x) ≡ followers n (getD nexts x 0))
-      (marked : Blocks 128 (length (m .edges)) n (λ x e v. v ≡ cond (available m (edgeOf m e) (regionAt es x)) 1 0) flags)
+      (marked : Blocks 128 (length (m .edges)) n (λ x e v. v ≡ openBelow (λ f. available m (edgeOf m f) (regionAt es x)) (suc e)) flags)
       (listing : RowsTo m (length (m .edges)) rows)
-      (targets : Distinct es n → Targeted es n (boundsOf m) resets spots) where
+      (targets : Distinct es n → Targeted es n (boundsOf m) rows (length (m .edges)) resets spots) where
     leads : (x e i : ℕ) → x < n → e < length (m .edges) → i < length (edgeOf m e .branches)
         → available m (edgeOf m e) (regionAt es x) ≡ true
         → getD spots (64 * getD resets (16 * x + branchOf m e i .mask) 0 + branchOf m e i .target) 0
@@ -98,10 +99,13 @@ module _ (table : List ℕ) (m : Model) (bytes : Bytes table) (read : readTable 
         let inside : t < n = within t (k .inside) in
         let is : regionAt es t ≡ q = sym (here t inside) ∙ k .is (first m) in
         let mask = edge-fits table m bytes read e he .mask i hi in
+        let in-rows : InUse rows (length (m .edges)) (branchOf m e i .mask) =
+        subst (λ (k : ℕ). InUse rows (length (m .edges)) k) (listing e he .mask i hi)
+        (by-branch e i he (omega (arith, hi, listing e he .count))) in
         let place : regionAt es t .location ≡ branchOf m e i .target =
         ap (λ (x : Region). x .location) is ∙ landing-location (boundsOf m) r m e i in
         ap (λ (l : ℕ). getD spots (64 * getD resets (16 * x + branchOf m e i .mask) 0 + l) 0) (sym place)
-        ∙ targets distinct x (branchOf m e i .mask) t hx mask inside (ap bare is ∙ landing-bare (boundsOf m) r m e i)
+        ∙ targets distinct x (branchOf m e i .mask) t hx mask in-rows inside (ap bare is ∙ landing-bare (boundsOf m) r m e i)
 
     pub shown : Shown m (listed es n) labels nexts flags resets spots rows
     shown =
@@ -113,7 +117,7 @@ module _ (table : List ℕ) (m : Model) (bytes : Bytes table) (read : readTable 
               ∙ ap (λ (k : ℕ). followers k (getD nexts x 0)) (sym (listed-length es n));
           flag = λ x e h less.
               marked x e (within x h) less
-              ∙ ap (λ (r : Region). cond {A = ℕ} (available m (edgeOf m e) r) 1 0) (sym (here x (within x h)));
+              ∙ ap (λ (r : Region). openBelow (λ f. available m (edgeOf m f) r) (suc e)) (sym (here x (within x h)));
           action = λ e h. listing e h .action;
           whole = λ e h. listing e h .whole;
           count = λ e h. listing e h .count;

@@ -19,7 +19,7 @@ slice-aggregate-list-sets-3 c = search needs
 
 list-sets-requires : tie.Need-list-sets-requires
 list-sets-requires c κs =
-    let pre = c .before .before .before .before .before .before .before .pre in (
+    let pre = c .before .before .before .before .before .before .before .before .pre in (
       index-zeros _ _,
       record {
         few = pre.0;
@@ -29,6 +29,12 @@ list-sets-requires c κs =
       },
     )
 
+slice-aggregate-flag-masks : tie.Need-slice-aggregate-flag-masks
+slice-aggregate-flag-masks c = search needs
+
+flag-masks-requires : tie.Need-flag-masks-requires
+flag-masks-requires c κs = search needs
+
 slice-aggregate-show-resets : tie.Need-slice-aggregate-show-resets
 slice-aggregate-show-resets c = search needs
 
@@ -37,6 +43,9 @@ slice-aggregate-show-resets-2 c = search needs
 
 slice-aggregate-show-resets-3 : tie.Need-slice-aggregate-show-resets-3
 slice-aggregate-show-resets-3 c = search needs
+
+slice-aggregate-show-resets-4 : tie.Need-slice-aggregate-show-resets-4
+slice-aggregate-show-resets-4 c = search needs
 
 show-resets-requires : tie.Need-show-resets-requires
 show-resets-requires c κs = search needs
@@ -49,12 +58,13 @@ same-length-2 c = search needs
 
 returns : tie.Need-returns
 returns c =
-    let args = c .before .before .before .before .before .before .before .before .before .before .before .before .before .before .before .before .before .before .before .before .args in
-    let list-sets = c .before .before .before .before .before .before .before .before .before .before .before .before .list-sets in
+    let args = c .before .before .before .before .before .before .before .before .before .before .before .before .before .before .before .before .before .before .before .before .before .before .before .before .before .args in
+    let list-sets = c .before .before .before .before .before .before .before .before .before .before .before .before .before .before .before .before .list-sets in
     let show-resets = c .before .before .show-resets in
+    let flag-masks = c .before .before .before .before .before .before .before .before .before .flag-masks in
     λ d. targeted args.entries.now args.n args.bounds list-sets.last.1.1.0 list-sets.last.1.1.1.0
-    list-sets.last.1.1.1.1.0 list-sets.last.1.1.1.1.1.0 show-resets.last.1.1.1.1.1.1.1.0 list-sets.result
-    list-sets.ensures show-resets.ensures d
+    list-sets.last.1.1.1.1.0 list-sets.last.1.1.1.1.1.0 show-resets.last.1.1.1.1.1.1.1.1.0 list-sets.result
+    list-sets.ensures args.rows.now flag-masks.last.1.1.0 args.edges flag-masks.ensures show-resets.ensures d
 
 pub show-targets-spec : {M : Type 1} → statement M
 show-targets-spec =
@@ -64,9 +74,12 @@ show-targets-spec =
     slice-aggregate-list-sets-2
     slice-aggregate-list-sets-3
     list-sets-requires
+    slice-aggregate-flag-masks
+    flag-masks-requires
     slice-aggregate-show-resets
     slice-aggregate-show-resets-2
     slice-aggregate-show-resets-3
+    slice-aggregate-show-resets-4
     show-resets-requires
     same-length
     same-length-2

@@ -1,8 +1,7 @@
 -- `show_flags` meets its contract. Assumes nothing.
 use native.Mathlib.Omega.{arith}
-use Prim.Native.Nat.{ℕ, _-_}
+use Prim.Native.Nat.{suc, _-_}
 use mathlib.Core.Path.{_≡_, refl, _∙_, ap}
-use mathlib.Core.Bool.{cond}
 use lib.ListN.{length}
 use Rattle.table.specs.Model.{Model}
 use Rattle.table.specs.Reading.{readTable, accepted}
@@ -11,6 +10,7 @@ use Rattle.regions.specs.Graph.{boundsOf, available}
 use Rattle.regions.specs.Edges.{Arrays}
 use Rattle.regions.specs.Entries.{regionAt}
 use Rattle.regions.specs.Limits.{Limited}
+use Rattle.regions.specs.Shown.{openBelow}
 use Rattle.regions.specs.Filling.{Blocks}
 use Rattle.regions.specs.Laws.Filling.{blocks-on}
 use Rattle.clocks.specs.declared.region.Region.{Region}
@@ -19,7 +19,9 @@ use Rattle.regions.proofs.moves.show_flags.Statement.{statement}
 use Rattle.regions.proofs.moves.show_flags.Tie as tie
 
 abbrev Inv-loop : tie.InvT-loop
-Inv-loop bytes limits places sources bounds edges entries n flags₀ x₀ flags x = (length flags ≡ length flags₀) × ((m : Model) → readTable bytes ≡ accepted m → Limited m limits → Arrays m places sources → bounds ≡ boundsOf m → edges ≡ length (m .edges) → Blocks 128 edges x (λ y j v. v ≡ cond (available m (edgeOf m j) (regionAt entries y)) 1 0) flags)
+Inv-loop bytes limits places sources bounds edges entries n flags₀ x₀ flags x = (length flags ≡ length flags₀) × ((m : Model) →
+    readTable bytes ≡ accepted m → Limited m limits → Arrays m places sources → bounds ≡ boundsOf m → edges ≡ length (m .edges) →
+    Blocks 128 edges x (λ y j v. v ≡ openBelow (λ f. available m (edgeOf m f) (regionAt entries y)) (suc j)) flags)
 
 abbrev μ-loop : tie.MeasureT-loop
 μ-loop bytes limits places sources bounds edges entries n flags₀ x₀ flags x = n - x
@@ -40,7 +42,7 @@ mark-edges-requires c κs =
     let loop-test = c .before .before .loop-test in
     let loop = c .before .before .before .loop in
     let pre = c .before .before .before .before .before .before .before .before .before .before .pre in
-    omega (arith, loop-test.taken, loop.inv.0, pre.0, pre.1, pre.2)
+    (pre.1, omega (arith, loop-test.taken, loop.inv.0, pre.0, pre.1, pre.2))
 
 add-x : tie.Need-add-x Inv-loop μ-loop
 add-x c =
@@ -60,10 +62,10 @@ loop-again c =
     let read-entry = c .before .before .before .before .read-entry in (
       (mark-edges.ensures.0.as-long) ∙ loop.inv.0,
       λ m answer limited arrays same few. blocks-on 128 args.edges
-          loop.x (λ y j v. v ≡ cond (available m (edgeOf m j) (regionAt args.entries.now y)) 1 0) loop.flags
+          loop.x (λ y j v. v ≡ openBelow (λ f. available m (edgeOf m f) (regionAt args.entries.now y)) (suc j)) loop.flags
           mark-edges.last.1.1.1.1.1.1.1.1.0 pre.1 mark-edges.ensures.0 (loop.inv.1 m answer limited arrays same few)
-          (λ j less. mark-edges.ensures.1 m answer limited arrays same few j less ∙ ap (λ (q : Region). cond {A = ℕ}
-          (available m (edgeOf m j) q) 1 0) read-entry.ensures),
+          (λ j less. mark-edges.ensures.1 m answer limited arrays same few j less ∙ ap (λ (q : Region). openBelow (λ f. available
+          m (edgeOf m f) q) (suc j)) read-entry.ensures),
     )
 
 same-length : tie.Need-same-length Inv-loop μ-loop
