@@ -7,7 +7,7 @@ use mathlib.Core.Bool.{Bool, true, false, cond}
 use mathlib.Core.List.{List, []}
 use lib.Dec.{eqb}
 use lib.ListN.{getD}
-pub use Rattle.partition.specs.Held.{rowRoom}
+pub use Rattle.partition.specs.Passed.{rowRoom}
 pub use Rattle.partition.specs.View.{branchesFrom, branchesAt}
 use Rattle.listing.specs.Text.{upTo}
 use Rattle.listing.specs.Printed.{StepRecord, stepOf, stepLine}

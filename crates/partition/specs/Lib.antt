@@ -1,12 +1,6 @@
 -- The partition layer: the region graph and the states of a model as structures, the partition call, the pair call and the judging
 -- call, and what the blocks say about states:
 --   Instances     the region graph of a model as a finite structure, all its states as one, and the block number of a state
---   Held          a finite structure in slices, as the code of the rounds goes by it
---   Compare       comparing two items, computed over those slices
---   Keys          numbers that are equal for items that the next round relates
---   Names         names of blocks that change as little as they may
---   Changes       what a change of names reaches
---   Rounds        what the code of the rounds and the judge keeps
 --   Passed        what the layer above needs of the layers beneath
 --   View          one region of the graph by itself, for the layer above
 --   Calls         the three calls: their answers, and what the lent lists then hold
@@ -17,16 +11,10 @@
 --   Example       demand 3 at document 01's printed model: two states related, two parted
 -- Laws on these stand in Laws.
 pub mod Instances
-pub mod Held
 pub mod Passed
 pub mod View
 pub mod Calls
 pub mod Promises
-pub mod Compare
-pub mod Keys
-pub mod Names
-pub mod Changes
-pub mod Rounds
 pub mod Laws
 pub mod Demand3
 pub mod Demand3Calls

@@ -5,6 +5,8 @@ pub use Rattle.regions.specs.Entries.{entryBytes, maxEntries, regionAt}
 pub use Rattle.regions.specs.Explore.{listed}
 pub use Rattle.bisimulation.specs.Structures.{Branch}
 pub use Rattle.bisimulation.specs.Finite.{Finite}
+pub use Rattle.comparison.specs.Held.{rowRoom}
+pub use Rattle.comparison.specs.Laws.Steps.{cond-yes, cond-no}
 unfoldable pub use Rattle.regions.specs.Passed.{readTable}
 unfoldable pub use Rattle.regions.specs.Call.{outcomeOf}
 unfoldable pub use Rattle.regions.specs.Graph.{first}

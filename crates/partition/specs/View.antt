@@ -13,7 +13,7 @@ pub use Rattle.regions.specs.Sight.{isSeen}
 use Rattle.bisimulation.specs.Structures.{Branch}
 use Rattle.bisimulation.specs.Finite.{Finite}
 use Rattle.partition.specs.Instances.{graph}
-use Rattle.partition.specs.Held.{rowRoom}
+use Rattle.comparison.specs.Held.{rowRoom}
 use Rattle.partition.specs.declared.view.Checked.{Checked}
 use Rattle.partition.specs.declared.view.Checked.the-variants as C
 use Rattle.partition.specs.declared.view.Entry.{Entry}

@@ -2,21 +2,20 @@
 ghost use Prim.Native.Nat.{ℕ, _≤_};
 ghost use mathlib.Core.Path.{_≡_};
 ghost use mathlib.Core.Bool.{cond, _||_};
-ghost use mathlib.Core.List.{List, _++_};
+ghost use mathlib.Core.List.{List};
 ghost use lib.Dec.{leb, ltb};
-ghost use lib.ListN.{length, drop};
+ghost use lib.ListN.{length};
 ghost use Rattle.regions.specs.Passed.{Model, Region};
 ghost use Rattle.bisimulation.specs.Structures.{Closed};
-ghost use Rattle.bisimulation.specs.Finite.{Finite, structure, rounds, lastBlocks, blockCount};
+ghost use Rattle.bisimulation.specs.Finite.{structure};
 ghost use Rattle.partition.specs.Instances.{graph};
-ghost use Rattle.partition.specs.Held.{Held};
+ghost use Rattle.comparison.specs.Held.{Held};
 ghost use Rattle.partition.specs.Calls.{isShort, isAskedPast, blocksOf, numberedIn, sharedOf, judgedOf};
 ghost use Rattle.partition.specs.Promises.{Reduced, Paired, Judged};
-use crate::judge::judge;
-use crate::rounds::Counted;
-use crate::rounds::run_rounds;
-use crate::slices::at64;
+use comparison::at64;
 use regions::Graph;
+use rounds::judge;
+use rounds::number_lists;
 
 // The answer of the partition call: refused, with document 01's number and place, or N, the count of blocks and the count of rounds.
 pub enum Reduction {
@@ -61,30 +60,6 @@ fn is_short(n: usize, first: usize, second: usize) -> bool
     ensures { λ r. ⌜ r ≡ (ltb first n || ltb second n) ⌝ }
 {
     if first < n { true } else { second < n }
-}
-
-// The blocks of the last round, in the first n numbers of both lists.
-fn number_lists(
-    n: usize,
-    k: usize,
-    labels: &[u16],
-    nexts: &[u16],
-    flags: &[u8],
-    resets: &[u16],
-    spots: &[u16],
-    rows: &[u16],
-    first: &mut [u64],
-    second: &mut [u64],
-) -> Counted
-    requires { ⌜ (n ≤ 4096) × (n ≤ length (now first)) × (n ≤ length (now second)) ⌝ }
-    ensures { λ r. ⌜ ((F : Finite) → Held F n k (now (labels .entry)) (now (nexts .entry)) (now (flags .entry)) (now (resets .entry))
-        (now (spots .entry)) (now (rows .entry)) → Closed (structure F)
-        → (now (first .exit) ≡ lastBlocks F ++ drop n (now (first .entry))) × (now (second .exit) ≡ lastBlocks F ++ drop n (now (second .entry)))
-        × (r .blocks ≡ blockCount F (rounds F)) × (r .rounds ≡ rounds F)) ⌝ }
-{
-    let one = &mut first[..n];
-    let two = &mut second[..n];
-    run_rounds(n, k, labels, nexts, flags, resets, spots, rows, one, two)
 }
 
 // The partition call on a graph in slices, of n regions and k edges.

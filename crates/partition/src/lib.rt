@@ -1,16 +1,6 @@
-// The partition layer: the partition call, the pair call and the judging call. Regions are compared under a block list over the
-// graph in slices; rounds, numbering and judging go by that comparison. For the layer above: one region by itself.
+// The partition layer: the partition call, the pair call and the judging call, over the graph in slices. For the layer above: one
+// region by itself.
 mod calls;
-mod changes;
-mod compare;
-mod joins;
-mod judge;
-mod keys;
-mod names;
-mod numbering;
-mod rounds;
-mod slices;
-mod stores;
 mod view;
 
 pub use calls::Judgement;

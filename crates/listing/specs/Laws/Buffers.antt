@@ -8,7 +8,7 @@ use lib.Dec.{leb}
 use lib.ListN.{length, take, drop, getD, set}
 use lib.Seq.{length-take-le, length-front, take-suc, drop-cons, append-snoc, set-at}
 use borrow.Author.Tests.{le-leb, lt-leb}
-use Rattle.partition.specs.Laws.Rounds.{cond-yes, cond-no}
+use Rattle.partition.specs.Passed.{cond-yes, cond-no}
 use Rattle.listing.specs.Parts.{fitted, bufferAfter}
 use Rattle.listing.specs.declared.parts.Part.the-variants as P
 

@@ -9,7 +9,7 @@ use mathlib.Core.List.{List, [], _∷_, _++_}
 use lib.Dec.{ltb}
 use borrow.Author.Tests.{ltb-false, lt-ltb, le-ltb}
 use Rattle.io.specs.Digits.{glyph, digits, Fewest}
-use Rattle.partition.specs.Laws.Rounds.{cond-yes, cond-no}
+use Rattle.partition.specs.Passed.{cond-yes, cond-no}
 use Rattle.listing.specs.Text.{digitsBy, decimal}
 
 both : (b : Bool) → (b ≡ true) ⊎ (b ≡ false)

@@ -19,7 +19,7 @@ use Rattle.regions.specs.declared.call.Graph.the-variants as G
 use Rattle.bisimulation.specs.Finite.{related, lastBlocks, rounds, blockCount, accepts}
 use Rattle.bisimulation.specs.Laws.Blocks.{blocks-length}
 use Rattle.partition.specs.Instances.{graph}
-use Rattle.partition.specs.Held.{Held}
+use Rattle.comparison.specs.Held.{Held}
 use Rattle.partition.specs.Laws.Shown.{whole-held}
 use Rattle.partition.specs.Calls.{fromOutcome, afterGraph, isShort, isAskedPast, blocksOf, numberedIn, reduceOf, listAfter, sharedOf, pairOf, pairListAfter, judgedOf, judgeOf}
 use Rattle.partition.specs.declared.calls.Reduction.{Reduction}

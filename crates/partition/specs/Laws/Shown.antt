@@ -4,21 +4,25 @@ use native.Mathlib.Omega.{arith}
 use mathlib.Core.Path.{_≡_, refl, sym, _∙_, ap, ap₂, subst}
 use mathlib.Core.Bool.{Bool, true, false, cond}
 use mathlib.Core.List.{List, [], _∷_, _++_, map, append-nil, List·Memᴰ, List·Memᴰ·head}
+use mathlib.Core.Logic.{inl, inr}
 use lib.Dec.{eqb, ltb}
 use lib.ListN.{length, getD}
-use borrow.Author.Tests.{ltb-true}
+use borrow.Author.Tests.{ltb-true, lt-ltb, eq-eqb, ne-eqb}
 use Rattle.regions.specs.Passed.{Model, edgeOf, noBranch, readTable, accepted, Branch as ModelBranch, Region}
-use Rattle.regions.specs.Graph.{boundsOf, landing, available, delayNext, gather, first}
+use Rattle.regions.specs.Graph.{boundsOf, meets, landing, available, delayNext, gather, first, goes}
 use Rattle.regions.specs.View.{numberIn, delayNumbers}
-use Rattle.regions.specs.Shown.{Shown, followers, branchOf}
+use Rattle.regions.specs.Shown.{Shown, followers, branchOf, openBelow as shownBelow}
 use Rattle.regions.specs.Call.{whole, outcomeOf}
 use Rattle.regions.specs.Laws.Call.{AllRegions, whole-graph, whole-model}
 use Rattle.regions.specs.Laws.Shown.{few-edges}
 use Rattle.regions.specs.Laws.View.{number-at, delay-number}
 use Rattle.regions.specs.Laws.Worklist.{member}
 use Rattle.bisimulation.specs.Structures.{Branch}
+use Rattle.bisimulation.specs.Laws.Tests.{both}
 use Rattle.partition.specs.Instances.{regionOf, delaysFrom, landsAt, graph}
-use Rattle.partition.specs.Held.{Held, chain, weightAt, targetAt, branchesFrom}
+use Rattle.comparison.specs.Held.{Held, flagRoom, chain, Onward, openBelow, isSet, Opened, weightAt, targetAt, branchesFrom}
+use Rattle.comparison.specs.Laws.Open.{open-yes, open-no, open-most, open-agree}
+use Rattle.partition.specs.Laws.Delays.{from-map, delays-are}
 
 -- ---- Lists of at most one number
 
@@ -29,10 +33,19 @@ module _ {A : Type 0} (x : A) (l : List A) where
   not-cons : x ∷ l ≡ [] → ⊥
   not-cons e = not-nil (sym e)
 
--- A flag of 1 says that it is so.
-flag-says : (b : Bool) (v : ℕ) → v ≡ cond b 1 0 → b ≡ eqb v 1
-flag-says true v e = sym (ap (λ k. eqb k 1) e)
-flag-says false v e = sym (ap (λ k. eqb k 1) e)
+-- The number of the last edge up to e that is available says whether e is.
+flag-says : (p : ℕ → Bool) (e v : ℕ) → v ≡ openBelow p (suc e) → p e ≡ eqb v (suc e)
+flag-says p e v is =
+    elim (both (p e)) [
+      | inl t ↦ t ∙ sym (eq-eqb v (suc e) (is ∙ open-yes p e t))
+      | inr f ↦ f ∙ sym (ne-eqb v (suc e) (λ same. absurd (omega (arith, same, is, open-no p e f, open-most p e))))
+    ]
+
+-- The region layer tells the last available edge in the same way.
+same-open : (p : ℕ → Bool) (e : ℕ) → shownBelow p e ≡ openBelow p e
+unfolding shownBelow openBelow
+same-open p zero = refl
+same-open p (suc e) = ap (cond (p e) (suc e)) (same-open p e)
 
 module _ (m : Model) (found : List Region) (all : AllRegions m found) (labels nexts flags resets spots rows : List ℕ)
     (shown : Shown m found labels nexts flags resets spots rows) where
@@ -73,6 +86,38 @@ module _ (m : Model) (found : List Region) (all : AllRegions m found) (labels ne
       ap₂ (λ (k : ℕ) (l : List ℕ). k ∷ l) (number-at found (all .different) (first m) x h)
       (followed more x h (delayNext m (regionOf m found x)) refl (ltb (getD nexts x 0) n) refl (shown .delay x h) (chained more))
 
+  -- What follows a region by delay is the region with its number.
+  follows : (x : ℕ) → x < n → getD nexts x 0 < n → List·Memᴰ (regionOf m found (getD nexts x 0)) (delayNext m (regionOf m found x))
+  unfolding delayNumbers
+  follows x h inside =
+      let is : map number (delayNext m (regionOf m found x)) ≡ getD nexts x 0 ∷ [] =
+      shown .delay x h ∙ ap (λ (b : Bool). cond b (getD nexts x 0 ∷ []) []) (lt-ltb (getD nexts x 0) n inside) in
+      let (q, k, e) = from-map number (delayNext m (regionOf m found x))
+      (subst (List·Memᴰ (getD nexts x 0)) (sym is) (List·Memᴰ·head refl)) in
+      let there = delay-number m found all (regionOf m found x) q (is-listed x h) k .is (first m) in
+      subst (λ (r : Region). List·Memᴰ r (delayNext m (regionOf m found x))) (sym there ∙ ap (regionOf m found) (sym e)) k
+
+  -- What comes after it reaches nothing that it does not reach.
+  onward : meets (boundsOf m) (m .invariants) (first m) ≡ true → Onward n nexts
+  onward fine x y h inside reached =
+      let z : ℕ = getD nexts x 0 in
+      let (there, d) = delays-are m found all fine z y inside .0 (subst (List·Memᴰ y) (sym (chained n z inside)) reached) in
+      subst (List·Memᴰ y) (chained n x h) (delays-are m found all fine x y h .1 (there, goes (follows x h inside) d))
+
+  -- ---- Available edges
+
+  module _ (flag : (x e : ℕ) → x < n → e < length (m .edges)
+      → getD flags (flagRoom * x + e) 0 ≡ openBelow (λ f. available m (edgeOf m f) (regionOf m found x)) (suc e)) where
+    availables : (x e : ℕ) → x < n → e < length (m .edges) → available m (edgeOf m e) (regionOf m found x) ≡ isSet flags x e
+    availables x e h k =
+        flag-says (λ f. available m (edgeOf m f) (regionOf m found x)) e (getD flags (flagRoom * x + e) 0) (flag x e h k)
+
+    opens : Opened n (length (m .edges)) flags
+    opens x e h k =
+        flag x e h k
+        ∙ open-agree (λ f. available m (edgeOf m f) (regionOf m found x)) (isSet flags x) (suc e)
+        (λ f b. availables x f h (omega arith))
+
   -- ---- Branches
 
   module _ (x e : ℕ) where
@@ -112,9 +157,12 @@ module _ (m : Model) (found : List Region) (all : AllRegions m found) (labels ne
 
   -- ---- All together
 
-  pub shown-held : n ≤ 4096 → length (m .edges) ≤ 128
+  pub shown-held : meets (boundsOf m) (m .invariants) (first m) ≡ true → n ≤ 4096 → length (m .edges) ≤ 128
       → Held (graph m found) (length found) (length (m .edges)) labels nexts flags resets spots rows
-  shown-held few edges =
+  shown-held fine few edges =
+      let flag : (x e : ℕ) → x < n → e < length (m .edges)
+      → getD flags (flagRoom * x + e) 0 ≡ openBelow (λ f. available m (edgeOf m f) (regionOf m found x)) (suc e) =
+      λ x e h k. shown .flag x e h k ∙ same-open (λ f. available m (edgeOf m f) (regionOf m found x)) (suc e) in
       record {
         few = few;
         few-edges = edges;
@@ -122,7 +170,9 @@ module _ (m : Model) (found : List Region) (all : AllRegions m found) (labels ne
         edges = refl;
         label = shown .label;
         delays = λ x h. chained n x h;
-        available = λ x e h k. flag-says (available m (edgeOf m e) (regionOf m found x)) _ (shown .flag x e h k);
+        onward = onward fine;
+        opened = opens flag;
+        available = availables flag;
         action = λ x e h k. sym (shown .action e k);
         whole = λ x e h k. sym (shown .whole e k);
         branches = λ x e h k can.
@@ -135,5 +185,6 @@ pub whole-held : (table : List ℕ) (cap : ℕ) (m : Model) (found : List Region
     → Shown m found labels nexts flags resets spots rows
     → Held (graph m found) (length found) (length (m .edges)) labels nexts flags resets spots rows
 whole-held table cap m found labels nexts flags resets spots rows room read is shown =
-    shown-held m found (whole-model table cap found m is read .0) labels nexts flags resets spots rows shown
+    let (all, fine) = whole-model table cap found m is read in
+    shown-held m found all labels nexts flags resets spots rows shown fine
     (omega (arith, whole-graph table cap found is .2)) (few-edges table m read)

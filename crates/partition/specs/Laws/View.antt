@@ -24,7 +24,7 @@ use Rattle.regions.specs.declared.sight.Sight.{Sight}
 use Rattle.regions.specs.declared.sight.Sight.the-variants as RS
 use Rattle.bisimulation.specs.Structures.{Branch}
 use Rattle.partition.specs.Instances.{regionOf, landsAt, graph}
-use Rattle.partition.specs.Held.{rowRoom}
+use Rattle.comparison.specs.Held.{rowRoom}
 use Rattle.partition.specs.View.{checkedOf, entryOf, branchesFrom, branchesAt, Alone, showingOf}
 use Rattle.partition.specs.declared.view.Checked.{Checked}
 use Rattle.partition.specs.declared.view.Checked.the-variants as C

@@ -1,6 +1,6 @@
 -- `put_clock` meets its contract. Assumes nothing.
 use Rattle.listing.specs.Laws.Writing.{adds-then, adds-same}
-use Rattle.partition.specs.Laws.Rounds.{cond-yes, cond-no}
+use Rattle.partition.specs.Passed.{cond-yes, cond-no}
 use mathlib.Core.Path.{sym}
 use lib.Dec.{eqb}
 use borrow.Author.Tests.{eq-eqb, ne-eqb}

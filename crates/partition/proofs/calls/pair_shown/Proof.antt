@@ -47,7 +47,7 @@ returns-2 c =
     )
 
 number-lists-requires : tie.Need-number-lists-requires
-number-lists-requires c κs = let both = long-enough (length ((c .before .before .before .before .before .before .before .before .before .before .before .before .before .before .args) .first .now)) ((c .before .before .before .before .before .before .before .before .before .before .before .before .before .before .args) .n) (length ((c .before .before .before .before .before .before .before .before .before .before .before .before .before .before .args) .second .now)) (sym ((c .before .before .before .before .before .is-short) .ensures) ∙ ((c .before .before .before .before .if1) .left)) in ((c .before .before .before .before .before .before .before .before .before .before .before .before .before .before .pre), both .0, both .1)
+number-lists-requires c κs = search needs
 
 at64-requires : tie.Need-at64-requires
 at64-requires c κs = search needs
@@ -72,7 +72,9 @@ returns-3 c =
     let at64 = c .before .before .at64 in
     λ m found long held closed. let e = short-at args.first.now args.second.now args.n found long
     is-short.result is-short.ensures ∙ if1.left in let p = past-at args.n args.r args.s found long
-    is-past.result is-past.ensures ∙ if2.left in let done = number-lists.ensures (graph m found) held closed in
+    is-past.result is-past.ensures ∙ if2.left in
+    let both = long-enough (length args.first.now) args.n (length args.second.now) (sym is-short.ensures ∙ if1.left) in
+    let done = number-lists.ensures.0 (graph m found) held closed (both .0) (both .1) in
     let one = done .0 ∙ numbered-at-n m found args.n long args.first.now in (
       shared-is args.first.now
           args.second.now m found args.r args.s e p args.first.now _ one _ (ap₂ (λ (x y : ℕ). eqb x y)

@@ -23,7 +23,7 @@ returns c =
     )
 
 number-lists-requires : tie.Need-number-lists-requires
-number-lists-requires c κs = let both = long-enough (length ((c .before .before .before .before .before .before .before .before .before .before .before .before .args) .first .now)) ((c .before .before .before .before .before .before .before .before .before .before .before .before .args) .n) (length ((c .before .before .before .before .before .before .before .before .before .before .before .before .args) .second .now)) (sym ((c .before .before .before .is-short) .ensures) ∙ ((c .before .before .if1) .left)) in ((c .before .before .before .before .before .before .before .before .before .before .before .before .pre), both .0, both .1)
+number-lists-requires c κs = search needs
 
 same-length : tie.Need-same-length
 same-length c = search needs
@@ -38,8 +38,9 @@ returns-2 c =
     let if1 = c .before .before .before .before .before .before .before .if1 in
     let number-lists = c .before .before .before .before .number-lists in
     λ m found long held closed. let e = short-at args.first.now args.second.now args.n found long
-    is-short.result is-short.ensures ∙ if1.left in let done = number-lists.ensures (graph m found) held closed
-    in (
+    is-short.result is-short.ensures ∙ if1.left in
+    let both = long-enough (length args.first.now) args.n (length args.second.now) (sym is-short.ensures ∙ if1.left) in
+    let done = number-lists.ensures.0 (graph m found) held closed (both .0) (both .1) in (
       blocks-are args.first.now args.second.now m found e _ _ _ long (done .2) (done .3),
       list-numbered
           args.first.now args.second.now m found e args.first.now _ (done .0 ∙ numbered-at-n m found args.n long

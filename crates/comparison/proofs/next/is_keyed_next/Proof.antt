@@ -1,0 +1,112 @@
+-- `is_keyed_next` meets its contract. Assumes nothing.
+use mathlib.Core.Path.{refl, sym, _∙_}
+use borrow.Author.Tests.{not-true, not-false}
+use Rattle.bisimulation.specs.Laws.Tests.{clash}
+use Rattle.comparison.specs.Laws.Keyed.{keys-part, twins-meet, keyed-on}
+use borrow.Author.Needs.{needs}
+use Rattle.comparison.proofs.next.is_keyed_next.Statement.{statement}
+use Rattle.comparison.proofs.next.is_keyed_next.Tie as tie
+
+are-items-requires : tie.Need-are-items-requires
+are-items-requires c κs = search needs
+
+returns : tie.Need-returns
+returns c =
+    let are-items = c .before .are-items in
+    let if1 = c .if1 in (
+      refl,
+      λ F keyed hx hy. absurd (clash (are-items.ensures.1 (keyed .held .few) (keyed .held .few-edges) hx hy)
+          (not-true are-items.result if1.taken)),
+    )
+
+at64-requires : tie.Need-at64-requires
+at64-requires c κs = search needs
+
+is-twin-requires : tie.Need-is-twin-requires
+is-twin-requires c κs = search needs
+
+same-length : tie.Need-same-length
+same-length c = search needs
+
+returns-2 : tie.Need-returns-2
+returns-2 c =
+    let args = c .before .before .before .before .before .before .before .before .before .before .before .before
+    .before .before .before .args in
+    let is-twin = c .before .is-twin in
+    let if3 = c .if3 in (
+      refl,
+      λ F keyed hx hy. (
+        sym (twins-meet (keyed .held) (keyed .closed) args.names.now args.x args.y hx hy
+            (is-twin.ensures if3.taken (keyed .held .onward) (keyed .held .opened) hx hy)),
+        keyed,
+      ),
+    )
+
+known-key-requires : tie.Need-known-key-requires
+known-key-requires c κs =
+    let are-items = c .before .before .before .before .before .are-items in
+    let if1 = c .before .before .before .before .if1 in
+    let items = are-items.ensures.0 (not-false are-items.result if1.left) in (items .0, items .1)
+
+known-key-requires-2 : tie.Need-known-key-requires-2
+known-key-requires-2 c κs =
+    let are-items = c .before .before .before .before .before .before .before .before .before .are-items in
+    let if1 = c .before .before .before .before .before .before .before .before .if1 in
+    let items = are-items.ensures.0 (not-false are-items.result if1.left) in (items .0, items .2)
+
+same-length-2 : tie.Need-same-length-2
+same-length-2 c = search needs
+
+returns-3 : tie.Need-returns-3
+returns-3 c =
+    let known-key2 = c .before .before .before .known-key2 in
+    let known-key = c .before .before .before .before .before .before .before .known-key in
+    let args = c .before .before .before .before .before .before .before .before .before .before .before .before
+    .before .before .before .before .before .before .before .before .before .before .args in
+    let if4 = c .if4 in (
+      known-key2.ensures.0 ∙ known-key.ensures.0,
+      λ F keyed hx hy.
+          let (one, known) = known-key.ensures.1 (keyed .held .opened) hx (keyed .keyed) in
+          let (other, known′) = known-key2.ensures.1 (keyed .held .opened) hy known in (
+            sym (keys-part keyed args.x args.y known-key.result known-key2.result hx hy one other if4.taken),
+            keyed-on keyed (known-key2 .last .1 .1 .1 .1 .1 .1 .1 .1 .1 .0) known′,
+          ),
+    )
+
+is-next-requires : tie.Need-is-next-requires
+is-next-requires c κs = search needs
+
+same-length-3 : tie.Need-same-length-3
+same-length-3 c = search needs
+
+returns-4 : tie.Need-returns-4
+returns-4 c =
+    let known-key2 = c .before .before .before .before .known-key2 in
+    let known-key = c .before .before .before .before .before .before .before .before .known-key in
+    let is-next = c .is-next in (
+      known-key2.ensures.0 ∙ known-key.ensures.0,
+      λ F keyed hx hy.
+          let (_, known) = known-key.ensures.1 (keyed .held .opened) hx (keyed .keyed) in
+          let (_, known′) = known-key2.ensures.1 (keyed .held .opened) hy known in (
+            is-next.ensures F (keyed .held) (keyed .closed) (keyed .below) hx hy,
+            keyed-on keyed (known-key2 .last .1 .1 .1 .1 .1 .1 .1 .1 .1 .0) known′,
+          ),
+    )
+
+pub is-keyed-next-spec : {M : Type 1} → statement M
+is-keyed-next-spec =
+    tie.close
+    (tie.spec
+    are-items-requires
+    returns
+    at64-requires
+    is-twin-requires
+    same-length
+    returns-2
+    known-key-requires
+    known-key-requires-2
+    same-length-2
+    returns-3
+    is-next-requires
+    same-length-3
+    returns-4)

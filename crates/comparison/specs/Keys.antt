@@ -1,0 +1,143 @@
+-- A key for each item under a block list: a number that is equal for items that the next round relates (`key-same` in Laws/Keys), so
+-- that items with different keys need not be compared. How numbers are scattered and joined is our choice; only speed depends on it.
+use Prim.Native.Nat.{ℕ, zero, suc, _+_, _*_, _/_, _%_, _≤_, _<_}
+use mathlib.Core.Path.{_≡_}
+use mathlib.Core.Bool.{Bool, true, cond, not, _&&_}
+use mathlib.Core.List.{List}
+use mathlib.Core.Logic.{_⊎_}
+use lib.Dec.{eqb}
+use lib.ListN.{getD, set}
+use Rattle.bisimulation.specs.Structures.{Closed}
+use Rattle.bisimulation.specs.Finite.{Finite, structure, related, someBelow, anyOf}
+use Rattle.comparison.specs.Held.{mostItems, chain, actionAt, wholeAt, countAt, targetAt}
+use Rattle.comparison.specs.Held.{Held, isSet}
+use Rattle.comparison.specs.Compare.{Below, weighed, answers}
+
+unfoldable pub sumBelow : (m : ℕ) → (ℕ → ℕ) → ℕ
+sumBelow zero f = 0
+sumBelow (suc m) f = sumBelow m f + f m
+
+-- Numbers spread over those below 2 to the 20.
+unfoldable pub scatter : ℕ → ℕ
+scatter v = ((v + 77) * ((v + 1003) * (v + 2001))) % 1048573
+
+-- The number of an item's block, cut to those that there may be.
+abbrev pub markOf : (list : List ℕ) → (x : ℕ) → ℕ
+markOf list x = getD list x 0 % mostItems
+
+-- ---- Delays: each block that x reaches by delay counts once. Numbers are cut further here, since so many marks are cleared for a key.
+
+abbrev pub delayRoom : ℕ
+delayRoom = 512
+
+abbrev pub delayMark : (list : List ℕ) → (x : ℕ) → ℕ
+delayMark list x = getD list x 0 % delayRoom
+
+unfoldable pub isReached : (n : ℕ) → (list nexts : List ℕ) → (x v : ℕ) → Bool
+isReached n list nexts x v = anyOf (λ y. eqb v (delayMark list y)) (chain n nexts n x)
+
+unfoldable pub delayKey : (n : ℕ) → (list nexts : List ℕ) → (x : ℕ) → ℕ
+delayKey n list nexts x = sumBelow delayRoom (λ v. cond (isReached n list nexts x v) (scatter v) 0)
+
+-- ---- Edges: each block that an edge lands in counts once, by a mix of its number and of the share that lands there. Sums of such mixes
+-- are not linear in the shares, so that edges with other shares seldom have the same code.
+
+-- A denominator that may be divided by.
+abbrev pub divisor : ℕ → ℕ
+divisor w = cond (eqb w 0) 1 w
+
+-- The share of a weight, times 2 to the 31st and rounded down.
+unfoldable pub shareOf : (weight whole : ℕ) → ℕ
+shareOf weight whole = (weight * 2147483648) / divisor whole
+
+-- The fifth power modulo a prime.
+unfoldable pub fifth : ℕ → ℕ
+fifth t = (((t * t) % 2147483629 * ((t * t) % 2147483629)) % 2147483629 * t) % 2147483629
+
+-- A block's number and a share, mixed.
+unfoldable pub mixed : (v share : ℕ) → ℕ
+mixed v share = fifth ((share + v * 524309 + 12345) % 2147483629)
+
+-- No branch of edge e at x below branch i leads to the block of c.
+unfoldable pub isFirstInto : (list resets spots rows : List ℕ) → (c x e i : ℕ) → Bool
+isFirstInto list resets spots rows c x e i = not (someBelow i (λ j. related list (targetAt resets spots rows x e j) c))
+
+-- What the block of c adds: nothing where no weight lands there.
+unfoldable pub blockCode : (list resets spots rows : List ℕ) → (c x e : ℕ) → ℕ
+blockCode list resets spots rows c x e =
+    cond (eqb (weighed list resets spots rows c x e) 0) 0
+    (mixed (markOf list c) (shareOf (weighed list resets spots rows c x e) (wholeAt rows e)))
+
+-- What branch i adds: where it is the first into its block, what the block adds.
+unfoldable pub landedBy : (list resets spots rows : List ℕ) → (x e i : ℕ) → ℕ
+landedBy list resets spots rows x e i =
+    cond (isFirstInto list resets spots rows (targetAt resets spots rows x e i) x e i)
+    (blockCode list resets spots rows (targetAt resets spots rows x e i) x e) 0
+
+unfoldable pub landed : (list resets spots rows : List ℕ) → (x e : ℕ) → ℕ
+landed list resets spots rows x e = sumBelow (countAt rows e) (landedBy list resets spots rows x e)
+
+unfoldable pub joined : (action sum : ℕ) → ℕ
+joined action sum = ((sum % 2147483629) * (sum % 2147483629) + action * 40503001) % 1099511627689
+
+unfoldable pub codeOf : (list resets spots rows : List ℕ) → (x e : ℕ) → ℕ
+codeOf list resets spots rows x e = joined (actionAt rows e) (landed list resets spots rows x e)
+
+-- Edge e is available at x, and no lower one there has its code.
+unfoldable pub isNew : (list flags resets spots rows : List ℕ) → (x e : ℕ) → Bool
+isNew list flags resets spots rows x e =
+    isSet flags x e
+    && not (someBelow e (λ f. isSet flags x f && eqb (codeOf list resets spots rows x f) (codeOf list resets spots rows x e)))
+
+-- Each code of an edge that is available at x counts once.
+unfoldable pub edgeKey : (k : ℕ) → (list flags resets spots rows : List ℕ) → (x : ℕ) → ℕ
+edgeKey k list flags resets spots rows x =
+    sumBelow k (λ e. cond (isNew list flags resets spots rows x e) (codeOf list resets spots rows x e) 0)
+
+-- ---- Both; no key is 0
+
+unfoldable pub keyOf : (n k : ℕ) → (list nexts flags resets spots rows : List ℕ) → (x : ℕ) → ℕ
+keyOf n k list nexts flags resets spots rows x =
+    edgeKey k list flags resets spots rows x * 65536 + delayKey n list nexts x + 1
+
+-- Keys are computed when they are asked for: a list holds the key of an item, or 0 where it is not known.
+abbrev pub Known : (n k : ℕ) → (names keys nexts flags resets spots rows : List ℕ) → Type 0
+Known n k names keys nexts flags resets spots rows =
+    (x : ℕ) → x < n → (getD keys x 0 ≡ 0) ⊎ (getD keys x 0 ≡ keyOf n k names nexts flags resets spots rows x)
+
+-- The codes of the edges below e that are available at x are kept.
+abbrev pub Coded : (e x : ℕ) → (list flags resets spots rows codes : List ℕ) → Type 0
+Coded e x list flags resets spots rows codes =
+    (f : ℕ) → f < e → isSet flags x f ≡ true → getD codes f 0 ≡ codeOf list resets spots rows x f
+
+-- Edges at y that answer to edge e at x have this code; edges at y that answer to one that is available at x have its code. In a closed
+-- structure this is so (`answers-tell` in Laws/Codes).
+abbrev pub ToldBy : (k : ℕ) → (list flags resets spots rows : List ℕ) → (x e y code : ℕ) → Type 0
+ToldBy k list flags resets spots rows x e y code =
+    (f : ℕ) → f < k → answers list flags resets spots rows x e y f ≡ true → codeOf list resets spots rows y f ≡ code
+
+abbrev pub Told : (k : ℕ) → (list flags resets spots rows : List ℕ) → (x y : ℕ) → Type 0
+Told k list flags resets spots rows x y =
+    (e : ℕ) → e < k → isSet flags x e ≡ true → ToldBy k list flags resets spots rows x e y (codeOf list resets spots rows x e)
+
+-- ---- Comparing by keys
+
+-- What comparisons go by: slices that hold a structure, names of blocks that there are marks for, and keys under them that are known or
+-- not.
+pub record Keyed (F : Finite) (n k : ℕ) (names keys labels nexts flags resets spots rows : List ℕ) : Type 0 where
+  pub held : Held F n k labels nexts flags resets spots rows
+  pub closed : Closed (structure F)
+  pub below : Below n names
+  pub keyed : Known n k names keys nexts flags resets spots rows
+
+-- The keys of the items below n that are stirred are forgotten; all others stay.
+abbrev pub ForgottenAt : (keys keys′ stirred : List ℕ) → ℕ → Type 0
+ForgottenAt keys keys′ stirred x = getD keys′ x 0 ≡ cond (eqb (getD stirred x 0) 0) (getD keys x 0) 0
+
+abbrev pub Forgotten : (n : ℕ) → (keys keys′ stirred : List ℕ) → Type 0
+Forgotten n keys keys′ stirred =
+    ((x : ℕ) → x < n → ForgottenAt keys keys′ stirred x) × ((x : ℕ) → n ≤ x → getD keys′ x 0 ≡ getD keys x 0)
+
+-- The keys after item x was looked at.
+abbrev pub keysAfter : (keys stirred : List ℕ) → (x : ℕ) → List ℕ
+keysAfter keys stirred x = cond (eqb (getD stirred x 0) 0) keys (set keys x 0)

@@ -1,0 +1,317 @@
+// Codes of edges: a number for each edge at an item under a block list, of its action and of where it leads. Edges that are alike have
+// equal codes, so that an answer to an edge is looked for among the edges of its code alone.
+ghost use Prim.Native.Nat.{ℕ, _≤_, _<_};
+ghost use mathlib.Core.Path.{_≡_};
+ghost use mathlib.Core.Bool.{_&&_};
+ghost use lib.ListN.{length, getD};
+ghost use Rattle.comparison.specs.Held.{mostItems, mostEdges, Opened};
+ghost use Rattle.comparison.specs.Compare.{edgesAlike, someAnswers, edgesAnswered};
+ghost use Rattle.comparison.specs.Keys.{scatter, markOf, divisor, shareOf, fifth, mixed, isFirstInto, blockCode};
+ghost use Rattle.comparison.specs.Keys.{landedBy, landed, joined, codeOf, Coded, ToldBy, Told};
+use crate::compare::edges_alike;
+use crate::compare::is_related;
+use crate::compare::target_at;
+use crate::compare::weigh;
+use crate::slices::at16;
+use crate::slices::at64;
+use crate::slices::open_below;
+use crate::twins::is_paired;
+
+// What the number of a block is scattered to.
+pub(crate) fn scatter_of(v: usize) -> u64
+    requires { ⌜ v < mostItems ⌝ }
+    ensures { λ r. ⌜ (r ≡ scatter v) × (r < 1048573) ⌝ }
+{
+    let w = v as u64;
+    ((w + 77) * ((w + 1003) * (w + 2001))) % 1048573
+}
+
+// The number of an item's block, cut to those that there may be.
+fn mark_at(list: &[u64], x: usize) -> usize
+    ensures { λ r. ⌜ (r ≡ markOf (now (list .entry)) x) × (r < mostItems) ⌝ }
+{
+    (at64(list, x) % 4096) as usize
+}
+
+// ---- The code of an edge
+
+fn divisor_of(whole: usize) -> u64
+    ensures { λ r. ⌜ (r ≡ divisor whole) × (0 < r) ⌝ }
+{
+    if whole == 0 { 1 } else { whole as u64 }
+}
+
+// The share of a weight, in parts of 2 to the 31st.
+fn share_of(weight: u64, whole: usize) -> u64
+    requires { ⌜ weight < 4294967296 ⌝ }
+    ensures { λ r. ⌜ (r ≡ shareOf weight whole) × (r < 9223372036854775808) ⌝ }
+{
+    weight * 2147483648 / divisor_of(whole)
+}
+
+fn fifth_of(t: u64) -> u64
+    requires { ⌜ t < 2147483629 ⌝ }
+    ensures { λ r. ⌜ (r ≡ fifth t) × (r < 2147483629) ⌝ }
+{
+    let square = t * t % 2147483629;
+    let fourth = square * square % 2147483629;
+    fourth * t % 2147483629
+}
+
+// The number of a block and a share, mixed.
+fn mix_of(v: usize, share: u64) -> u64
+    requires { ⌜ (v < mostItems) × (share < 9223372036854775808) ⌝ }
+    ensures { λ r. ⌜ (r ≡ mixed v share) × (r < 2147483629) ⌝ }
+{
+    fifth_of((share + (v as u64) * 524309 + 12345) % 2147483629)
+}
+
+// Does no branch of edge e at item x below branch i lead to the block of c?
+fn is_first_into(
+    c: usize,
+    x: usize,
+    e: usize,
+    i: usize,
+    list: &[u64],
+    resets: &[u16],
+    spots: &[u16],
+    rows: &[u16],
+) -> bool
+    requires { ⌜ (x < mostItems) × (e < mostEdges) × (i < 65536) ⌝ }
+    ensures { λ r. ⌜ r ≡ isFirstInto (now (list .entry)) (now (resets .entry)) (now (spots .entry)) (now (rows .entry)) c x e i ⌝ }
+{
+    let mut j = 0;
+    while j < i {
+        let target = target_at(x, e, j, resets, spots, rows);
+        if is_related(target, c, list) {
+            return false;
+        }
+        j = j + 1;
+    }
+    true
+}
+
+// What the block of c adds to the code of edge e at item x.
+fn block_code(
+    c: usize,
+    x: usize,
+    e: usize,
+    list: &[u64],
+    resets: &[u16],
+    spots: &[u16],
+    rows: &[u16],
+) -> u64
+    requires { ⌜ (x < mostItems) × (e < mostEdges) ⌝ }
+    ensures { λ r. ⌜ (r ≡ blockCode (now (list .entry)) (now (resets .entry)) (now (spots .entry)) (now (rows .entry)) c x e)
+        × (r < 2147483629) ⌝ }
+{
+    let weight = weigh(c, x, e, list, resets, spots, rows);
+    if weight == 0 {
+        return 0;
+    }
+    let share = share_of(weight, at16(rows, 32 * e + 1));
+    mix_of(mark_at(list, c), share)
+}
+
+// What branch i of edge e at item x adds: where it is the first into its block, what the block adds.
+fn land_one(
+    x: usize,
+    e: usize,
+    i: usize,
+    list: &[u64],
+    resets: &[u16],
+    spots: &[u16],
+    rows: &[u16],
+) -> u64
+    requires { ⌜ (x < mostItems) × (e < mostEdges) × (i < 65536) ⌝ }
+    ensures { λ r. ⌜ (r ≡ landedBy (now (list .entry)) (now (resets .entry)) (now (spots .entry)) (now (rows .entry)) x e i)
+        × (r < 2147483629) ⌝ }
+{
+    let target = target_at(x, e, i, resets, spots, rows);
+    if is_first_into(target, x, e, i, list, resets, spots, rows) {
+        return block_code(target, x, e, list, resets, spots, rows);
+    }
+    0
+}
+
+// The sum over the branches.
+fn landed_at(x: usize, e: usize, list: &[u64], resets: &[u16], spots: &[u16], rows: &[u16]) -> u64
+    requires { ⌜ (x < mostItems) × (e < mostEdges) ⌝ }
+    ensures { λ r. ⌜ r ≡ landed (now (list .entry)) (now (resets .entry)) (now (spots .entry)) (now (rows .entry)) x e ⌝ }
+{
+    let count = at16(rows, 32 * e + 2);
+    let mut total = 0u64;
+    let mut i = 0;
+    while i < count {
+        total = total + land_one(x, e, i, list, resets, spots, rows);
+        i = i + 1;
+    }
+    total
+}
+
+fn joined_of(action: usize, sum: u64) -> u64
+    requires { ⌜ action < 65536 ⌝ }
+    ensures { λ r. ⌜ (r ≡ joined action sum) × (r < 1099511627689) ⌝ }
+{
+    let part = sum % 2147483629;
+    (part * part + (action as u64) * 40503001) % 1099511627689
+}
+
+// The code of edge e at item x: of its action and of where it leads.
+fn code_of(x: usize, e: usize, list: &[u64], resets: &[u16], spots: &[u16], rows: &[u16]) -> u64
+    requires { ⌜ (x < mostItems) × (e < mostEdges) ⌝ }
+    ensures { λ r. ⌜ (r ≡ codeOf (now (list .entry)) (now (resets .entry)) (now (spots .entry)) (now (rows .entry)) x e)
+        × (r < 1099511627689) ⌝ }
+{
+    let sum = landed_at(x, e, list, resets, spots, rows);
+    joined_of(at16(rows, 32 * e), sum)
+}
+
+// The codes of the edges that are available at x.
+pub(crate) fn list_codes(
+    k: usize,
+    x: usize,
+    list: &[u64],
+    flags: &[u8],
+    resets: &[u16],
+    spots: &[u16],
+    rows: &[u16],
+    codes: &mut [u64],
+)
+    requires { ⌜ (k ≤ mostEdges) × (x < mostItems) × (length (now codes) ≡ mostEdges) ⌝ }
+    ensures { λ _. ⌜ length (now (codes .exit)) ≡ mostEdges ⌝ }
+    ensures { λ _. ⌜ ((n : ℕ) → Opened n k (now (flags .entry)) → x < n → Coded k x (now (list .entry)) (now (flags .entry))
+        (now (resets .entry)) (now (spots .entry)) (now (rows .entry)) (now (codes .exit))) ⌝ }
+{
+    let mut e = open_below(x, k, flags);
+    while 0 < e {
+        let code = code_of(x, e - 1, list, resets, spots, rows);
+        codes[e - 1] = code;
+        e = open_below(x, e - 1, flags);
+    }
+}
+
+// ---- Edges matched by their codes
+
+// Is edge f at y alike to edge e at x? Where the two are paired no share needs to be weighed.
+fn is_answer(
+    x: usize,
+    e: usize,
+    y: usize,
+    f: usize,
+    list: &[u64],
+    resets: &[u16],
+    spots: &[u16],
+    rows: &[u16],
+) -> bool
+    requires { ⌜ (x < mostItems) × (e < mostEdges) × (y < mostItems) × (f < mostEdges) ⌝ }
+    ensures { λ r. ⌜ r ≡ edgesAlike (now (list .entry)) (now (resets .entry)) (now (spots .entry)) (now (rows .entry)) x e y f ⌝ }
+{
+    if is_paired(x, e, y, f, list, resets, spots, rows) {
+        return true;
+    }
+    edges_alike(x, e, y, f, list, resets, spots, rows)
+}
+
+// Does some edge at y answer to edge e at x? Only those of its code are compared with it.
+fn some_answers(
+    k: usize,
+    x: usize,
+    e: usize,
+    y: usize,
+    code: u64,
+    list: &[u64],
+    flags: &[u8],
+    resets: &[u16],
+    spots: &[u16],
+    rows: &[u16],
+    codes: &[u64],
+) -> bool
+    requires { ⌜ (k ≤ mostEdges) × (x < mostItems) × (e < mostEdges) × (y < mostItems) ⌝ }
+    ensures { λ r. ⌜ ((n : ℕ) → Opened n k (now (flags .entry)) → y < n
+        → Coded k y (now (list .entry)) (now (flags .entry)) (now (resets .entry)) (now (spots .entry)) (now (rows .entry)) (now (codes .entry))
+        → ToldBy k (now (list .entry)) (now (flags .entry)) (now (resets .entry)) (now (spots .entry)) (now (rows .entry)) x e y code
+        → r ≡ someAnswers k (now (list .entry)) (now (flags .entry)) (now (resets .entry)) (now (spots .entry)) (now (rows .entry)) x e y) ⌝ }
+{
+    let mut f = open_below(y, k, flags);
+    while 0 < f {
+        if at64(codes, f - 1) == code {
+            if is_answer(x, e, y, f - 1, list, resets, spots, rows) {
+                return true;
+            }
+        }
+        f = open_below(y, f - 1, flags);
+    }
+    false
+}
+
+// Has each edge available at x an answer at y? The codes at both are given.
+fn edges_match(
+    k: usize,
+    x: usize,
+    y: usize,
+    list: &[u64],
+    flags: &[u8],
+    resets: &[u16],
+    spots: &[u16],
+    rows: &[u16],
+    ones: &[u64],
+    others: &[u64],
+) -> bool
+    requires { ⌜ (k ≤ mostEdges) × (x < mostItems) × (y < mostItems) ⌝ }
+    ensures { λ r. ⌜ ((n : ℕ) → Opened n k (now (flags .entry)) → x < n → y < n
+        → Coded k x (now (list .entry)) (now (flags .entry)) (now (resets .entry)) (now (spots .entry)) (now (rows .entry)) (now (ones .entry))
+        → Coded k y (now (list .entry)) (now (flags .entry)) (now (resets .entry)) (now (spots .entry)) (now (rows .entry)) (now (others .entry))
+        → Told k (now (list .entry)) (now (flags .entry)) (now (resets .entry)) (now (spots .entry)) (now (rows .entry)) x y
+        → r ≡ edgesAnswered k (now (list .entry)) (now (flags .entry)) (now (resets .entry)) (now (spots .entry)) (now (rows .entry)) x y) ⌝ }
+{
+    let mut e = open_below(x, k, flags);
+    while 0 < e {
+        let code = at64(ones, e - 1);
+        if !some_answers(
+            k,
+            x,
+            e - 1,
+            y,
+            code,
+            list,
+            flags,
+            resets,
+            spots,
+            rows,
+            others,
+        ) {
+            return false;
+        }
+        e = open_below(x, e - 1, flags);
+    }
+    true
+}
+
+// Has each edge available at x an answer at y, and each one at y one at x?
+pub(crate) fn edges_agree(
+    k: usize,
+    x: usize,
+    y: usize,
+    list: &[u64],
+    flags: &[u8],
+    resets: &[u16],
+    spots: &[u16],
+    rows: &[u16],
+) -> bool
+    requires { ⌜ (k ≤ mostEdges) × (x < mostItems) × (y < mostItems) ⌝ }
+    ensures { λ r. ⌜ ((n : ℕ) → Opened n k (now (flags .entry)) → x < n → y < n
+        → Told k (now (list .entry)) (now (flags .entry)) (now (resets .entry)) (now (spots .entry)) (now (rows .entry)) x y
+        → Told k (now (list .entry)) (now (flags .entry)) (now (resets .entry)) (now (spots .entry)) (now (rows .entry)) y x
+        → r ≡ (edgesAnswered k (now (list .entry)) (now (flags .entry)) (now (resets .entry)) (now (spots .entry)) (now (rows .entry)) x y
+        && edgesAnswered k (now (list .entry)) (now (flags .entry)) (now (resets .entry)) (now (spots .entry)) (now (rows .entry)) y x)) ⌝ }
+{
+    let mut ones = [0u64; 128];
+    let mut others = [0u64; 128];
+    list_codes(k, x, list, flags, resets, spots, rows, &mut ones);
+    list_codes(k, y, list, flags, resets, spots, rows, &mut others);
+    if !edges_match(k, x, y, list, flags, resets, spots, rows, &ones, &others) {
+        return false;
+    }
+    edges_match(k, y, x, list, flags, resets, spots, rows, &others, &ones)
+}

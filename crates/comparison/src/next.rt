@@ -1,0 +1,103 @@
+// The test of the next round: the two conditions of document 01 both ways, under a block list of this round.
+ghost use Prim.Native.Nat.{ℕ, _<_};
+ghost use mathlib.Core.Path.{_≡_};
+ghost use mathlib.Core.Bool.{true, _&&_};
+ghost use lib.ListN.{length};
+ghost use Rattle.bisimulation.specs.Structures.{Closed};
+ghost use Rattle.bisimulation.specs.Finite.{Finite, structure, related, next};
+ghost use Rattle.comparison.specs.Held.{Held, Onward};
+ghost use Rattle.comparison.specs.Compare.{Below, delaysAnswered};
+ghost use Rattle.comparison.specs.Keys.{Keyed};
+use crate::codes::edges_agree;
+use crate::compare::are_items;
+use crate::compare::delays_match;
+use crate::compare::is_related;
+use crate::keys::known_key;
+use crate::slices::at64;
+use crate::twins::is_twin;
+use crate::twins::runs_alike;
+
+// Is each item that one of two related items reaches by delay related to one that the other reaches?
+fn delays_agree(n: usize, x: usize, y: usize, list: &[u64], nexts: &[u16]) -> bool
+    ensures { λ r. ⌜ (Below n (now (list .entry)) → Onward n (now (nexts .entry)) → x < n → y < n
+        → related (now (list .entry)) x y ≡ true
+        → r ≡ (delaysAnswered n (now (list .entry)) (now (nexts .entry)) x y && delaysAnswered n (now (list .entry)) (now (nexts .entry)) y x)) ⌝ }
+{
+    if runs_alike(n, x, y, list, nexts) {
+        return true;
+    }
+    if !delays_match(n, x, y, list, nexts) {
+        return false;
+    }
+    delays_match(n, y, x, list, nexts)
+}
+
+// Is item y related to item x in the next round? The list says how items are related in this one. Where the slices hold no closed
+// structure the answer is a choice of the code.
+pub fn is_next(
+    n: usize,
+    k: usize,
+    x: usize,
+    y: usize,
+    list: &[u64],
+    labels: &[u16],
+    nexts: &[u16],
+    flags: &[u8],
+    resets: &[u16],
+    spots: &[u16],
+    rows: &[u16],
+) -> bool
+    ensures { λ r. ⌜ ((F : Finite) → Held F n k (now (labels .entry)) (now (nexts .entry)) (now (flags .entry)) (now (resets .entry))
+        (now (spots .entry)) (now (rows .entry)) → Closed (structure F) → Below n (now (list .entry))
+        → x < n → y < n → r ≡ next F (now (list .entry)) x y) ⌝ }
+{
+    if !are_items(n, k, x, y) {
+        return false;
+    }
+    if !is_related(x, y, list) {
+        return false;
+    }
+    if !delays_agree(n, x, y, list, nexts) {
+        return false;
+    }
+    edges_agree(k, x, y, list, flags, resets, spots, rows)
+}
+
+// Is item y related to item x in the next round? Where the key of y is not known, the two may be plainly alike; else different keys say
+// that it is not. Which keys become known, and the answer where nothing is held, are choices of the code.
+pub fn is_keyed_next(
+    n: usize,
+    k: usize,
+    x: usize,
+    y: usize,
+    names: &[u64],
+    labels: &[u16],
+    nexts: &[u16],
+    flags: &[u8],
+    resets: &[u16],
+    spots: &[u16],
+    rows: &[u16],
+    keys: &mut [u64],
+) -> bool
+    ensures { λ _. ⌜ length (now (keys .exit)) ≡ length (now (keys .entry)) ⌝ }
+    ensures { λ r. ⌜ ((F : Finite) → Keyed F n k (now (names .entry)) (now (keys .entry)) (now (labels .entry)) (now (nexts .entry))
+        (now (flags .entry)) (now (resets .entry)) (now (spots .entry)) (now (rows .entry))
+        → x < n → y < n → (r ≡ next F (now (names .entry)) x y)
+        × Keyed F n k (now (names .entry)) (now (keys .exit)) (now (labels .entry)) (now (nexts .entry))
+        (now (flags .entry)) (now (resets .entry)) (now (spots .entry)) (now (rows .entry))) ⌝ }
+{
+    if !are_items(n, k, x, y) {
+        return false;
+    }
+    if at64(keys, y) == 0 {
+        if is_twin(n, k, x, y, names, nexts, flags, resets, spots, rows) {
+            return true;
+        }
+    }
+    let one = known_key(n, k, x, names, nexts, flags, resets, spots, rows, keys);
+    let other = known_key(n, k, y, names, nexts, flags, resets, spots, rows, keys);
+    if one != other {
+        return false;
+    }
+    is_next(n, k, x, y, names, labels, nexts, flags, resets, spots, rows)
+}
