@@ -27,6 +27,14 @@ pub fn all() -> Vec<Family> {
         family("last edge", last_edge([13, 11, 9], 88)),
         family("long delays", long_delays([15, 11, 4], 15)),
         family("slowest", slowest([13, 11, 9], 120)),
+        family("hub", hub(60, 66)),
+        family("hub, two laps", two_laps(60, 64)),
+        family("swapped", swapped(60, 33)),
+        family("three orders", three_orders(60, 22)),
+        family("alternating", alternating(60, 61)),
+        family("exchanged", exchanged(57, 7)),
+        family("equal sums", equal_sums(50, 24)),
+        family("equal sums, parted", equal_sums_parted([13, 11, 9], 80)),
     ]
 }
 
@@ -352,5 +360,213 @@ fn long_delays(periods: [u8; 3], chains: u8) -> Model {
         }
     }
     counter(&mut model, tick, &periods, |model, guards, mask| model.edge(tick, 0, guards, &[(1, tick, mask)]));
+    model
+}
+
+/// Clocks 0 to 2 at a location where each may be reset at any time, while clock 0 is below 5: 3,890 regions, which nothing tells apart.
+/// No other constant of these models is above 5.
+fn free_clocks(model: &mut Model, location: u8) {
+    model.invariant(location, 0, LESS, 5);
+    for clock in 0..3 {
+        model.edge(location, 9, &[], &[(1, location, mask(&[clock]))]);
+    }
+}
+
+/// Hubs: locations from `first` on in which no time passes. Each leads to the next and the last one nowhere, so that a round tells one
+/// more of them from the others, the last one first.
+fn add_hubs(model: &mut Model, first: u8, hubs: u8, mask: u8) {
+    for hub in first..first + hubs {
+        model.invariant(hub, 0, AT_MOST, 0);
+    }
+    for hub in first + 1..first + hubs {
+        model.edge(hub - 1, 0, &[], &[(1, hub, mask)]);
+    }
+}
+
+/// The branches of `edges` edges that lead to hubs from location 1 on, eight each.
+fn to_hubs(hubs: u8, edges: u16) -> Vec<Vec<Branch>> {
+    let branch = |edge: u16, part: u16| {
+        let weight = 1 + (7 * edge + 3 * part * part + part * edge) % 50;
+        (weight, 1 + ((5 * edge + 7 * part) % u16::from(hubs)) as u8, 7)
+    };
+    (0..edges).map(|edge| (0..8).map(|part| branch(edge, part)).collect()).collect()
+}
+
+/// Free clocks, hubs, and edges of one action that lead to the hubs: in each round all regions lead to something that has changed. The
+/// edges are given as lists, of which a region has all those whose guards it meets.
+fn with_hubs(hubs: u8, lists: &[(&[Guard], Vec<Vec<Branch>>)]) -> Model {
+    let mut labels = vec![1; usize::from(hubs) + 1];
+    labels[0] = 0;
+    let mut model = Model::new(3, &labels);
+    free_clocks(&mut model, 0);
+    for (guards, edges) in lists {
+        for branches in edges {
+            model.edge(0, 0, guards, branches);
+        }
+    }
+    add_hubs(&mut model, 1, hubs, 7);
+    model
+}
+
+/// All regions have the same edges, in the same order.
+fn hub(hubs: u8, edges: u16) -> Model {
+    with_hubs(hubs, &[(&[], to_hubs(hubs, edges))])
+}
+
+/// The same with twice as many rounds: a fourth clock is above all constants in the first lap through the hubs and 0 in the second, and
+/// each edge leads to hubs of both laps. Location 0 only waits until that clock is above 5, and location 1 has the free clocks.
+fn two_laps(hubs: u8, edges: u16) -> Model {
+    let [wait, main, first] = [0, 1, 2];
+    let mut labels = vec![1; usize::from(first + hubs)];
+    labels[usize::from(wait)] = 2;
+    labels[usize::from(main)] = 0;
+    let mut model = Model::new(4, &labels);
+    model.edge(wait, 0, &[(3, MORE, 5)], &[(1, main, 7)]);
+    free_clocks(&mut model, main);
+    for branches in to_hubs(hubs, edges) {
+        let branches: Vec<Branch> = (0..).zip(branches).map(|(part, (weight, hub, mask))| (weight, hub + 1, mask + part % 2 * 8)).collect();
+        model.edge(main, 0, &[], &branches);
+    }
+    add_hubs(&mut model, first, hubs, 0);
+    model.edge(first + hubs - 1, 0, &[(3, MORE, 0)], &[(1, first, 15)]);
+    model
+}
+
+/// The edges stand there twice, the second time in reverse order and under the opposite guard: between regions of the two halves, no edge
+/// answers to the one in its own place.
+fn swapped(hubs: u8, edges: u16) -> Model {
+    let forward = to_hubs(hubs, edges);
+    let backward = forward.iter().rev().cloned().collect();
+    with_hubs(hubs, &[(&[(1, LESS, 2)], forward), (&[(1, AT_LEAST, 2)], backward)])
+}
+
+/// The edges stand there three times, each time in another order, with their branches in another order and their weights scaled by
+/// another number: no edge is equal to the one that answers to it in any other way than by its shares.
+fn three_orders(hubs: u8, edges: u16) -> Model {
+    let first = to_hubs(hubs, edges);
+    let turned = |edges: &[Vec<Branch>], places: usize, times: u16| -> Vec<Vec<Branch>> {
+        let one = |branches: &Vec<Branch>| {
+            let mut branches: Vec<Branch> = branches.iter().map(|&(weight, target, mask)| (times * weight, target, mask)).collect();
+            branches.rotate_left(places);
+            branches
+        };
+        edges.iter().map(one).collect()
+    };
+    let mut second = turned(&first, 3, 2);
+    second.reverse();
+    let mut third = turned(&first, 6, 3);
+    third.rotate_left(usize::from(edges) / 3);
+    with_hubs(hubs, &[(&[(1, LESS, 1)], first), (&[(1, AT_LEAST, 1), (1, LESS, 3)], second), (&[(1, AT_LEAST, 3)], third)])
+}
+
+/// Regions with clock 0 at a whole number have an edge more, so that the two kinds take turns along a delay. Which blocks are reached by
+/// delay is the same for most regions of a kind, but not how often.
+fn alternating(hubs: u8, edges: u16) -> Model {
+    let mut model = with_hubs(hubs, &[(&[], to_hubs(hubs, edges))]);
+    for value in 0..5 {
+        model.edge(0, 1, &[(0, EQUAL, value)], &[(1, 0, 7)]);
+    }
+    model
+}
+
+/// No edge stands there twice, but the same ones lead elsewhere. For each clock there are two locations that keep it and reset the others;
+/// where it comes to 2 they exchange their blocks. An edge has six branches to these locations and two to hubs, and with it stand those
+/// that have the weights of each pair exchanged: eight in all, `eights` times. So all regions have the same set of edges, in eight
+/// orders, and an edge is never answered by the one with its number or with its weights.
+fn exchanged(hubs: u8, eights: u16) -> Model {
+    let mut labels = vec![0, 2, 2, 2, 2, 2, 2];
+    labels.extend(vec![1; hubs.into()]);
+    let mut model = Model::new(3, &labels);
+    for eight in 0..eights {
+        let pairs = [[10 + 3 * eight, 60 + eight], [100 + eight, 300 + eight], [20 + 5 * eight, 900 + eight]];
+        for exchange in 0..8 {
+            let mut branches = Vec::new();
+            for (clock, [one, other]) in (0..).zip(pairs) {
+                let keep = 7 - mask(&[clock]);
+                let [one, other] = if exchange >> clock & 1 == 1 { [other, one] } else { [one, other] };
+                branches.extend([(one, 1 + 2 * clock, keep), (other, 2 + 2 * clock, keep)]);
+            }
+            branches.extend([0, 1].map(|part| (5 + (7 * eight + 3 * part) % 40, 7 + ((5 * eight + 7 * part) % u16::from(hubs)) as u8, 7)));
+            model.edge(0, 0, &[], &branches);
+        }
+    }
+    free_clocks(&mut model, 0);
+    for clock in 0..3 {
+        let [one, other] = [1 + 2 * clock, 2 + 2 * clock];
+        let at_zero = u8::from(clock == 0);
+        model.invariant(one, at_zero, AT_MOST, 0);
+        model.invariant(other, at_zero, AT_MOST, 0);
+        model.edge(one, 5, &[(clock, AT_LEAST, 2)], &[(1, 1, 7)]);
+        model.edge(other, 5, &[(clock, LESS, 2)], &[(1, 1, 7)]);
+    }
+    add_hubs(&mut model, 7, hubs, 7);
+    model.edge(0, 3, &[], &[(1, 7, 7)]);
+    model
+}
+
+/// Weights for eight ends that are regions 2 to 9. All have the same sum, and also the same sum of each weight times
+/// (v + 77)(v + 1003)(v + 2001) modulo 1,048,573, where v is the region: a key that is made of such sums does not tell edges with these
+/// weights apart. They are the points near 0 of the lattice of all such changes to the last four weights; `BASIS` is its reduced basis.
+fn equal_sum_weights(count: usize) -> Vec<[u16; 8]> {
+    const BASIS: [[i32; 4]; 2] = [[-393, 617, -73, -151], [-572, 405, 864, -697]];
+    const MIDDLE: i32 = 7400;
+    let mut changes = Vec::new();
+    for one in -12..=12 {
+        for other in -8..=8 {
+            let change = [0, 1, 2, 3].map(|end| one * BASIS[0][end] + other * BASIS[1][end]);
+            if change.iter().all(|end| end.abs() < MIDDLE) {
+                changes.push(change);
+            }
+        }
+    }
+    changes.sort_by_key(|change| change.map(i32::abs).into_iter().max());
+    let weights = |change: &[i32; 4]| [0, 1, 2, 3, 4, 5, 6, 7].map(|end| (MIDDLE + if end < 4 { 0 } else { change[end - 4] }) as u16);
+    changes[..count].iter().map(weights).collect()
+}
+
+/// The branches with these weights, to eight ends from location 1 on.
+fn to_ends(weights: [u16; 8], mask: u8) -> Vec<Branch> {
+    (1..).zip(weights).map(|(end, weight)| (weight, end, mask)).collect()
+}
+
+/// Free clocks, hubs that change in each round, and edges to eight ends of different labels, which stand there three times in different
+/// orders. The shares are different, but the sums of all edges are equal (`equal_sum_weights`).
+fn equal_sums(hubs: u8, edges: usize) -> Model {
+    let mut labels = vec![0, 2, 3, 4, 5, 6, 7, 8, 9];
+    labels.extend(vec![1; hubs.into()]);
+    let mut model = Model::new(3, &labels);
+    (1..=8).for_each(|end| add_end(&mut model, end));
+    let first = equal_sum_weights(edges);
+    let mut second = first.clone();
+    second.reverse();
+    let mut third = first.clone();
+    third.rotate_left(edges / 3);
+    let lists: [(&[Guard], _); 3] = [(&[(1, LESS, 1)], first), (&[(1, AT_LEAST, 1), (1, LESS, 3)], second), (&[(1, AT_LEAST, 3)], third)];
+    for (guards, edges) in lists {
+        for weights in edges {
+            model.edge(0, 0, guards, &to_ends(weights, 7));
+        }
+    }
+    model.edge(0, 3, &[], &[(1, 9, 7)]);
+    free_clocks(&mut model, 0);
+    add_hubs(&mut model, 9, hubs, 7);
+    model
+}
+
+/// A counter that does not stop. At the beginning of a tick there are `edges` edges that are everywhere the same, and for each clock one
+/// that tells its value; all have equal sums (`equal_sum_weights`). In one round 1,287 regions part from each other, and a key made of such
+/// sums is the same for all.
+fn equal_sums_parted(periods: [u8; 3], edges: usize) -> Model {
+    let mut model = Model::new(4, &[0, 2, 3, 4, 5, 6, 7, 8, 9]);
+    (1..=8).for_each(|end| add_end(&mut model, end));
+    let begin = (0, EQUAL, 0);
+    let values = (1..).zip(periods).flat_map(|(clock, period)| (0..period).map(move |value| (clock, EQUAL, value)));
+    let guards: Vec<Vec<Guard>> = std::iter::repeat(vec![begin]).take(edges).chain(values.map(|value| vec![begin, value])).collect();
+    for (guards, weights) in guards.iter().zip(equal_sum_weights(guards.len())) {
+        model.edge(0, 0, guards, &to_ends(weights, 15));
+    }
+    counter(&mut model, 0, &periods, |model, guards, mask| model.edge(0, 0, guards, &[(1, 0, mask)]));
+    let full: Vec<Guard> = (1..).zip(periods).map(|(clock, period)| (clock, EQUAL, period)).collect();
+    model.edge(0, 0, &full, &[(1, 0, 15)]);
     model
 }
