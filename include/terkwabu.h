@@ -38,12 +38,12 @@
  * Memory. The library takes none but the stack. How much of it is measured (x86-64, Linux), not proved (KB are 1,024 bytes):
  *
  *   terkwabu_graph, terkwabu_place                     32 KB
- *   terkwabu_reduce, terkwabu_pair, terkwabu_judge     1,480 KB
+ *   terkwabu_reduce, terkwabu_pair, terkwabu_judge     1,460 KB
  *   terkwabu_part                                      112 KB
  *   terkwabu_refusal_line                              4 KB
  *
  * bench/stack.c runs each call on a painted stack, on tables up to the longest and with up to 4,096 regions, and prints how deep it went:
- * 27,784, 1,484,056, 97,160 and 200 bytes, rounded up above. The first call into a shared library takes about 3 KB more for the loader.
+ * 27,800, 1,493,672, 97,160 and 200 bytes, rounded up above. The first call into a shared library takes about 3 KB more for the loader.
  * So 2 MB should do for a thread that makes any of the calls. Some systems give threads less if nothing is said. On another system, or
  * with a library built otherwise, measure anew.
  *
