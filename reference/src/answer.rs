@@ -25,7 +25,7 @@ impl Digest {
     }
 }
 
-/// The answer without the lent arrays. Edges from number `room` on stay out of the digest.
+/// The answer without the four lists. Edges from number `room` on stay out of the digest.
 pub fn line(answer: &Answer, room: usize) -> String {
     match answer {
         Err(refusal) => format!("refused {} place {}", refusal.number, refusal.place),
@@ -71,12 +71,12 @@ fn model_digest(model: &Model, room: usize) -> u64 {
     digest.value
 }
 
-/// What the four lent arrays say of an edge: place, source, action, denominator.
+/// What the four lists say of an edge: place, source, action, denominator.
 fn edge_numbers(edge: &Edge) -> [u64; 4] {
     [edge.place as u64, edge.source.into(), edge.action.into(), edge.denominator.into()]
 }
 
-/// The digest of the four lent arrays of `room` numbers each after the call.
+/// The digest of the four lists of `room` numbers each after the call.
 pub fn lent_digest(answer: &Answer, room: usize, fill: u8) -> u64 {
     let mut digest = Digest::new();
     for array in 0..4 {

@@ -25,7 +25,7 @@ use std::fs;
 
 /// The number of the call that reads a table.
 const CALL_READ_TABLE: u8 = 1;
-/// The most edges that the lent arrays have room for.
+/// The most edges that the lists have room for.
 const LARGEST_ROOM: usize = 160;
 /// The longest table of a case, in bytes.
 const LONGEST: usize = 17_000;

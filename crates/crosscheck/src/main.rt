@@ -21,8 +21,8 @@ use lent::Sizes;
 use numbers::four_bytes;
 use numbers::two_bytes;
 
-// The longest table of a case, the most edges that its arrays have room for, the most bytes lent for entries, and the most
-// numbers of a list.
+// The longest table of a case, the most edges that it has room for, the most bytes lent for entries, and the most numbers of a
+// list.
 const MOST_BYTES: usize = 17000;
 
 const MOST_EDGES: usize = 160;

@@ -1,21 +1,23 @@
-// Call 1: reads a table and lists its edges into four lent arrays, filled beforehand so that a stray write shows.
+// Call 1: reads a table and lists its edges, and their places into a lent list, filled beforehand so that a stray write shows. Four
+// lists go into the digest that is printed as lent, each of as many numbers as there is room for edges: the places are list 0; lists
+// 1 to 3 are the sources, actions and denominators of the edge list and, after the last edge, what `filler` gives.
 ghost use Prim.Native.Nat.{_≤_, _<_};
 ghost use lib.ListN.{length};
 use crate::digest::mix;
 use crate::digest::mix_list;
 use crate::lists::filler;
 use crate::print;
+use table::Edge;
 use table::Reading;
 use table::Shape;
 
-// Fills array k before the call.
-fn fill(list: &mut [usize], byte: u8, k: usize)
-    requires { ⌜ k < 4 ⌝ }
-    requires { ⌜ length (now list) ≤ 160 ⌝ }
+// Fills the list of places before the call.
+fn fill(places: &mut [usize], byte: u8)
+    requires { ⌜ length (now places) ≤ 160 ⌝ }
 {
     let mut i = 0;
-    while i < list.len() {
-        list[i] = filler(byte, k, i);
+    while i < places.len() {
+        places[i] = filler(byte, 0, i);
         i = i + 1;
     }
 }
@@ -83,28 +85,20 @@ fn mix_branches(digest: u64, bytes: &[u8], place: usize) -> u64 {
     now
 }
 
-fn mix_row(digest: u64, row: table::EdgeRow) -> u64 {
-    let now = mix(mix(digest, row.place), row.source);
-    mix(mix(now, row.action), row.denominator)
+fn mix_edge(digest: u64, place: usize, edge: Edge) -> u64 {
+    let now = mix(mix(digest, place), edge.source as usize);
+    mix(mix(now, edge.action as usize), edge.denominator as usize)
 }
 
-// The edges that the arrays have, each with its guard atoms and branches.
-fn mix_edges(
-    digest: u64,
-    bytes: &[u8],
-    count: usize,
-    places: &[usize],
-    sources: &[usize],
-    actions: &[usize],
-    denominators: &[usize],
-) -> u64 {
+// The first edges, each with its guard atoms and branches.
+fn mix_edges(digest: u64, bytes: &[u8], count: usize, places: &[usize], edges: [Edge; 128]) -> u64 {
     let mut now = digest;
     let mut i = 0;
     while i < count {
-        let row = table::edge_at(places, sources, actions, denominators, i);
-        now = mix_row(now, row);
-        now = mix_guards(now, bytes, row.place);
-        now = mix_branches(now, bytes, row.place);
+        let place = table::number_at(places, i);
+        now = mix_edge(now, place, table::edge_of(edges, i));
+        now = mix_guards(now, bytes, place);
+        now = mix_branches(now, bytes, place);
         i = i + 1;
     }
     now
@@ -122,95 +116,113 @@ fn print_shape(shape: Shape) {
     print::number(b" edges ", shape.edges);
 }
 
-fn print_lent(places: &[usize], sources: &[usize], actions: &[usize], denominators: &[usize]) {
-    let sum = mix_list(
-        mix_list(mix_list(mix_list(0, places), sources), actions),
-        denominators,
-    );
+// The part of an edge that list k has, from 1 on.
+fn part_of(edge: Edge, k: usize) -> usize {
+    if k == 1 {
+        edge.source as usize
+    } else if k == 2 {
+        edge.action as usize
+    } else {
+        edge.denominator as usize
+    }
+}
+
+// The part that list k has of each of the first edges.
+fn mix_parts(digest: u64, edges: [Edge; 128], k: usize, count: usize) -> u64 {
+    let mut now = digest;
+    let mut i = 0;
+    while i < count {
+        now = mix(now, part_of(table::edge_of(edges, i), k));
+        i = i + 1;
+    }
+    now
+}
+
+// What list k has from a number on, after the last edge.
+fn mix_fillers(digest: u64, byte: u8, k: usize, from: usize, room: usize) -> u64
+    requires { ⌜ (k < 4) × (room ≤ 160) ⌝ }
+{
+    let mut now = digest;
+    let mut i = from;
+    while i < room {
+        now = mix(now, filler(byte, k, i));
+        i = i + 1;
+    }
+    now
+}
+
+// Lists 1 to 3 of no edges.
+fn mix_empty(digest: u64, byte: u8, room: usize) -> u64
+    requires { ⌜ room ≤ 160 ⌝ }
+{
+    let now = mix_fillers(digest, byte, 1, 0, room);
+    mix_fillers(mix_fillers(now, byte, 2, 0, room), byte, 3, 0, room)
+}
+
+// List k, from 1 on, of the first edges.
+fn mix_listed(digest: u64, edges: [Edge; 128], k: usize, count: usize, byte: u8, room: usize) -> u64
+    requires { ⌜ (k < 4) × (room ≤ 160) ⌝ }
+{
+    mix_fillers(mix_parts(digest, edges, k, count), byte, k, count, room)
+}
+
+fn print_lists(sum: u64) {
     print::digest(b" lent ", sum);
     print::word(b"\n");
 }
 
-// An accepted table: its edges are listed, and its model and the arrays are printed.
-fn print_model(
-    bytes: &[u8],
-    shape: Shape,
-    places: &mut [usize],
-    sources: &mut [usize],
-    actions: &mut [usize],
-    denominators: &mut [usize],
-) {
-    table::list_edges(bytes, shape, places, sources, actions, denominators);
-    print_shape(shape);
-    let head = mix_invariants(mix_labels(0, bytes, shape), bytes, shape);
-    let count = least(shape.edges, places.len());
-    print::digest(
-        b" digest ",
-        mix_edges(head, bytes, count, places, sources, actions, denominators),
-    );
-    print_lent(places, sources, actions, denominators);
+// A refused table: the places are to be as they were filled, and there are no edges.
+fn print_refused(number: u8, place: usize, byte: u8, places: &[usize])
+    requires { ⌜ length (now places) ≤ 160 ⌝ }
+{
+    print::refused(number, place);
+    print_lists(mix_empty(mix_list(0, places), byte, places.len()));
 }
 
-// Runs the call, over arrays that were filled.
-fn run_over(
-    bytes: &[u8],
-    places: &mut [usize],
-    sources: &mut [usize],
-    actions: &mut [usize],
-    denominators: &mut [usize],
-) {
+// An accepted table: its model and the four lists.
+fn print_model(bytes: &[u8], shape: Shape, byte: u8, places: &[usize], edges: [Edge; 128])
+    requires { ⌜ length (now places) ≤ 160 ⌝ }
+{
+    print_shape(shape);
+    let room = places.len();
+    let count = least(shape.edges, room);
+    let head = mix_invariants(mix_labels(0, bytes, shape), bytes, shape);
+    print::digest(b" digest ", mix_edges(head, bytes, count, places, edges));
+    let with_sources = mix_listed(mix_list(0, places), edges, 1, count, byte, room);
+    let with_actions = mix_listed(with_sources, edges, 2, count, byte, room);
+    print_lists(mix_listed(with_actions, edges, 3, count, byte, room));
+}
+
+// Runs the call, over a list of places that was filled.
+fn run_over(bytes: &[u8], byte: u8, places: &mut [usize])
+    requires { ⌜ length (now places) ≤ 160 ⌝ }
+{
     let reading = table::read(bytes);
     match reading {
         Reading::Refused { number, place } => {
-            print::refused(number, place);
-            print_lent(places, sources, actions, denominators);
+            print_refused(number, place, byte, places);
         }
         Reading::Accepted(shape) => {
-            print_model(bytes, shape, places, sources, actions, denominators);
+            table::list_places(bytes, shape, places);
+            print_model(bytes, shape, byte, places, table::list_edges(bytes, shape));
         }
     }
 }
 
-// Fills the first `room` numbers of the arrays and runs the call over those.
-fn run_filled(
-    bytes: &[u8],
-    room: usize,
-    byte: u8,
-    places: &mut [usize],
-    sources: &mut [usize],
-    actions: &mut [usize],
-    denominators: &mut [usize],
-)
+// Fills the first `room` numbers of a list and runs the call over those.
+fn run_filled(bytes: &[u8], room: usize, byte: u8, list: &mut [usize])
     requires { ⌜ room ≤ 160 ⌝ }
-    requires { ⌜ (room ≤ length (now places)) × (room ≤ length (now sources)) ⌝ }
-    requires { ⌜ (room ≤ length (now actions)) × (room ≤ length (now denominators)) ⌝ }
+    requires { ⌜ room ≤ length (now list) ⌝ }
 {
-    let p = &mut places[..room];
-    let s = &mut sources[..room];
-    let a = &mut actions[..room];
-    let d = &mut denominators[..room];
-    fill(p, byte, 0);
-    fill(s, byte, 1);
-    fill(a, byte, 2);
-    fill(d, byte, 3);
-    run_over(bytes, p, s, a, d);
+    let places = &mut list[..room];
+    fill(places, byte);
+    run_over(bytes, byte, places);
 }
 
-// Runs the call on a table, with room for some edges in the arrays.
+// Runs the call on a table, with room for some edges.
 pub(crate) fn run(bytes: &[u8], room: usize, byte: u8)
     requires { ⌜ room ≤ 160 ⌝ }
 {
-    let mut places = [0usize; 160];
-    let mut sources = [0usize; 160];
-    let mut actions = [0usize; 160];
-    let mut denominators = [0usize; 160];
-    run_filled(
-        bytes,
-        room,
-        byte,
-        &mut places,
-        &mut sources,
-        &mut actions,
-        &mut denominators,
-    );
+    let mut list = [0usize; 160];
+    run_filled(bytes, room, byte, &mut list);
 }

@@ -92,7 +92,7 @@ listed-at es (suc n) j d h = side (ltb j n) refl (listed-at es n j d)
 -- ---- Meeting regions
 
 -- Meeting does not ask what regions lead to.
-noNext : Region → List Region
+pub noNext : Region → List Region
 noNext r = []
 
 -- The entries and their index have room for up to `cap` regions, of which n are listed.

@@ -35,12 +35,6 @@ pub record Before (at : ℕ) (l l′ : List ℕ) : Type 0 where
 abbrev pub threeSet : List ℕ → (at a b c : ℕ) → List ℕ
 threeSet l at a b c = set (set (set l at a) (at + 1) b) (at + 2) c
 
--- Lists of the places, actions and denominators of the edges of a model.
-pub record Listing (m : Model) (places actions denominators : List ℕ) : Type 0 where
-  pub place : (e : ℕ) → e < length (m .edges) → getD places e 0 ≡ edgeOf m e .place
-  pub action : (e : ℕ) → e < length (m .edges) → getD actions e 0 ≡ edgeOf m e .action
-  pub whole : (e : ℕ) → e < length (m .edges) → getD denominators e 0 ≡ edgeOf m e .denominator
-
 -- The numbers of an edge fit in a row.
 pub record Fitting (e : Edge) : Type 0 where
   pub action : e .action < 65536

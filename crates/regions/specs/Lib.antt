@@ -7,6 +7,7 @@
 --   Index      a chained hash index over the first entries
 --   Worklist   numbering what is reached, in the order in which it is met, with a cap
 --   Explore    exploring into entries, step by step
+--   Marks      what is known of where the branches of one region lead
 --   Call       the graph call: its answer, and what the lent entries then hold
 --   Passed     what the layers above need of the layers beneath
 --   View       the graph as the layers above see it: labels, delays and steps by number
@@ -23,6 +24,7 @@ pub mod Entries
 pub mod Index
 pub mod Worklist
 pub mod Explore
+pub mod Marks
 pub mod Call
 pub mod Passed
 pub mod View

@@ -1,12 +1,11 @@
 // The bounds of a model's clocks: the largest constant of its table.
 ghost use Prim.Native.Nat.{ℕ, max};
 ghost use mathlib.Core.Path.{_≡_};
-ghost use mathlib.Core.List.{List};
 ghost use Rattle.table.specs.Model.{Model};
 ghost use lib.ListN.{length};
 ghost use Rattle.table.specs.Reading.{readTable, accepted};
 ghost use Rattle.table.specs.Reads.{Reads, ReadsEdge, edgeOf};
-ghost use Rattle.regions.specs.Edges.{Arrays};
+ghost use Rattle.regions.specs.Edges.{Placed};
 ghost use Rattle.regions.specs.Graph.{largestOf, constantOf, guardConstant, edgeConstant, boundsOf};
 use clocks::Bounds;
 use clocks::larger;
@@ -44,8 +43,8 @@ fn largest_guard(bytes: &[u8], place: usize) -> u8
 
 // The largest constant of the guard atoms of all edges, of which there are `count`.
 fn largest_edge(bytes: &[u8], count: usize, places: &[usize]) -> u8
-    ensures { λ r. ⌜ ((m : Model) (sources : List ℕ) → readTable (now (bytes .entry)) ≡ accepted m → count ≡ length (m .edges)
-        → Arrays m (now (places .entry)) sources → r ≡ largestOf edgeConstant (m .edges)) ⌝ }
+    ensures { λ r. ⌜ ((m : Model) → readTable (now (bytes .entry)) ≡ accepted m → count ≡ length (m .edges)
+        → Placed m (now (places .entry)) → r ≡ largestOf edgeConstant (m .edges)) ⌝ }
 {
     let mut best = 0;
     let mut i = 0;
@@ -58,7 +57,7 @@ fn largest_edge(bytes: &[u8], count: usize, places: &[usize]) -> u8
 
 // The bounds of a model's clocks.
 pub(crate) fn bounds_of(bytes: &[u8], shape: Shape, places: &[usize]) -> Bounds
-    ensures { λ r. ⌜ ((m : Model) (sources : List ℕ) → Reads (now (bytes .entry)) shape m → Arrays m (now (places .entry)) sources
+    ensures { λ r. ⌜ ((m : Model) → Reads (now (bytes .entry)) shape m → Placed m (now (places .entry))
         → r ≡ boundsOf m) ⌝ }
 {
     let most = larger(
@@ -76,16 +75,6 @@ pub fn bounds_for(bytes: &[u8], shape: Shape) -> Bounds
     ensures { λ r. ⌜ ((m : Model) → Reads (now (bytes .entry)) shape m → r ≡ boundsOf m) ⌝ }
 {
     let mut places = [0usize; 128];
-    let mut sources = [0usize; 128];
-    let mut actions = [0usize; 128];
-    let mut denominators = [0usize; 128];
-    table::list_edges(
-        bytes,
-        shape,
-        &mut places,
-        &mut sources,
-        &mut actions,
-        &mut denominators,
-    );
+    table::list_places(bytes, shape, &mut places);
     bounds_of(bytes, shape, &places)
 }

@@ -5,13 +5,18 @@ ghost use lib.ListN.{length};
 ghost use Rattle.table.specs.Model.{Model};
 ghost use Rattle.table.specs.Reading.{accepted};
 ghost use Rattle.table.specs.Reads.{Reads};
-ghost use Rattle.regions.specs.Graph.{first};
+ghost use Rattle.regions.specs.Graph.{first, boundsOf};
+ghost use Rattle.regions.specs.Edges.{Placed, Linked};
+ghost use Rattle.regions.specs.Limits.{Limited};
 ghost use Rattle.regions.specs.Call.{roomFor, fromAnswer, outcomeOf, graphOf, entriesAfter};
 use crate::bounds::bounds_of;
+use crate::edges::link_edges;
 use crate::entry::ENTRY_BYTES;
 use crate::explore::explore_all;
 use crate::limits::list_limits;
 use crate::limits::meets_invariant;
+use crate::slices::at_most;
+use clocks::Bounds;
 use clocks::Region;
 use table::Reading;
 use table::Shape;
@@ -47,29 +52,24 @@ fn whole_entries(bytes: usize) -> usize
     }
 }
 
-// The graph of a table that was read.
-pub fn graph_of(bytes: &[u8], shape: Shape, entries: &mut [u8]) -> Graph
-    ensures { λ r. ⌜ ((m : Model) → Reads (now (bytes .entry)) shape m
+// The graph of a table that was read, from its limits, and its edges by number and by source.
+fn graph_from(
+    bytes: &[u8],
+    shape: Shape,
+    limits: &[u16],
+    places: &[usize],
+    starts: &[u8],
+    follows: &[u8],
+    bounds: Bounds,
+    entries: &mut [u8],
+) -> Graph
+    ensures { λ r. ⌜ ((m : Model) → Reads (now (bytes .entry)) shape m → Limited m (now (limits .entry)) → Placed m (now (places .entry))
+        → Linked m (now (starts .entry)) (now (follows .entry)) → bounds ≡ boundsOf m
         → (r ≡ graphOf (fromAnswer (roomFor (length (now (entries .entry)))) (accepted m)))
         × (now (entries .exit) ≡ entriesAfter (now (entries .entry)) (fromAnswer (roomFor (length (now (entries .entry)))) (accepted m)))) ⌝ }
 {
-    let mut places = [0usize; 128];
-    let mut sources = [0usize; 128];
-    let mut actions = [0usize; 128];
-    let mut denominators = [0usize; 128];
-    table::list_edges(
-        bytes,
-        shape,
-        &mut places,
-        &mut sources,
-        &mut actions,
-        &mut denominators,
-    );
-    let mut limits = [65535u16; 1024];
-    list_limits(bytes, shape, &mut limits);
-    let bounds = bounds_of(bytes, shape, &places);
     let start = first_of(shape);
-    if !meets_invariant(&limits, bounds, start) {
+    if !meets_invariant(limits, bounds, start) {
         return Graph::Refused {
             number: 14,
             place: 0,
@@ -79,9 +79,10 @@ pub fn graph_of(bytes: &[u8], shape: Shape, entries: &mut [u8]) -> Graph
     let met = explore_all(
         bytes,
         shape,
-        &limits,
-        &places,
-        &sources,
+        limits,
+        places,
+        starts,
+        follows,
         bounds,
         start,
         cap,
@@ -94,6 +95,34 @@ pub fn graph_of(bytes: &[u8], shape: Shape, entries: &mut [u8]) -> Graph
         };
     }
     Graph::Regions(met.count)
+}
+
+// The graph of a table that was read.
+pub fn graph_of(bytes: &[u8], shape: Shape, entries: &mut [u8]) -> Graph
+    ensures { λ r. ⌜ ((m : Model) → Reads (now (bytes .entry)) shape m
+        → (r ≡ graphOf (fromAnswer (roomFor (length (now (entries .entry)))) (accepted m)))
+        × (now (entries .exit) ≡ entriesAfter (now (entries .entry)) (fromAnswer (roomFor (length (now (entries .entry)))) (accepted m)))) ⌝ }
+{
+    let mut places = [0usize; 128];
+    table::list_places(bytes, shape, &mut places);
+    let list = table::list_edges(bytes, shape);
+    let edges = at_most(shape.edges, 128);
+    let mut starts = [0u8; 256];
+    let mut follows = [0u8; 128];
+    link_edges(list, edges, &mut starts, &mut follows);
+    let mut limits = [65535u16; 1024];
+    list_limits(bytes, shape, &mut limits);
+    let bounds = bounds_of(bytes, shape, &places);
+    graph_from(
+        bytes,
+        shape,
+        &limits,
+        &places,
+        &starts,
+        &follows,
+        bounds,
+        entries,
+    )
 }
 
 // Explores the regions of a table into the lent entries.

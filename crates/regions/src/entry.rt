@@ -9,7 +9,7 @@ use clocks::Region;
 pub(crate) const ENTRY_BYTES: usize = 9;
 
 // The byte at a place, and 0 past the end.
-fn byte_at(entries: &[u8], at: usize) -> u8
+pub(crate) fn byte_at(entries: &[u8], at: usize) -> u8
     ensures { λ r. ⌜ r ≡ getD (now (entries .entry)) at 0 ⌝ }
 {
     if at < entries.len() { entries[at] } else { 0 }

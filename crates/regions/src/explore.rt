@@ -6,12 +6,15 @@ ghost use lib.ListN.{length};
 ghost use Rattle.table.specs.Model.{Model};
 ghost use Rattle.table.specs.Reads.{Reads, ReadsEdge, edgeOf};
 ghost use Rattle.regions.specs.Graph.{landing, gather, boundsOf, edgeNext, delayNext, nextOf};
-ghost use Rattle.regions.specs.Edges.{Arrays};
+ghost use Rattle.regions.specs.Edges.{Placed, Linked};
 ghost use Rattle.regions.specs.Limits.{Limited};
+ghost use Rattle.regions.specs.Marks.{Judged, Seen};
 ghost use Rattle.regions.specs.Worklist.{exploreFrom, explore};
 ghost use Rattle.regions.specs.Entries.{entryBytes, maxEntries};
 ghost use Rattle.regions.specs.Explore.{Room, Kept, Left, AllMet, sameRegion, listed, foundOf};
 ghost use Rattle.clocks.specs.declared.region.Region.{Region};
+use crate::edges::edge_link;
+use crate::entry::byte_at;
 use crate::entry::read_entry;
 use crate::guards::is_available;
 use crate::guards::landing_of;
@@ -19,9 +22,15 @@ use crate::index::Lookup;
 use crate::index::add;
 use crate::index::find;
 use crate::limits::meets_invariant;
+use crate::marks::mark_place;
+use crate::marks::put_mark;
 use clocks::Bounds;
 use clocks::Region;
+use table::Branch;
 use table::Shape;
+
+// The mark of a branch that leads to a region with a number.
+const NUMBERED: u8 = 1;
 
 // How many regions are listed after some were met, and whether there was no room for one of them.
 pub(crate) struct Met {
@@ -65,6 +74,41 @@ fn meet_one(
     }
 }
 
+// Where a branch of a region leads is met, unless its mark says that it was.
+fn meet_target(
+    bounds: Bounds,
+    r: Region,
+    b: Branch,
+    n: usize,
+    cap: usize,
+    entries: &mut [u8],
+    heads: &mut [u16],
+    nexts: &mut [u16],
+    seen: &mut [u8],
+) -> Met
+    requires { ⌜ Room cap (now entries) (now heads) (now nexts) n ⌝ }
+    requires { ⌜ Seen bounds r (now entries) n (now seen) ⌝ }
+    ensures { λ met. ⌜ Kept cap n (now (entries .entry)) (now (heads .entry)) (now (nexts .entry))
+        (now (entries .exit)) (now (heads .exit)) (now (nexts .exit)) (met .count) ⌝ }
+    ensures { λ met. ⌜ Seen bounds r (now (entries .exit)) (met .count) (now (seen .exit)) ⌝ }
+    ensures { λ met. ⌜ AllMet cap n (landing bounds r b ∷ []) (now (entries .entry)) (now (entries .exit)) met ⌝ }
+{
+    let at = mark_place(b);
+    if byte_at(seen, at) == NUMBERED {
+        return Met {
+            full: false,
+            count: n,
+        };
+    }
+    let q = landing_of(bounds, r, b);
+    let met = meet_one(q, n, cap, entries, heads, nexts);
+    if met.full {
+        return met;
+    }
+    put_mark(seen, at, NUMBERED);
+    met
+}
+
 // The targets of the branches of the edge at a place are met.
 fn meet_branches(
     bytes: &[u8],
@@ -76,10 +120,13 @@ fn meet_branches(
     entries: &mut [u8],
     heads: &mut [u16],
     nexts: &mut [u16],
+    seen: &mut [u8],
 ) -> Met
     requires { ⌜ Room cap (now entries) (now heads) (now nexts) n ⌝ }
+    requires { ⌜ Seen bounds r (now entries) n (now seen) ⌝ }
     ensures { λ met. ⌜ Kept cap n (now (entries .entry)) (now (heads .entry)) (now (nexts .entry))
         (now (entries .exit)) (now (heads .exit)) (now (nexts .exit)) (met .count) ⌝ }
+    ensures { λ met. ⌜ Seen bounds r (now (entries .exit)) (met .count) (now (seen .exit)) ⌝ }
     ensures { λ met. ⌜ ((m : Model) (e : ℕ) → ReadsEdge (now (bytes .entry)) place m e
         → AllMet cap n (gather (λ b. landing bounds r b ∷ []) (edgeOf m e .branches)) (now (entries .entry)) (now (entries .exit)) met) ⌝ }
 {
@@ -87,8 +134,8 @@ fn meet_branches(
     let mut listed = n;
     let mut i = 0;
     while i < branches {
-        let q = landing_of(bounds, r, table::branch_at(bytes, place, i));
-        let met = meet_one(q, listed, cap, entries, heads, nexts);
+        let b = table::branch_at(bytes, place, i);
+        let met = meet_target(bounds, r, b, listed, cap, entries, heads, nexts, seen);
         if met.full {
             return met;
         }
@@ -114,16 +161,21 @@ fn meet_edge(
     entries: &mut [u8],
     heads: &mut [u16],
     nexts: &mut [u16],
+    judged: &mut [u8],
+    seen: &mut [u8],
 ) -> Met
     requires { ⌜ Room cap (now entries) (now heads) (now nexts) n ⌝ }
+    requires { ⌜ Judged (now limits) bounds r (now judged) × Seen bounds r (now entries) n (now seen) ⌝ }
     ensures { λ met. ⌜ Kept cap n (now (entries .entry)) (now (heads .entry)) (now (nexts .entry))
         (now (entries .exit)) (now (heads .exit)) (now (nexts .exit)) (met .count) ⌝ }
+    ensures { λ met. ⌜ Judged (now (limits .entry)) bounds r (now (judged .exit))
+        × Seen bounds r (now (entries .exit)) (met .count) (now (seen .exit)) ⌝ }
     ensures { λ met. ⌜ ((m : Model) (e : ℕ) → Limited m (now (limits .entry)) → ReadsEdge (now (bytes .entry)) place m e
         → source ≡ edgeOf m e .source → bounds ≡ boundsOf m
         → AllMet cap n (edgeNext m r (edgeOf m e)) (now (entries .entry)) (now (entries .exit)) met) ⌝ }
 {
-    if is_available(bytes, limits, place, source, bounds, r) {
-        return meet_branches(bytes, place, bounds, r, n, cap, entries, heads, nexts);
+    if is_available(bytes, limits, place, source, bounds, r, judged) {
+        return meet_branches(bytes, place, bounds, r, n, cap, entries, heads, nexts, seen);
     }
     Met {
         full: false,
@@ -165,13 +217,15 @@ fn meet_delay(
     meet_one(q, n, cap, entries, heads, nexts)
 }
 
-// The targets of all available edges are met, in table order. (Most edges start at another location: these are passed at once.)
+// The targets of all available edges are met, in table order. (Most edges start at another location: these are passed at once. What
+// the others lead to is tested and met once for each mask and target.)
 fn meet_edges(
     bytes: &[u8],
     shape: Shape,
     limits: &[u16],
     places: &[usize],
-    sources: &[usize],
+    starts: &[u8],
+    follows: &[u8],
     bounds: Bounds,
     r: Region,
     n: usize,
@@ -183,23 +237,25 @@ fn meet_edges(
     requires { ⌜ Room cap (now entries) (now heads) (now nexts) n ⌝ }
     ensures { λ met. ⌜ Kept cap n (now (entries .entry)) (now (heads .entry)) (now (nexts .entry))
         (now (entries .exit)) (now (heads .exit)) (now (nexts .exit)) (met .count) ⌝ }
-    ensures { λ met. ⌜ ((m : Model) → Reads (now (bytes .entry)) shape m → Limited m (now (limits .entry)) → Arrays m (now (places .entry)) (now (sources .entry))
+    ensures { λ met. ⌜ ((m : Model) → Reads (now (bytes .entry)) shape m → Limited m (now (limits .entry)) → Placed m (now (places .entry)) → Linked m (now (starts .entry)) (now (follows .entry))
         → bounds ≡ boundsOf m
         → AllMet cap n (gather (edgeNext m r) (m .edges)) (now (entries .entry)) (now (entries .exit)) met) ⌝ }
 {
     let edges = shape.edges;
     let location = r.location as usize;
+    let mut judged = [0u8; 1024];
+    let mut seen = [0u8; 1024];
     let mut listed = n;
+    let mut link = edge_link(starts, location);
     let mut i = 0;
     while i < edges {
-        let source = table::number_at(sources, i);
-        if source == location {
+        if link == i + 1 {
             let place = table::number_at(places, i);
             let met = meet_edge(
                 bytes,
                 limits,
                 place,
-                source,
+                location,
                 bounds,
                 r,
                 listed,
@@ -207,11 +263,14 @@ fn meet_edges(
                 entries,
                 heads,
                 nexts,
+                &mut judged,
+                &mut seen,
             );
             if met.full {
                 return met;
             }
             listed = met.count;
+            link = edge_link(follows, i);
         }
         i = i + 1;
     }
@@ -227,7 +286,8 @@ fn meet_next(
     shape: Shape,
     limits: &[u16],
     places: &[usize],
-    sources: &[usize],
+    starts: &[u8],
+    follows: &[u8],
     bounds: Bounds,
     r: Region,
     n: usize,
@@ -239,7 +299,7 @@ fn meet_next(
     requires { ⌜ Room cap (now entries) (now heads) (now nexts) n ⌝ }
     ensures { λ met. ⌜ Kept cap n (now (entries .entry)) (now (heads .entry)) (now (nexts .entry))
         (now (entries .exit)) (now (heads .exit)) (now (nexts .exit)) (met .count) ⌝ }
-    ensures { λ met. ⌜ ((m : Model) → Reads (now (bytes .entry)) shape m → Limited m (now (limits .entry)) → Arrays m (now (places .entry)) (now (sources .entry))
+    ensures { λ met. ⌜ ((m : Model) → Reads (now (bytes .entry)) shape m → Limited m (now (limits .entry)) → Placed m (now (places .entry)) → Linked m (now (starts .entry)) (now (follows .entry))
         → bounds ≡ boundsOf m → AllMet cap n (nextOf m r) (now (entries .entry)) (now (entries .exit)) met) ⌝ }
 {
     let met = meet_delay(limits, bounds, r, n, cap, entries, heads, nexts);
@@ -252,7 +312,8 @@ fn meet_next(
         shape,
         limits,
         places,
-        sources,
+        starts,
+        follows,
         bounds,
         r,
         listed,
@@ -269,7 +330,8 @@ fn explore_listed(
     shape: Shape,
     limits: &[u16],
     places: &[usize],
-    sources: &[usize],
+    starts: &[u8],
+    follows: &[u8],
     bounds: Bounds,
     cap: usize,
     entries: &mut [u8],
@@ -280,7 +342,7 @@ fn explore_listed(
     ensures { λ met. ⌜ Kept cap 1 (now (entries .entry)) (now (heads .entry)) (now (nexts .entry))
         (now (entries .exit)) (now (heads .exit)) (now (nexts .exit)) (met .count) ⌝ }
     ensures { λ met. ⌜ ((m : Model) (d : Region) → Reads (now (bytes .entry)) shape m
-        → Limited m (now (limits .entry)) → Arrays m (now (places .entry)) (now (sources .entry)) → bounds ≡ boundsOf m
+        → Limited m (now (limits .entry)) → Placed m (now (places .entry)) → Linked m (now (starts .entry)) (now (follows .entry)) → bounds ≡ boundsOf m
         → exploreFrom sameRegion (nextOf m) (suc cap) cap d (listed (now (entries .entry)) 1) 0
         ≡ foundOf (met .full) (listed (now (entries .exit)) (met .count))) ⌝ }
 {
@@ -293,7 +355,8 @@ fn explore_listed(
             shape,
             limits,
             places,
-            sources,
+            starts,
+            follows,
             bounds,
             r,
             count,
@@ -320,7 +383,8 @@ pub(crate) fn explore_all(
     shape: Shape,
     limits: &[u16],
     places: &[usize],
-    sources: &[usize],
+    starts: &[u8],
+    follows: &[u8],
     bounds: Bounds,
     start: Region,
     cap: usize,
@@ -329,7 +393,7 @@ pub(crate) fn explore_all(
     requires { ⌜ (cap ≤ maxEntries) × (entryBytes * cap ≤ length (now entries)) ⌝ }
     ensures { λ met. ⌜ Left (now (entries .entry)) (now (entries .exit)) (met .count) ⌝ }
     ensures { λ met. ⌜ ((m : Model) → Reads (now (bytes .entry)) shape m
-        → Limited m (now (limits .entry)) → Arrays m (now (places .entry)) (now (sources .entry)) → bounds ≡ boundsOf m
+        → Limited m (now (limits .entry)) → Placed m (now (places .entry)) → Linked m (now (starts .entry)) (now (follows .entry)) → bounds ≡ boundsOf m
         → explore sameRegion (nextOf m) cap start ≡ foundOf (met .full) (listed (now (entries .exit)) (met .count))) ⌝ }
 {
     if cap < 1 {
@@ -346,7 +410,8 @@ pub(crate) fn explore_all(
         shape,
         limits,
         places,
-        sources,
+        starts,
+        follows,
         bounds,
         cap,
         entries,

@@ -4,14 +4,23 @@ ghost use mathlib.Core.Path.{_≡_};
 ghost use mathlib.Core.Bool.{Bool};
 ghost use Rattle.table.specs.Model.{Model};
 ghost use Rattle.table.specs.Reads.{ReadsEdge, edgeOf};
-ghost use Rattle.regions.specs.Graph.{isHolds, satisfies, every, landing, lands, available, boundsOf};
+ghost use Rattle.regions.specs.Graph.{isHolds, meets, satisfies, every, landing, lands, available, boundsOf};
 ghost use Rattle.regions.specs.Limits.{Limited};
+ghost use Rattle.regions.specs.Marks.{Judged};
+use crate::entry::byte_at;
 use crate::limits::meets_invariant;
+use crate::marks::mark_place;
+use crate::marks::put_mark;
 use clocks::Bounds;
 use clocks::Region;
 use clocks::Verdict;
 use table::Branch;
 use table::Guard;
+
+// Marks of a branch: the region that it leads to breaks its invariant, or meets it.
+const BROKEN: u8 = 1;
+
+const MET: u8 = 2;
 
 fn is_held(v: Verdict) -> bool
     ensures { λ r. ⌜ r ≡ isHolds v ⌝ }
@@ -54,22 +63,48 @@ pub(crate) fn landing_of(bounds: Bounds, r: Region, b: Branch) -> Region
     q
 }
 
+// Does a branch land in a region that meets its invariant? Its mark says so, or is set to say so.
+fn meets_target(limits: &[u16], bounds: Bounds, r: Region, b: Branch, judged: &mut [u8]) -> bool
+    requires { ⌜ Judged (now limits) bounds r (now judged) ⌝ }
+    ensures { λ v. ⌜ ((m : Model) → Limited m (now (limits .entry)) → v ≡ meets bounds (m .invariants) (landing bounds r b)) ⌝ }
+    ensures { λ _. ⌜ Judged (now (limits .entry)) bounds r (now (judged .exit)) ⌝ }
+{
+    let at = mark_place(b);
+    let mark = byte_at(judged, at);
+    if mark == BROKEN {
+        return false;
+    }
+    if mark == MET {
+        return true;
+    }
+    let q = landing_of(bounds, r, b);
+    if meets_invariant(limits, bounds, q) {
+        put_mark(judged, at, MET);
+        return true;
+    }
+    put_mark(judged, at, BROKEN);
+    false
+}
+
 // Does every branch of the edge at a place land in a region that meets its invariant?
-pub(crate) fn lands_all(
+fn lands_all(
     bytes: &[u8],
     limits: &[u16],
     place: usize,
     bounds: Bounds,
     r: Region,
+    judged: &mut [u8],
 ) -> bool
+    requires { ⌜ Judged (now limits) bounds r (now judged) ⌝ }
+    ensures { λ _. ⌜ Judged (now (limits .entry)) bounds r (now (judged .exit)) ⌝ }
     ensures { λ b. ⌜ ((m : Model) (e : ℕ) → Limited m (now (limits .entry)) → ReadsEdge (now (bytes .entry)) place m e
         → b ≡ lands bounds (m .invariants) (edgeOf m e) r) ⌝ }
 {
     let count = table::branch_count(bytes, place);
     let mut i = 0;
     while i < count {
-        let q = landing_of(bounds, r, table::branch_at(bytes, place, i));
-        if !meets_invariant(limits, bounds, q) {
+        let b = table::branch_at(bytes, place, i);
+        if !meets_target(limits, bounds, r, b, judged) {
             return false;
         }
         i = i + 1;
@@ -77,7 +112,7 @@ pub(crate) fn lands_all(
     true
 }
 
-// Is the edge at a place, with this source, available?
+// Is the edge at a place, with this source, available? The marks are those of the region, and may be set.
 pub(crate) fn is_available(
     bytes: &[u8],
     limits: &[u16],
@@ -85,7 +120,10 @@ pub(crate) fn is_available(
     source: usize,
     bounds: Bounds,
     r: Region,
+    judged: &mut [u8],
 ) -> bool
+    requires { ⌜ Judged (now limits) bounds r (now judged) ⌝ }
+    ensures { λ _. ⌜ Judged (now (limits .entry)) bounds r (now (judged .exit)) ⌝ }
     ensures { λ b. ⌜ ((m : Model) (e : ℕ) → Limited m (now (limits .entry)) → ReadsEdge (now (bytes .entry)) place m e
         → source ≡ edgeOf m e .source → bounds ≡ boundsOf m → b ≡ available m (edgeOf m e) r) ⌝ }
 {
@@ -96,5 +134,5 @@ pub(crate) fn is_available(
     if !meets_guards(bytes, place, bounds, r) {
         return false;
     }
-    lands_all(bytes, limits, place, bounds, r)
+    lands_all(bytes, limits, place, bounds, r, judged)
 }

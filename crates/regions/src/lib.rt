@@ -2,11 +2,13 @@
 mod bounds;
 mod call;
 mod classes;
+mod edges;
 mod entry;
 mod explore;
 mod guards;
 mod index;
 mod limits;
+mod marks;
 mod moves;
 mod reach;
 mod rows;

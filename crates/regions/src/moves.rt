@@ -4,10 +4,11 @@ ghost use mathlib.Core.Path.{_≡_};
 ghost use lib.ListN.{getD, length};
 ghost use Rattle.table.specs.Model.{Model};
 ghost use Rattle.table.specs.Reading.{readTable, accepted};
-ghost use Rattle.table.specs.Reads.{Reads, edgeOf};
+ghost use Rattle.table.specs.Reads.{Reads, ReadsEdge, edgeOf};
 ghost use Rattle.regions.specs.Graph.{boundsOf, available};
-ghost use Rattle.regions.specs.Edges.{Arrays};
+ghost use Rattle.regions.specs.Edges.{Placed, Linked};
 ghost use Rattle.regions.specs.Limits.{Limited};
+ghost use Rattle.regions.specs.Marks.{Judged};
 ghost use Rattle.regions.specs.Entries.{entryBytes, maxEntries, regionAt};
 ghost use Rattle.regions.specs.Index.{Index};
 ghost use Rattle.regions.specs.Explore.{listed};
@@ -15,6 +16,7 @@ ghost use Rattle.regions.specs.View.{labelOf, delayNumbers};
 ghost use Rattle.regions.specs.Shown.{followers, openBelow};
 ghost use Rattle.regions.specs.Filling.{Run, Blocks, Before};
 ghost use Rattle.regions.specs.Laws.Call.{AllRegions};
+use crate::edges::edge_link;
 use crate::entry::read_entry;
 use crate::guards::is_available;
 use crate::index::Lookup;
@@ -130,13 +132,38 @@ pub(crate) fn show_delays(
     show_nexts(limits, bounds, entries, &heads, &links, n, nexts);
 }
 
+// The number after an edge with the region's location as its source, where it is available, and `last` where it is not.
+fn open_after(
+    bytes: &[u8],
+    limits: &[u16],
+    place: usize,
+    bounds: Bounds,
+    r: Region,
+    e: usize,
+    last: u8,
+    judged: &mut [u8],
+) -> u8
+    requires { ⌜ (e < 128) × Judged (now limits) bounds r (now judged) ⌝ }
+    ensures { λ _. ⌜ Judged (now (limits .entry)) bounds r (now (judged .exit)) ⌝ }
+    ensures { λ v. ⌜ ((m : Model) → Limited m (now (limits .entry)) → ReadsEdge (now (bytes .entry)) place m e
+        → r .location ≡ edgeOf m e .source → bounds ≡ boundsOf m → last ≡ openBelow (λ f. available m (edgeOf m f) r) e
+        → v ≡ openBelow (λ f. available m (edgeOf m f) r) (suc e)) ⌝ }
+{
+    let location = r.location as usize;
+    if is_available(bytes, limits, place, location, bounds, r, judged) {
+        return (e + 1) as u8;
+    }
+    last
+}
+
 // The available edges of a region, from a place on: at each edge the number after the last one up to and with it. (Most edges start
 // at another location: these are passed at once.)
 fn mark_edges(
     bytes: &[u8],
     limits: &[u16],
     places: &[usize],
-    sources: &[usize],
+    starts: &[u8],
+    follows: &[u8],
     bounds: Bounds,
     r: Region,
     edges: usize,
@@ -146,19 +173,19 @@ fn mark_edges(
     requires { ⌜ (edges ≤ 128) × (base + edges ≤ length (now flags)) ⌝ }
     ensures { λ _. ⌜ Before base (now (flags .entry)) (now (flags .exit)) ⌝ }
     ensures { λ _. ⌜ ((m : Model) → readTable (now (bytes .entry)) ≡ accepted m → Limited m (now (limits .entry))
-        → Arrays m (now (places .entry)) (now (sources .entry)) → bounds ≡ boundsOf m → edges ≡ length (m .edges)
+        → Placed m (now (places .entry)) → Linked m (now (starts .entry)) (now (follows .entry)) → bounds ≡ boundsOf m → edges ≡ length (m .edges)
         → Run base edges (λ e v. v ≡ openBelow (λ f. available m (edgeOf m f) r) (suc e)) (now (flags .exit))) ⌝ }
 {
     let location = r.location as usize;
+    let mut judged = [0u8; 1024];
     let mut last = 0u8;
+    let mut link = edge_link(starts, location);
     let mut e = 0;
     while e < edges {
-        let source = table::number_at(sources, e);
-        if source == location {
+        if link == e + 1 {
             let place = table::number_at(places, e);
-            if is_available(bytes, limits, place, source, bounds, r) {
-                last = (e + 1) as u8;
-            }
+            last = open_after(bytes, limits, place, bounds, r, e, last, &mut judged);
+            link = edge_link(follows, e);
         }
         flags[base + e] = last;
         e = e + 1;
@@ -170,7 +197,8 @@ pub(crate) fn show_flags(
     bytes: &[u8],
     limits: &[u16],
     places: &[usize],
-    sources: &[usize],
+    starts: &[u8],
+    follows: &[u8],
     bounds: Bounds,
     edges: usize,
     entries: &[u8],
@@ -179,7 +207,7 @@ pub(crate) fn show_flags(
 )
     requires { ⌜ (n ≤ maxEntries) × (edges ≤ 128) × (4096 * 128 ≤ length (now flags)) ⌝ }
     ensures { λ _. ⌜ ((m : Model) → readTable (now (bytes .entry)) ≡ accepted m → Limited m (now (limits .entry))
-        → Arrays m (now (places .entry)) (now (sources .entry)) → bounds ≡ boundsOf m → edges ≡ length (m .edges)
+        → Placed m (now (places .entry)) → Linked m (now (starts .entry)) (now (follows .entry)) → bounds ≡ boundsOf m → edges ≡ length (m .edges)
         → Blocks 128 edges n (λ x e v. v ≡ openBelow (λ f. available m (edgeOf m f) (regionAt (now (entries .entry)) x)) (suc e))
         (now (flags .exit))) ⌝ }
 {
@@ -190,7 +218,8 @@ pub(crate) fn show_flags(
             bytes,
             limits,
             places,
-            sources,
+            starts,
+            follows,
             bounds,
             r,
             edges,

@@ -4,10 +4,12 @@ ghost use mathlib.Core.Path.{_≡_};
 ghost use lib.ListN.{length};
 ghost use Rattle.table.specs.Model.{Model};
 ghost use Rattle.table.specs.Reading.{readTable, accepted};
-ghost use Rattle.table.specs.Reads.{ReadsEdge, edgeOf};
-ghost use Rattle.regions.specs.Filling.{Before, Listing, Fitting, RowTo, RowsTo};
+ghost use Rattle.table.specs.Reads.{ReadsEdge, Lists, edgeOf};
+ghost use Rattle.regions.specs.Edges.{Placed};
+ghost use Rattle.regions.specs.Filling.{Before, Fitting, RowTo, RowsTo};
 use crate::slices::at_most;
 use crate::slices::store_three;
+use table::Edge;
 
 const MAX_BRANCHES: usize = 8;
 
@@ -49,22 +51,22 @@ fn show_row(
 pub(crate) fn show_rows(
     bytes: &[u8],
     places: &[usize],
-    actions: &[usize],
-    denominators: &[usize],
+    list: [Edge; 128],
     edges: usize,
     rows: &mut [u16],
 )
     requires { ⌜ (edges ≤ 128) × (128 * 32 ≤ length (now rows)) ⌝ }
     ensures { λ _. ⌜ ((m : Model) → readTable (now (bytes .entry)) ≡ accepted m
-        → Listing m (now (places .entry)) (now (actions .entry)) (now (denominators .entry))
+        → Placed m (now (places .entry)) → Lists m list
         → ((e : ℕ) → e < length (m .edges) → Fitting (edgeOf m e)) → edges ≡ length (m .edges)
         → RowsTo m edges (now (rows .exit))) ⌝ }
 {
     let mut e = 0;
     while e < edges {
         let place = table::number_at(places, e);
-        let action = table::number_at(actions, e);
-        let denominator = table::number_at(denominators, e);
+        let edge = table::edge_of(list, e);
+        let action = edge.action as usize;
+        let denominator = edge.denominator as usize;
         show_row(bytes, place, action, denominator, ROW * e, rows);
         e = e + 1;
     }

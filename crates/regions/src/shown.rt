@@ -5,14 +5,16 @@ ghost use mathlib.Core.List.{List};
 ghost use lib.ListN.{getD, length};
 ghost use Rattle.table.specs.Model.{Model};
 ghost use Rattle.table.specs.Reading.{readTable, accepted};
-ghost use Rattle.table.specs.Reads.{Reads, edgeOf};
+ghost use Rattle.table.specs.Reads.{Reads, Lists, edgeOf};
 ghost use Rattle.regions.specs.Entries.{entryBytes, maxEntries, regionAt, Tells};
-ghost use Rattle.regions.specs.Graph.{available};
+ghost use Rattle.regions.specs.Graph.{available, boundsOf};
+ghost use Rattle.regions.specs.Edges.{Placed, Linked};
+ghost use Rattle.regions.specs.Limits.{Limited};
 ghost use Rattle.regions.specs.Explore.{listed};
 ghost use Rattle.regions.specs.View.{delayNumbers};
 ghost use Rattle.regions.specs.Call.{roomFor, whole, fromAnswer, outcomeOf, graphOf, entriesAfter};
 ghost use Rattle.regions.specs.Shown.{Shown, Roomy, followers, openBelow};
-ghost use Rattle.regions.specs.Filling.{Blocks, RowsTo};
+ghost use Rattle.regions.specs.Filling.{Blocks, Fitting, RowsTo};
 ghost use Rattle.regions.specs.Laws.Call.{AllRegions};
 ghost use Rattle.clocks.specs.declared.region.Region.{Region};
 use crate::bounds::bounds_for;
@@ -20,6 +22,7 @@ use crate::bounds::bounds_of;
 use crate::call::Graph;
 use crate::call::graph_of;
 use crate::classes::show_targets;
+use crate::edges::link_edges;
 use crate::entry::ENTRY_BYTES;
 use crate::limits::list_limits;
 use crate::moves::show_delays;
@@ -27,10 +30,56 @@ use crate::moves::show_flags;
 use crate::moves::show_labels;
 use crate::rows::show_rows;
 use crate::slices::at_most;
+use clocks::Bounds;
+use table::Edge;
 use table::Reading;
 use table::Shape;
 
 const MOST_REGIONS: usize = 4096;
+
+// Delays, available edges and rows of the first n entries, from the limits of the model, and its edges by number and by source.
+fn show_from(
+    bytes: &[u8],
+    limits: &[u16],
+    places: &[usize],
+    starts: &[u8],
+    follows: &[u8],
+    list: [Edge; 128],
+    edges: usize,
+    bounds: Bounds,
+    entries: &[u8],
+    n: usize,
+    nexts: &mut [u16],
+    flags: &mut [u8],
+    rows: &mut [u16],
+)
+    requires { ⌜ (n ≤ maxEntries) × (entryBytes * n ≤ length (now entries)) × (n ≤ length (now nexts))
+        × (4096 * 128 ≤ length (now flags)) × (128 * 32 ≤ length (now rows)) × (edges ≤ 128) ⌝ }
+    ensures { λ _. ⌜ ((m : Model) → readTable (now (bytes .entry)) ≡ accepted m → Limited m (now (limits .entry))
+        → Placed m (now (places .entry)) → Linked m (now (starts .entry)) (now (follows .entry)) → Lists m list
+        → edges ≡ length (m .edges) → bounds ≡ boundsOf m → ((e : ℕ) → e < length (m .edges) → Fitting (edgeOf m e))
+        → AllRegions m (listed (now (entries .entry)) n)
+        → ((x : ℕ) → x < n
+        → delayNumbers m (listed (now (entries .entry)) n) (regionAt (now (entries .entry)) x) ≡ followers n (getD (now (nexts .exit)) x 0))
+        × Blocks 128 (length (m .edges)) n (λ x e v. v ≡ openBelow (λ f. available m (edgeOf m f) (regionAt (now (entries .entry)) x)) (suc e))
+        (now (flags .exit))
+        × RowsTo m (length (m .edges)) (now (rows .exit))) ⌝ }
+{
+    show_delays(limits, bounds, entries, n, nexts);
+    show_flags(
+        bytes,
+        limits,
+        places,
+        starts,
+        follows,
+        bounds,
+        edges,
+        entries,
+        n,
+        flags,
+    );
+    show_rows(bytes, places, list, edges, rows);
+}
 
 // Delays, available edges and rows of the first n entries.
 fn show_steps(
@@ -52,34 +101,30 @@ fn show_steps(
         × RowsTo m (length (m .edges)) (now (rows .exit))) ⌝ }
 {
     let mut places = [0usize; 128];
-    let mut sources = [0usize; 128];
-    let mut actions = [0usize; 128];
-    let mut denominators = [0usize; 128];
-    table::list_edges(
-        bytes,
-        shape,
-        &mut places,
-        &mut sources,
-        &mut actions,
-        &mut denominators,
-    );
+    table::list_places(bytes, shape, &mut places);
+    let list = table::list_edges(bytes, shape);
+    let edges = at_most(shape.edges, 128);
+    let mut starts = [0u8; 256];
+    let mut follows = [0u8; 128];
+    link_edges(list, edges, &mut starts, &mut follows);
     let mut limits = [65535u16; 1024];
     list_limits(bytes, shape, &mut limits);
     let bounds = bounds_of(bytes, shape, &places);
-    let edges = at_most(shape.edges, 128);
-    show_delays(&limits, bounds, entries, n, nexts);
-    show_flags(
+    show_from(
         bytes,
         &limits,
         &places,
-        &sources,
-        bounds,
+        &starts,
+        &follows,
+        list,
         edges,
+        bounds,
         entries,
         n,
+        nexts,
         flags,
+        rows,
     );
-    show_rows(bytes, &places, &actions, &denominators, edges, rows);
 }
 
 // All slices are filled from the first n entries.

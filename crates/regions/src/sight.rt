@@ -5,14 +5,15 @@ ghost use mathlib.Core.Bool.{true, false};
 ghost use lib.ListN.{length};
 ghost use Rattle.table.specs.Model.{Model};
 ghost use Rattle.table.specs.Reading.{readTable, refusal, accepted};
-ghost use Rattle.table.specs.Reads.{Reads, ReadsEdge, edgeOf};
+ghost use Rattle.table.specs.Access.{edgeStruct};
+ghost use Rattle.table.specs.Reads.{Reads, ReadsEdge, Lists, edgeOf};
 ghost use Rattle.regions.specs.Graph.{boundsOf};
-ghost use Rattle.regions.specs.Edges.{Arrays};
+ghost use Rattle.regions.specs.Edges.{Placed};
 ghost use Rattle.regions.specs.Limits.{Limited};
 ghost use Rattle.regions.specs.Entries.{entryBytes, maxEntries, regionAt};
 ghost use Rattle.regions.specs.Index.{Index};
 ghost use Rattle.regions.specs.Explore.{listed};
-ghost use Rattle.regions.specs.Filling.{Before, Listing, Fitting};
+ghost use Rattle.regions.specs.Filling.{Before, Fitting};
 ghost use Rattle.regions.specs.Sight.{checkedOf, entryIn, delayList, Ways, Stepping, isSeen, sightOf, Sighted};
 use crate::bounds::bounds_of;
 use crate::entry::ENTRY_BYTES;
@@ -27,6 +28,7 @@ use crate::slices::at_most;
 use crate::slices::store;
 use clocks::Bounds;
 use clocks::Region;
+use table::Edge;
 use table::Reading;
 use table::Shape;
 
@@ -121,9 +123,7 @@ fn list_step(
     bytes: &[u8],
     limits: &[u16],
     place: usize,
-    source: usize,
-    action: usize,
-    denominator: usize,
+    edge: Edge,
     bounds: Bounds,
     r: Region,
     entries: &[u8],
@@ -137,13 +137,15 @@ fn list_step(
     requires { ⌜ (n ≤ maxEntries) × (at + 32 ≤ length (now rows)) ⌝ }
     ensures { λ _. ⌜ Before at (now (rows .entry)) (now (rows .exit)) ⌝ }
     ensures { λ _. ⌜ ((m : Model) (e : ℕ) → Limited m (now (limits .entry)) → ReadsEdge (now (bytes .entry)) place m e → Fitting (edgeOf m e)
-        → source ≡ edgeOf m e .source → action ≡ edgeOf m e .action → denominator ≡ edgeOf m e .denominator → bounds ≡ boundsOf m
+        → edge ≡ edgeStruct (edgeOf m e) → bounds ≡ boundsOf m
         → at ≡ 32 * e → Stepping m (listed (now (entries .entry)) n) r e (now (rows .exit))) ⌝ }
 {
-    if is_available(bytes, limits, place, source, bounds, r) {
+    let source = edge.source as usize;
+    let mut judged = [0u8; 1024];
+    if is_available(bytes, limits, place, source, bounds, r, &mut judged) {
         store(rows, at, 1);
-        store(rows, at + 1, action);
-        store(rows, at + 2, denominator);
+        store(rows, at + 1, edge.action as usize);
+        store(rows, at + 2, edge.denominator as usize);
         list_ways(bytes, place, bounds, r, entries, heads, links, n, at, rows);
     } else {
         store(rows, at, 0);
@@ -155,9 +157,7 @@ fn list_steps(
     bytes: &[u8],
     limits: &[u16],
     places: &[usize],
-    sources: &[usize],
-    actions: &[usize],
-    denominators: &[usize],
+    list: [Edge; 128],
     edges: usize,
     bounds: Bounds,
     r: Region,
@@ -170,23 +170,19 @@ fn list_steps(
     requires { ⌜ Index (now entries) (now heads) (now links) n ⌝ }
     requires { ⌜ (n ≤ maxEntries) × (edges ≤ 128) × (128 * 32 ≤ length (now rows)) ⌝ }
     ensures { λ _. ⌜ ((m : Model) → readTable (now (bytes .entry)) ≡ accepted m → Limited m (now (limits .entry))
-        → Arrays m (now (places .entry)) (now (sources .entry)) → Listing m (now (places .entry)) (now (actions .entry)) (now (denominators .entry))
+        → Placed m (now (places .entry)) → Lists m list
         → ((e : ℕ) → e < length (m .edges) → Fitting (edgeOf m e)) → bounds ≡ boundsOf m → edges ≡ length (m .edges)
         → (e : ℕ) → e < edges → Stepping m (listed (now (entries .entry)) n) r e (now (rows .exit))) ⌝ }
 {
     let mut e = 0;
     while e < edges {
         let place = table::number_at(places, e);
-        let source = table::number_at(sources, e);
-        let action = table::number_at(actions, e);
-        let denominator = table::number_at(denominators, e);
+        let edge = table::edge_of(list, e);
         list_step(
             bytes,
             limits,
             place,
-            source,
-            action,
-            denominator,
+            edge,
             bounds,
             r,
             entries,
@@ -216,17 +212,8 @@ fn see_steps(
         × Sighted m (now (entries .entry)) n x (now (delays .entry)) (now (delays .exit)) (now (rows .exit))) ⌝ }
 {
     let mut places = [0usize; 128];
-    let mut sources = [0usize; 128];
-    let mut actions = [0usize; 128];
-    let mut denominators = [0usize; 128];
-    table::list_edges(
-        bytes,
-        shape,
-        &mut places,
-        &mut sources,
-        &mut actions,
-        &mut denominators,
-    );
+    table::list_places(bytes, shape, &mut places);
+    let list = table::list_edges(bytes, shape);
     let mut limits = [65535u16; 1024];
     list_limits(bytes, shape, &mut limits);
     let bounds = bounds_of(bytes, shape, &places);
@@ -239,9 +226,7 @@ fn see_steps(
         bytes,
         &limits,
         &places,
-        &sources,
-        &actions,
-        &denominators,
+        list,
         edges,
         bounds,
         r,

@@ -12,7 +12,7 @@ use Rattle.table.specs.Records.{kindAt, bodyAt, invariantOf, guardOf, br
 use Rattle.table.specs.declared.model.Invariant.{Invariant}
 use Rattle.table.specs.declared.model.Guard.{Guard}
 use Rattle.table.specs.declared.model.Branch.{Branch}
-use Rattle.table.specs.declared.model.EdgeRow.{EdgeRow}
+use Rattle.table.specs.declared.model.Edge.{Edge as EdgeStruct}
 use Rattle.table.specs.declared.model.Shape.{Shape}
 use Rattle.table.specs.declared.records.Body.{Body}
 
@@ -25,8 +25,9 @@ noGuard = record { clock = 0; comparison = 0; constant = 0 }
 abbrev pub noBranch : Branch
 noBranch = record { weight = 0; target = 0; mask = 0 }
 
-abbrev pub noRow : EdgeRow
-noRow = record { place = 0; source = 0; action = 0; denominator = 0 }
+-- `EdgeStruct` is the struct `Edge` of the code, an edge as the edge list holds it; `Edge` is that of the model.
+abbrev pub noEdgeStruct : EdgeStruct
+noEdgeStruct = record { source = 0; action = 0; denominator = 0 }
 
 abbrev pub noEdge : Edge
 noEdge = record { place = 0; source = 0; action = 0; denominator = 0; guards = []; branches = [] }
@@ -62,12 +63,12 @@ readGuard table at = guardOf (bodyAt table at)
 abbrev pub readBranch : List ℕ → ℕ → Branch
 readBranch table at = branchOf (bodyAt table at)
 
--- An edge as the arrays hold it, of the place and the body of its record.
-abbrev pub rowWith : ℕ → Body → EdgeRow
-rowWith at b = record { place = at; source = b .a; action = b .b; denominator = twoBytes (b .c) (b .d) }
+-- An edge as the edge list holds it, "source, action and denominator together", of the body of its record.
+abbrev pub edgeWith : Body → EdgeStruct
+edgeWith b = record { source = b .a; action = b .b; denominator = twoBytes (b .c) (b .d) }
 
-abbrev pub readRow : List ℕ → ℕ → EdgeRow
-readRow table at = rowWith at (bodyAt table at)
+abbrev pub readEdge : List ℕ → ℕ → EdgeStruct
+readEdge table at = edgeWith (bodyAt table at)
 
 -- Item i of those of a kind that stand from `first` on.
 abbrev pub itemFrom : {A : Type 0} → ℕ → A → (List ℕ → ℕ → A) → List ℕ → ℕ → ℕ → A
@@ -103,12 +104,16 @@ branchAt table place i = itemFrom 6 noBranch readBranch table (branchesFrom tabl
 unfoldable pub branchCount : List ℕ → ℕ → ℕ
 branchCount table place = passed 6 maxBranches table (branchesFrom table place)
 
--- At most `count` edges that stand one after the other from `at` on, each with its guard atoms and branches.
-unfoldable pub rowsFrom : List ℕ → ℕ → ℕ → List EdgeRow
-rowsFrom table zero at = []
-rowsFrom table (suc count) at =
-    cond (eqb (kindAt table at) 4) (readRow table at ∷ rowsFrom table count (nextEdge table at)) []
+-- The places of at most `count` edges that stand one after the other from `at` on, each with its guard atoms and branches.
+unfoldable pub placesFrom : List ℕ → ℕ → ℕ → List ℕ
+placesFrom table zero at = []
+placesFrom table (suc count) at =
+    cond (eqb (kindAt table at) 4) (at ∷ placesFrom table count (nextEdge table at)) []
 
--- The edge of a model as the arrays hold it.
-abbrev pub rowOf : Edge → EdgeRow
-rowOf e = record { place = e .place; source = e .source; action = e .action; denominator = e .denominator }
+-- The places of the edges, by number.
+abbrev pub edgePlaces : List ℕ → Shape → List ℕ
+edgePlaces table shape = placesFrom table (shape .edges) (shape .«first_edge»)
+
+-- The edge of a model as the edge list holds it.
+abbrev pub edgeStruct : Edge → EdgeStruct
+edgeStruct e = record { source = e .source; action = e .action; denominator = e .denominator }

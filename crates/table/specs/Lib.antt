@@ -9,7 +9,7 @@
 --   Answer     the answer as the code gives it
 --   Sound      what is sound in every model that was read
 --   Access     what the accessors give
---   Edges      what the arrays of edges hold
+--   Edges      what the edge list holds
 --   Reads      the model that a table was read as, and the laws that the layer above goes by
 -- The theorems on these definitions, and laws for the proofs of the code, stand in Laws.
 pub mod Format

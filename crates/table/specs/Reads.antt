@@ -3,16 +3,19 @@ use Prim.Native.Nat.{ℕ, _<_}
 use native.Mathlib.Omega.{arith}
 use mathlib.Core.Path.{_≡_, refl, _∙_, ap}
 use mathlib.Core.List.{List, map}
-use lib.ListN.{length, getD, length-map}
+use lib.ListN.{length, getD, length-map, List·getD-map}
+use lib.Seq.{sets}
 use Rattle.table.specs.Model.{Edge, Model}
 use Rattle.table.specs.Reading.{Answer, refusal, accepted, readTable}
 use Rattle.table.specs.Answer.{readingOf}
 use Rattle.table.specs.Sound.{Sound}
-use Rattle.table.specs.Edges.{Filled, rowIn, row-filled}
+use Rattle.table.specs.Edges.{edgeList, edge-in-list, stored-at}
 use Rattle.table.specs.Written.{Bytes, shapeOf}
-use Rattle.table.specs.Access.{noInvariant, noGuard, noBranch, noEdge, labelAt, invariantAt, guardAt, guardCount, branchAt, branchCount, rowsFrom, rowOf}
+use Rattle.table.specs.Access.{noInvariant, noGuard, noBranch, noEdgeStruct, noEdge, edgeStruct, labelAt, invariantAt}
+use Rattle.table.specs.Access.{guardAt, guardCount, branchAt, branchCount, readEdge, edgePlaces}
 use Rattle.table.specs.Laws.Models.{sound, table-written, places}
-use Rattle.table.specs.Laws.Items.{label-is, invariant-is, rows-are, row-is, EdgeParts, edge-parts-are}
+use Rattle.table.specs.Laws.Items.{label-is, invariant-is, places-are, structs-are, EdgeParts, edge-parts-are}
+use Rattle.table.specs.declared.model.Edge.{Edge as EdgeStruct}
 use Rattle.table.specs.declared.model.Shape.{Shape}
 use Rattle.table.specs.declared.model.Reading.the-variants.{Refused, Accepted}
 
@@ -70,6 +73,19 @@ sound-read table shape m reads = sound table m (reads .answer)
 abbrev pub edgeOf : Model → ℕ → Edge
 edgeOf m e = getD (m .edges) e noEdge
 
+-- "The edge list is read by number: source, action and denominator together": edge e of the list is edge e of the model, for
+-- every e.
+abbrev pub Lists : Model → List EdgeStruct → Type 0
+Lists m list = (e : ℕ) → getD list e noEdgeStruct ≡ edgeStruct (edgeOf m e)
+
+-- Where a list was filled with the places of the edges, number e of it is the place of edge e, as far as there are edges and room.
+pub place-listed : (m : Model) (old now : List ℕ) → now ≡ sets old 0 (map (λ edge. edge .place) (m .edges))
+    → (e : ℕ) → e < length (m .edges) → e < length old → getD now e 0 ≡ edgeOf m e .place
+place-listed m old now is e h room =
+    ap (λ l. getD l e 0) is
+    ∙ stored-at 0 (map (λ edge. edge .place) (m .edges)) old e (rw length-map h) room
+    ∙ List·getD-map (λ (edge : Edge). edge .place) (m .edges) e noEdge
+
 -- The table is accepted with this model, and this is the place of its edge e.
 pub record ReadsEdge (table : List ℕ) (place : ℕ) (m : Model) (e : ℕ) : Type 0 where
   pub answer : readTable table ≡ accepted m
@@ -83,19 +99,24 @@ module _ (table : List ℕ) (m : Model) (bytes : Bytes table) where
     pub invariant-read : (i : ℕ) → invariantAt table shape i ≡ getD (m .invariants) i noInvariant
     invariant-read i = rw (reads .shape-is) (invariant-is m table (table-written table m bytes (reads .answer)) i)
 
-    -- The edges by number, as `list_edges` stores them.
-    pub rows-read : rowsFrom table (shape .edges) (shape .«first_edge») ≡ map rowOf (m .edges)
-    rows-read =
+    -- The places of the edges, as `list_places` stores them.
+    pub places-read : edgePlaces table shape ≡ map (λ edge. edge .place) (m .edges)
+    places-read =
         rw (reads .shape-is)
-        (rows-are m table (table-written table m bytes (reads .answer)) (places table m (reads .answer)) (sound table m (reads .answer)))
+        (places-are m table (table-written table m bytes (reads .answer)) (places table m (reads .answer)) (sound table m (reads .answer)))
 
-    -- "The edge list is read by number: source, action and denominator together": where arrays were filled with the edges,
-    -- row e of them is edge e of the model, as far as there are edges and room.
-    pub edge-read : (p s a d p′ s′ a′ d′ : List ℕ) → Filled (map rowOf (m .edges)) p s a d p′ s′ a′ d′
-        → (e : ℕ) → e < length (m .edges) → e < length p → e < length s → e < length a → e < length d
-        → rowIn p′ s′ a′ d′ e ≡ rowOf (edgeOf m e)
-    edge-read p s a d p′ s′ a′ d′ filled e h hp hs ha hd =
-        row-filled (map rowOf (m .edges)) p s a d p′ s′ a′ d′ filled e (rw length-map h) hp hs ha hd ∙ row-is (m .edges) e
+    -- The edges by number, as `list_edges` stores them.
+    pub structs-read : map (readEdge table) (edgePlaces table shape) ≡ map edgeStruct (m .edges)
+    structs-read =
+        rw (reads .shape-is)
+        (structs-are m table (table-written table m bytes (reads .answer)) (places table m (reads .answer)) (sound table m (reads .answer)))
+
+    -- The edge list of the table is that of the model.
+    pub edge-listed : (list : List EdgeStruct) → list ≡ edgeList (map (readEdge table) (edgePlaces table shape)) → Lists m list
+    edge-listed list is e =
+        ap (λ l. getD l e noEdgeStruct) (is ∙ ap edgeList structs-read)
+        ∙ edge-in-list (map edgeStruct (m .edges)) (rw length-map (sound-read table shape m reads .few-edges)) e
+        ∙ List·getD-map edgeStruct (m .edges) e noEdge
 
   module _ (place e : ℕ) (reads : ReadsEdge table place m e) where
     parts : EdgeParts table (edgeOf m e)

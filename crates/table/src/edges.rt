@@ -1,57 +1,112 @@
-// The edges by number: four parallel arrays that the caller lends, filled once, for the place, the source, the action and the
-// denominator of each edge.
-ghost use Prim.Native.Nat.{ℕ, _<_};
+// The edges by number: the edge list, which has the source, the action and the denominator of each, and the places of their
+// records.
+ghost use Prim.Native.Nat.{_<_, min};
 ghost use mathlib.Core.Path.{_≡_};
+ghost use mathlib.Core.List.{[], map};
+ghost use lib.Dec.{eqb};
 ghost use lib.ListN.{getD, set, length};
-ghost use Rattle.table.specs.Access.{readRow, rowsFrom, rowOf};
+ghost use lib.Seq.{sets};
+ghost use Rattle.table.specs.Format.{maxEdges};
+ghost use Rattle.table.specs.Records.{kindAt};
+ghost use Rattle.table.specs.Access.{noEdgeStruct, readEdge, edgePlaces};
 ghost use Rattle.table.specs.Model.{Model};
-ghost use mathlib.Core.List.{map};
-ghost use Rattle.table.specs.Edges.{Stored, Filled, rowIn};
-ghost use Rattle.table.specs.Reads.{Reads};
+ghost use Rattle.table.specs.Edges.{edgeList};
+ghost use Rattle.table.specs.Reads.{Reads, Lists};
 use crate::access::next_edge;
+use crate::format::MAX_EDGES;
 use crate::format::byte_at;
 use crate::format::two_bytes;
-use crate::model::EdgeRow;
+use crate::model::Edge;
 use crate::model::Shape;
 use crate::reading::body_at;
 
-// The number at a place of a list, and 0 past its end.
-pub fn number_at(list: &[usize], i: usize) -> usize
-    ensures { λ r. ⌜ r ≡ getD (now (list .entry)) i 0 ⌝ }
+// Edge i of a lent edge list. A slice of structs is proved by a walk of the code, so nothing but the lookup stands here.
+pub(crate) fn edge_at(edges: &[Edge], i: usize) -> Edge
+    requires { ⌜ i < length (now edges) ⌝ }
+    ensures { λ r. ⌜ r ≡ getD (now (edges .entry)) i noEdgeStruct ⌝ }
 {
-    if i < list.len() { list[i] } else { 0 }
+    edges[i]
 }
 
-// Edge i of the four arrays, with 0 for what is past the end of one.
-pub fn edge_at(
-    places: &[usize],
-    sources: &[usize],
-    actions: &[usize],
-    denominators: &[usize],
-    i: usize,
-) -> EdgeRow
-    ensures { λ r. ⌜ r ≡ rowIn (now (places .entry)) (now (sources .entry)) (now (actions .entry)) (now (denominators .entry)) i ⌝ }
+// The same of a list that is held: it is lent for the lookup.
+pub(crate) fn edge_in(edges: [Edge; 128], i: usize) -> Edge
+    requires { ⌜ i < 128 ⌝ }
+    ensures { λ r. ⌜ r ≡ getD edges i noEdgeStruct ⌝ }
 {
-    EdgeRow {
-        place: number_at(places, i),
-        source: number_at(sources, i),
-        action: number_at(actions, i),
-        denominator: number_at(denominators, i),
+    edge_at(&edges, i)
+}
+
+// Edge i of the edge list, and an edge of zeros past its end.
+pub fn edge_of(edges: [Edge; 128], i: usize) -> Edge
+    ensures { λ r. ⌜ r ≡ getD edges i noEdgeStruct ⌝ }
+{
+    if i < 128 {
+        edge_in(edges, i)
+    } else {
+        Edge {
+            source: 0,
+            action: 0,
+            denominator: 0,
+        }
     }
 }
 
-// The edge record at a place.
-fn row_at(table: &[u8], at: usize) -> EdgeRow
+// Whether the record of an edge stands at a place.
+fn is_edge(table: &[u8], at: usize) -> bool
+    ensures { λ r. ⌜ r ≡ eqb (kindAt (now (table .entry)) at) 4 ⌝ }
+{
+    byte_at(table, at) == 4
+}
+
+// The edge whose record stands at a place, as the edge list holds it.
+fn listed_at(table: &[u8], at: usize) -> Edge
     requires { ⌜ at < length (now table) ⌝ }
-    ensures { λ r. ⌜ r ≡ readRow (now (table .entry)) at ⌝ }
+    ensures { λ r. ⌜ r ≡ readEdge (now (table .entry)) at ⌝ }
 {
     let body = body_at(table, at);
-    EdgeRow {
-        place: at,
-        source: body.a as usize,
-        action: body.b as usize,
-        denominator: two_bytes(body.c, body.d),
+    Edge {
+        source: body.a,
+        action: body.b,
+        denominator: two_bytes(body.c, body.d) as u32,
     }
+}
+
+// The edge list of no edges. (By itself, so that no proof above it goes by its 128 elements.)
+fn no_edges() -> [Edge; 128]
+    ensures { λ r. ⌜ r ≡ edgeList [] ⌝ }
+{
+    [Edge {
+        source: 0,
+        action: 0,
+        denominator: 0,
+    }; 128]
+}
+
+// How many of the edges the edge list has room for.
+fn room_for(edges: usize) -> usize
+    ensures { λ r. ⌜ r ≡ min edges maxEdges ⌝ }
+{
+    if edges < MAX_EDGES { edges } else { MAX_EDGES }
+}
+
+// The edge list: the edges of the table by number, at most 128, and edges of zeros after the last.
+pub fn list_edges(table: &[u8], shape: Shape) -> [Edge; 128]
+    ensures { λ r. ⌜ r ≡ edgeList (map (readEdge (now (table .entry))) (edgePlaces (now (table .entry)) shape)) ⌝ }
+    ensures { λ r. ⌜ ((m : Model) → Reads (now (table .entry)) shape m → Lists m r) ⌝ }
+{
+    let mut edges = no_edges();
+    let count = room_for(shape.edges);
+    let mut at = shape.first_edge;
+    let mut i = 0;
+    while i < count {
+        if !is_edge(table, at) {
+            return edges;
+        }
+        edges[i] = listed_at(table, at);
+        at = next_edge(table, at);
+        i = i + 1;
+    }
+    edges
 }
 
 // Stores a number where the list has room for it.
@@ -63,51 +118,29 @@ fn put(list: &mut [usize], i: usize, value: usize)
     }
 }
 
-// Stores an edge in the four arrays, in each where it has room.
-fn put_row(
-    row: EdgeRow,
-    i: usize,
-    places: &mut [usize],
-    sources: &mut [usize],
-    actions: &mut [usize],
-    denominators: &mut [usize],
-)
-    ensures { λ _. ⌜ Stored row i (now (places .entry)) (now (sources .entry)) (now (actions .entry)) (now (denominators .entry))
-        (now (places .exit)) (now (sources .exit)) (now (actions .exit)) (now (denominators .exit)) ⌝ }
-{
-    put(places, i, row.place);
-    put(sources, i, row.source);
-    put(actions, i, row.action);
-    put(denominators, i, row.denominator);
-}
-
-// Fills the four arrays with the edges of the table, by number, each array as far as it goes. What is after them stays. A caller
-// who wants all edges lends arrays of at least `shape.edges` numbers.
-pub fn list_edges(
-    table: &[u8],
-    shape: Shape,
-    places: &mut [usize],
-    sources: &mut [usize],
-    actions: &mut [usize],
-    denominators: &mut [usize],
-)
-    ensures { λ _. ⌜ Filled (rowsFrom (now (table .entry)) (shape .edges) (shape .«first_edge»))
-        (now (places .entry)) (now (sources .entry)) (now (actions .entry)) (now (denominators .entry))
-        (now (places .exit)) (now (sources .exit)) (now (actions .exit)) (now (denominators .exit)) ⌝ }
-    ensures { λ _. ⌜ ((m : Model) → Reads (now (table .entry)) shape m → Filled (map rowOf (m .edges))
-        (now (places .entry)) (now (sources .entry)) (now (actions .entry)) (now (denominators .entry))
-        (now (places .exit)) (now (sources .exit)) (now (actions .exit)) (now (denominators .exit))) ⌝ }
+// Fills a list with the places of the edges of the table, by number, as far as it goes. What is after them stays. A caller who
+// wants all places lends at least `shape.edges` numbers.
+pub fn list_places(table: &[u8], shape: Shape, places: &mut [usize])
+    ensures { λ _. ⌜ now (places .exit) ≡ sets (now (places .entry)) 0 (edgePlaces (now (table .entry)) shape) ⌝ }
+    ensures { λ _. ⌜ ((m : Model) → Reads (now (table .entry)) shape m
+        → now (places .exit) ≡ sets (now (places .entry)) 0 (map (λ edge. edge .place) (m .edges))) ⌝ }
 {
     let count = shape.edges;
     let mut at = shape.first_edge;
     let mut i = 0;
     while i < count {
-        if byte_at(table, at) != 4 {
+        if !is_edge(table, at) {
             return;
         }
-        let row = row_at(table, at);
-        put_row(row, i, places, sources, actions, denominators);
+        put(places, i, at);
         at = next_edge(table, at);
         i = i + 1;
     }
+}
+
+// Number i of a list of places, and 0 past its end.
+pub fn number_at(list: &[usize], i: usize) -> usize
+    ensures { λ r. ⌜ r ≡ getD (now (list .entry)) i 0 ⌝ }
+{
+    if i < list.len() { list[i] } else { 0 }
 }

@@ -40,10 +40,9 @@ pub enum Reading {
     Accepted(Shape),
 }
 
-// An edge by its number: where its record begins, its source, its action and its denominator.
-pub struct EdgeRow {
-    pub place: usize,
-    pub source: usize,
-    pub action: usize,
-    pub denominator: usize,
+// An edge by its number: source, action and denominator together. Eight bytes, so that a list of 128 takes 1 KB.
+pub struct Edge {
+    pub source: u8,
+    pub action: u8,
+    pub denominator: u32,
 }

@@ -4,7 +4,7 @@ use Prim.Native.Nat.{ℕ, zero, suc, _+_, _*_, _%_, _^_, _≤_, _<_}
 use native.Mathlib.Omega.{arith}
 use mathlib.Core.Path.{_≡_, refl, sym, _∙_, ap, subst}
 use mathlib.Core.Bool.{Bool, true, false}
-use mathlib.Core.List.{List, [], _∷_, map}
+use mathlib.Core.List.{List, [], _∷_}
 use lib.Dec.{eqb}
 use lib.ListN.{length, getD, set, length-set}
 use lib.Seq.{getD-set-same, getD-set-other}
@@ -12,15 +12,13 @@ use borrow.Author.Tests.{eqb-true, eqb-false}
 use Rattle.table.specs.Model.{Model, Edge, total}
 use Rattle.table.specs.Written.{Bytes}
 use Rattle.table.specs.Reading.{readTable, accepted}
-use Rattle.table.specs.Reads.{Reads, edgeOf, edge-read}
-use Rattle.table.specs.Access.{noBranch, noEdge, rowOf}
-use Rattle.table.specs.Edges.{Filled, rowIn}
+use Rattle.table.specs.Reads.{edgeOf}
+use Rattle.table.specs.Access.{noBranch, noEdge}
 use Rattle.table.specs.Laws.Models.{sound}
 use Rattle.table.specs.Laws.Sized.{byte-sized}
 use Rattle.table.specs.declared.model.Branch.{Branch}
-use Rattle.table.specs.declared.model.EdgeRow.{EdgeRow}
 use Rattle.table.specs.declared.model.Shape.{Shape}
-use Rattle.regions.specs.Filling.{Before, threeSet, Listing, Fitting, RowTo, RowsTo}
+use Rattle.regions.specs.Filling.{Before, threeSet, Fitting, RowTo, RowsTo}
 use Rattle.regions.specs.Laws.Bounds.{all-at}
 use Rattle.regions.specs.Laws.Filling.{before-none, before-on}
 use Rattle.regions.specs.Laws.Worklist.{member}
@@ -188,19 +186,3 @@ edge-fits table m bytes read e h =
       mask = λ i less. omega (arith, all-at branches (edge .branches) (member noBranch branches i less) .mask, clocks);
       spot = λ i less. omega (arith, all-at branches (edge .branches) (member noBranch branches i less) .target, locations);
     }
-
--- Lists that were filled with the edges of a table, and have room for all of them, hold them.
-pub listing-filled : (table : List ℕ) (m : Model) → Bytes table → (shape : Shape) → Reads table shape m
-    → (p s a d p′ s′ a′ d′ : List ℕ) → Filled (map rowOf (m .edges)) p s a d p′ s′ a′ d′
-    → length (m .edges) ≤ length p → length (m .edges) ≤ length s → length (m .edges) ≤ length a → length (m .edges) ≤ length d
-    → Listing m p′ a′ d′
-listing-filled table m bytes shape reads p s a d p′ s′ a′ d′ filled hp hs ha hd =
-    record {
-      place = λ e h. ap (λ (r : EdgeRow). r .place) (row e h);
-      action = λ e h. ap (λ (r : EdgeRow). r .action) (row e h);
-      whole = λ e h. ap (λ (r : EdgeRow). r .denominator) (row e h);
-    }
-  where
-    row : (e : ℕ) → e < length (m .edges) → rowIn p′ s′ a′ d′ e ≡ rowOf (edgeOf m e)
-    row e h =
-        edge-read table m bytes shape reads p s a d p′ s′ a′ d′ filled e h (omega arith) (omega arith) (omega arith) (omega arith)

@@ -36,6 +36,9 @@ or-false false b e = (refl, e)
 complete-full : {X : Type 0} {a b : List X} → complete a ≡ full b → ⊥
 complete-full e = let z : _≡_ {A = ℕ} 0 1 = cc in omega arith
 
+complete-items : {X : Type 0} {a b : List X} → complete a ≡ complete b → a ≡ b
+complete-items e = cc
+
 full-items : {X : Type 0} {a b : List X} → full a ≡ full b → a ≡ b
 full-items e = cc
 
@@ -166,6 +169,40 @@ module _ {X : Type 0} (same : X → X → Bool) (next : X → List X) where
   pub meet-full : (cap : ℕ) (found : List X) (x : X) (l : List X) → known same x found ≡ false → cap ≤ length found
       → meet same cap found (x ∷ l) ≡ full found
   meet-full cap found x l e h = rw (e, le-ltb (length found) cap h)
+
+  -- What is known stays known.
+  known-grown : (x y : X) (found : List X) → known same x found ≡ true → known same x (found ++ (y ∷ [])) ≡ true
+  known-grown x y [] e = absurd (true-false (sym e))
+  known-grown x y (z ∷ found) e =
+      elim (both (same x z)) [ inl h ↦ rw h | inr h ↦ rw h (known-grown x y found (rw h at e)) ]
+
+  pub known-met : (cap : ℕ) (found l : List X) (x : X) → known same x found ≡ true
+      → known same x (itemsOf (meet same cap found l)) ≡ true
+  known-met cap found [] x e = e
+  known-met cap found (y ∷ l) x e =
+      elim (both (known same y found)) [
+        | inl h ↦ rw h (known-met cap found l x e)
+        | inr h ↦ elim (both (ltb (length found) cap)) [
+          | inl room ↦ rw (h, room) (known-met cap (found ++ (y ∷ [])) l x (known-grown x y found e))
+          | inr room ↦ rw (h, room) e
+        ]
+      ]
+
+  -- An item that was met is known, if there was room.
+  pub known-last : ((x : X) → same x x ≡ true) → (cap : ℕ) (found : List X) (x : X) (more : List X)
+      → meet same cap found (x ∷ []) ≡ complete more → known same x more ≡ true
+  known-last alike cap found x more e =
+      elim (both (known same x found)) [
+        | inl h ↦ subst (λ l. known same x l ≡ true) (complete-items (sym (meet-known cap found x [] h) ∙ e)) h
+        | inr h ↦ elim (below (length found) cap) [
+          | inl room ↦ subst (λ l. known same x l ≡ true) (complete-items (sym (meet-new cap found x [] h room) ∙ e)) (last found)
+          | inr none ↦ absurd (complete-full (sym e ∙ meet-full cap found x [] h none))
+        ]
+      ]
+    where
+      last : (l : List X) → known same x (l ++ (x ∷ [])) ≡ true
+      last [] = rw (alike x)
+      last (y ∷ l) = elim (both (same x y)) [ inl h ↦ rw h | inr h ↦ rw h (last l) ]
 
   -- Two lists of items, one after the other.
   pub meet-append : (cap : ℕ) (found l l′ : List X)

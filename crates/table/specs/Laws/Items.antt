@@ -8,7 +8,7 @@ use mathlib.Core.Path.{_≡_, refl, sym, ap, ap₂, _∙_}
 use mathlib.Core.Bool.{true, false}
 use mathlib.Core.List.{List, [], _∷_, _++_, map, append-assoc}
 use lib.Dec.{eqb}
-use lib.ListN.{length, getD, drop, length-append, List·getD-map}
+use lib.ListN.{length, getD, drop, length-append}
 use lib.Seq.{getD-drop, drop-drop, drop-append-seam}
 use Rattle.table.specs.Format.{bodyLength, twoBytes, maxGuards, maxBranches}
 use Rattle.table.specs.Model.{Edge, Model}
@@ -16,9 +16,9 @@ use Rattle.table.specs.Records.{Record, location, invariant, edge, guard
 use Rattle.table.specs.Sound.{All, none, also, SoundEdge, Sound}
 use Rattle.table.specs.Written.{bytesOf, written, edgeBytes, edgesBytes, tableOf, shapeOf}
 use Rattle.table.specs.Written.{firstLocation, firstInvariant, firstEdge, Placed}
-use Rattle.table.specs.Access.{noInvariant, noGuard, noBranch, noRow, noEdge, walkTo, passed, itemFrom}
-use Rattle.table.specs.Access.{readLabel, readInvariant, readGuard, readBranch, readRow, rowOf, rowsFrom, labelAt, invariantAt}
-use Rattle.table.specs.Access.{guardsFrom, branchesFrom, nextEdge, guardAt, guardCount, branchAt, branchCount}
+use Rattle.table.specs.Access.{noInvariant, noGuard, noBranch, noEdge, walkTo, passed, itemFrom}
+use Rattle.table.specs.Access.{readLabel, readInvariant, readGuard, readBranch, readEdge, edgeStruct, labelAt, invariantAt}
+use Rattle.table.specs.Access.{guardsFrom, branchesFrom, nextEdge, guardAt, guardCount, branchAt, branchCount, placesFrom, edgePlaces}
 
 -- ---- The bytes of a table from a place on
 
@@ -170,11 +170,10 @@ module _ {c l : ℕ} (t : List ℕ) (x : Edge) (es : List Edge) (q : SoundEdge c
   unfolding edgeBytes kindOf bodyOf
   denominator-read = omega (arith, byte t (x .place) 3 here, byte t (x .place) 4 here)
 
-  row-read : readRow t (x .place) ≡ rowOf x
+  struct-read : readEdge t (x .place) ≡ edgeStruct x
   unfolding edgeBytes kindOf bodyOf bodyAt
-  row-read i =
+  struct-read i =
       record {
-        place = x .place;
         source = byte t (x .place) 1 here i;
         action = byte t (x .place) 2 here i;
         denominator = denominator-read i;
@@ -213,27 +212,34 @@ module _ {c l : ℕ} (t : List ℕ) (x : Edge) (es : List Edge) (q : SoundEdge c
       simp length-append
       (omega (arith, guards-place, branches-place, walk-is branches branches-stand maxBranches (q .few-branches)))
 
-  first-row : (n : ℕ) → rowsFrom t (suc n) (x .place) ≡ rowOf x ∷ rowsFrom t n (x .place + length (edgeBytes x))
-  unfolding rowsFrom
-  first-row n = rw is-edge (ap₂ _∷_ row-read (ap (rowsFrom t n) next-place))
+  first-place : (n : ℕ) → placesFrom t (suc n) (x .place) ≡ x .place ∷ placesFrom t n (x .place + length (edgeBytes x))
+  unfolding placesFrom
+  first-place n = rw is-edge (ap (λ k. x .place ∷ placesFrom t n k) next-place)
 
   edge-parts : EdgeParts t x
   edge-parts = parts guards-stand (q .few-guards) branches-stand (q .few-branches)
 
--- The edges that stand from a place on: their rows, and the parts of each.
+-- What is found of edges from a place on: their places, what the edge list holds of each, and the parts of each.
+record Found (t : List ℕ) (at : ℕ) (es : List Edge) : Type 0 where
+  places : placesFrom t (length es) at ≡ map (λ x. x .place) es
+  structs : map (readEdge t) (placesFrom t (length es) at) ≡ map edgeStruct es
+  each : All (EdgeParts t) es
+
 edges-are : {c l : ℕ} (t : List ℕ) (es : List Edge) (at : ℕ) → Placed at es → All (SoundEdge c l) es
-    → drop at t ≡ edgesToEnd es → (rowsFrom t (length es) at ≡ map rowOf es) × All (EdgeParts t) es
-unfolding rowsFrom
-edges-are t [] at p none e = (refl, none)
+    → drop at t ≡ edgesToEnd es → Found t at es
+unfolding placesFrom
+edges-are t [] at p none e = record { places = refl; structs = refl; each = none }
 edges-are t (x ∷ es) at p (also q qs) e =
     let split : drop at t ≡ edgeBytes x ++ edgesToEnd es = rw append-assoc at e in
     let here : drop (x .place) t ≡ edgeBytes x ++ edgesToEnd es = ap (λ (n : ℕ). drop n t) (p .0) ∙ split in
     let others = edges-are t es (at + length (edgeBytes x)) (p .1) qs (onward t at (edgeBytes x) (edgesToEnd es) split) in
-    (cc (first-row t x es q here (length es), p .0, others .0), also (edge-parts t x es q here) (others .1))
-
--- Row j of the edges is that of edge j, `noRow` where there is no such edge.
-pub row-is : (es : List Edge) (j : ℕ) → getD (map rowOf es) j noRow ≡ rowOf (getD es j noEdge)
-row-is es j = List·getD-map rowOf es j noEdge
+    let first : placesFrom t (suc (length es)) at ≡ x .place ∷ placesFrom t (length es) (at + length (edgeBytes x)) =
+    cc (first-place t x es q here (length es), p .0) in
+    record {
+      places = first ∙ ap (λ l. x .place ∷ l) (others .places);
+      structs = ap (map (readEdge t)) first ∙ ap₂ _∷_ (struct-read t x es q here) (others .structs);
+      each = also (edge-parts t x es q here) (others .each);
+    }
 
 -- What holds of all elements, and of the value past the end, holds of element j.
 all-at : {A : Type 0} {P : A → Type 0} {l : List A} → All P l → (d : A) → P d → (j : ℕ) → P (getD l j d)
@@ -282,15 +288,19 @@ module _ (m : Model) (t : List ℕ) (e : t ≡ tableOf m) where
   invariant-is = item-is invariants invariants-stand noInvariant
 
   module _ (placed : Placed (firstEdge m) (m .edges)) (sound : Sound m) where
-    all-edges : (rowsFrom t (length (m .edges)) (firstEdge m) ≡ map rowOf (m .edges)) × All (EdgeParts t) (m .edges)
+    all-edges : Found t (firstEdge m) (m .edges)
     unfolding invariants-stand
     all-edges = edges-are t (m .edges) (firstEdge m) placed (sound .edges) (after-them invariants invariants-stand)
 
-    -- The rows of the edges are those of the model.
-    pub rows-are : rowsFrom t (shapeOf m .edges) (shapeOf m .«first_edge») ≡ map rowOf (m .edges)
+    -- The places of the edges are those of the model, and what is read there is what the edge list holds of them.
+    pub places-are : edgePlaces t (shapeOf m) ≡ map (λ x. x .place) (m .edges)
     unfolding shapeOf
-    rows-are = all-edges .0
+    places-are = all-edges .places
+
+    pub structs-are : map (readEdge t) (edgePlaces t (shapeOf m)) ≡ map edgeStruct (m .edges)
+    unfolding shapeOf
+    structs-are = all-edges .structs
 
     -- The guard atoms and branches found at the place of edge j are those of the model, none where there is no such edge.
     pub edge-parts-are : (j : ℕ) → EdgeParts t (getD (m .edges) j noEdge)
-    edge-parts-are = all-at (all-edges .1) noEdge (rw e (no-edge m))
+    edge-parts-are = all-at (all-edges .each) noEdge (rw e (no-edge m))

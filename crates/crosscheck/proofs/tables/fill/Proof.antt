@@ -7,10 +7,10 @@ use Rattle.crosscheck.proofs.tables.fill.Statement.{statement}
 use Rattle.crosscheck.proofs.tables.fill.Tie as tie
 
 abbrev Inv-loop : tie.InvT-loop
-Inv-loop list₀ byte k i₀ list i = length list ≡ length list₀
+Inv-loop places₀ byte i₀ places i = length places ≡ length places₀
 
 abbrev μ-loop : tie.MeasureT-loop
-μ-loop list₀ byte k i₀ list i = length list₀ - i
+μ-loop places₀ byte i₀ places i = length places₀ - i
 
 loop-holds : tie.Need-loop-holds Inv-loop μ-loop
 loop-holds c = search needs
@@ -18,11 +18,11 @@ loop-holds c = search needs
 filler-requires : tie.Need-filler-requires Inv-loop μ-loop
 filler-requires c κs = search needs
 
-mul-list : tie.Need-mul-list Inv-loop μ-loop
-mul-list c = search needs
+mul-places : tie.Need-mul-places Inv-loop μ-loop
+mul-places c = search needs
 
-slice-write-list : tie.Need-slice-write-list Inv-loop μ-loop
-slice-write-list c = search needs
+slice-write-places : tie.Need-slice-write-places Inv-loop μ-loop
+slice-write-places c = search needs
 
 add-i : tie.Need-add-i Inv-loop μ-loop
 add-i c = search needs
@@ -47,8 +47,8 @@ fill-spec =
     μ-loop
     loop-holds
     filler-requires
-    mul-list
-    slice-write-list
+    mul-places
+    slice-write-places
     add-i
     loop-less
     loop-again

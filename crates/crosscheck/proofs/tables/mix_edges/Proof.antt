@@ -5,19 +5,22 @@ use Rattle.crosscheck.proofs.tables.mix_edges.Statement.{statement}
 use Rattle.crosscheck.proofs.tables.mix_edges.Tie as tie
 
 abbrev Inv-loop : tie.InvT-loop
-Inv-loop digest bytes count places sources actions denominators now₀ i₀ now i = Unit
+Inv-loop digest bytes count places edges now₀ i₀ now i = Unit
 
 abbrev μ-loop : tie.MeasureT-loop
-μ-loop digest bytes count places sources actions denominators now₀ i₀ now i = count - i
+μ-loop digest bytes count places edges now₀ i₀ now i = count - i
 
 loop-holds : tie.Need-loop-holds Inv-loop μ-loop
 loop-holds c = search needs
 
-edge-at-requires : tie.Need-edge-at-requires Inv-loop μ-loop
-edge-at-requires c κs = search needs
+number-at-requires : tie.Need-number-at-requires Inv-loop μ-loop
+number-at-requires c κs = search needs
 
-mix-row-requires : tie.Need-mix-row-requires Inv-loop μ-loop
-mix-row-requires c κs = search needs
+edge-of-requires : tie.Need-edge-of-requires Inv-loop μ-loop
+edge-of-requires c κs = search needs
+
+mix-edge-requires : tie.Need-mix-edge-requires Inv-loop μ-loop
+mix-edge-requires c κs = search needs
 
 mix-guards-requires : tie.Need-mix-guards-requires Inv-loop μ-loop
 mix-guards-requires c κs = search needs
@@ -44,8 +47,9 @@ mix-edges-spec =
     Inv-loop
     μ-loop
     loop-holds
-    edge-at-requires
-    mix-row-requires
+    number-at-requires
+    edge-of-requires
+    mix-edge-requires
     mix-guards-requires
     mix-branches-requires
     add-i

@@ -1,63 +1,44 @@
--- `bounds_for` meets its contract. Assumes nothing.
-use Prim.Native.Nat.{ℕ, _≤_}
-use native.Mathlib.Omega.{arith}
-use lib.ListN.{length, replicate, length-replicate}
+use Prim.Native.Nat.{ℕ}
+use lib.ListN.{replicate, length-replicate}
 use Rattle.table.specs.Reads.{sound-read}
-use Rattle.regions.specs.Edges.{Arrays, arrays-filled}
+use Rattle.regions.specs.Edges.{placed-filled}
 use borrow.Author.Needs.{needs}
 use Rattle.regions.proofs.bounds.bounds_for.Statement.{statement}
 use Rattle.regions.proofs.bounds.bounds_for.Tie as tie
 use Rattle.regions.proofs.bounds.bounds_for.Reads as reads
+use Rattle.regions.proofs.bounds.bounds_for.Lts as lts
+use Rattle.regions.proofs.bounds.bounds_of.Reads as bounds-of-reads
+use Rattle.table.proofs.list_places.Reads as list-places-reads
 
-slice-aggregate-list-edges : tie.Need-slice-aggregate-list-edges
-slice-aggregate-list-edges c = search needs
+-- src/bounds.rt:78:38
+slice-aggregate-list-places : tie.Need-slice-aggregate-list-places
+slice-aggregate-list-places c = search needs
 
-slice-aggregate-list-edges-2 : tie.Need-slice-aggregate-list-edges-2
-slice-aggregate-list-edges-2 c = search needs
+-- src/bounds.rt:78:5
+list-places-requires : tie.Need-list-places-requires
+list-places-requires c κs = search needs
 
-slice-aggregate-list-edges-3 : tie.Need-slice-aggregate-list-edges-3
-slice-aggregate-list-edges-3 c = search needs
-
-slice-aggregate-list-edges-4 : tie.Need-slice-aggregate-list-edges-4
-slice-aggregate-list-edges-4 c = search needs
-
-list-edges-requires : tie.Need-list-edges-requires
-list-edges-requires c κs = search needs
-
+-- src/bounds.rt:79:29
 slice-aggregate-bounds-of : tie.Need-slice-aggregate-bounds-of
 slice-aggregate-bounds-of c = search needs
 
+-- src/bounds.rt:79:5
 bounds-of-requires : tie.Need-bounds-of-requires
 bounds-of-requires c κs = search needs
 
+-- src/bounds.rt:74:1
 returns : tie.Need-returns
-returns c =
-    let args = c .before .before .before .before .before .before .before .before .before .before .before .before .args in
-    let list-edges = c .before .before .before .before .before .before .list-edges in
-    let shared-slice-known = c .before .before .before .before .before .before .before .before .before .before .before .shared-slice-known in
-    λ m reads. let few : length (m .edges) ≤ length (replicate {A = ℕ} 128 0) = omega (
-      arith,
-      sound-read
-          args.bytes.now args.shape m reads .few-edges,
-      length-replicate {A = ℕ} 128 0,
-    ) in let arrays : Arrays m
-    list-edges.last.1.1.0 list-edges.last.1.1.1.0 = arrays-filled args.bytes.now m (λ i. omega (
-      arith,
-      shared-slice-known.given i,
-    )) args.shape reads (replicate 128 0) (replicate 128 0) (replicate 128 0) (replicate
-    128 0) list-edges.last.1.1.0 list-edges.last.1.1.1.0 list-edges.last.1.1.1.1.0 list-edges.last.1.1.1.1.1.0
-    (list-edges.ensures.1 m reads) few few few few in ((c .bounds-of) .ensures m list-edges.last.1.1.1.0 reads
-    arrays)
+returns c = let args = (c .before .before .before .before .before .before .args) in
+    let list-places = (c .before .before .before .list-places) in
+    λ m reads. (c .bounds-of) .ensures m reads (placed-filled m (sound-read args.bytes.now args.shape m reads) (replicate 128 0)
+    list-places.last.1.1.0 (length-replicate {A = ℕ} 128 0) (list-places.ensures.1 m reads))
 
 pub bounds-for-spec : {M : Type 1} → statement M
 bounds-for-spec =
     tie.close
     (tie.spec
-    slice-aggregate-list-edges
-    slice-aggregate-list-edges-2
-    slice-aggregate-list-edges-3
-    slice-aggregate-list-edges-4
-    list-edges-requires
+    slice-aggregate-list-places
+    list-places-requires
     slice-aggregate-bounds-of
     bounds-of-requires
     returns)

@@ -1,107 +1,102 @@
--- `list_steps` meets its contract. Assumes nothing.
 use native.Mathlib.Omega.{arith}
 use Prim.Native.Nat.{ℕ, _-_, _<_}
 use mathlib.Core.Path.{_≡_, refl, _∙_}
 use lib.ListN.{length}
 use Rattle.table.specs.Model.{Model}
 use Rattle.table.specs.Reading.{readTable, accepted}
-use Rattle.table.specs.Reads.{ReadsEdge, edgeOf}
+use Rattle.table.specs.Reads.{ReadsEdge, Lists, edgeOf}
 use Rattle.regions.specs.Graph.{boundsOf}
-use Rattle.regions.specs.Edges.{Arrays}
+use Rattle.regions.specs.Edges.{Placed}
 use Rattle.regions.specs.Limits.{Limited}
 use Rattle.regions.specs.Explore.{listed}
-use Rattle.regions.specs.Filling.{Listing, Fitting}
+use Rattle.regions.specs.Filling.{Fitting}
 use Rattle.regions.specs.Sight.{Stepping}
 use Rattle.regions.specs.Laws.Sight.{steps-on}
 use borrow.Author.Needs.{needs}
 use Rattle.regions.proofs.sight.list_steps.Statement.{statement}
 use Rattle.regions.proofs.sight.list_steps.Tie as tie
+use Rattle.regions.proofs.sight.list_steps.Reads as reads
+use Rattle.regions.proofs.sight.list_steps.Lts as lts
+use Rattle.regions.proofs.sight.list_step.Reads as list-step-reads
+use Rattle.table.proofs.edge_of.Reads as edge-of-reads
+use Rattle.table.proofs.number_at.Reads as number-at-reads
 
 abbrev Inv-loop : tie.InvT-loop
-Inv-loop bytes limits places sources actions denominators edges bounds r entries heads links n rows₀ e₀ rows e =
-    (length rows ≡ length rows₀) × ((m : Model) → readTable bytes ≡ accepted m → Limited m limits → Arrays m places sources
-    → Listing m places actions denominators → ((j : ℕ) → j < length (m .edges) → Fitting (edgeOf m j)) → bounds ≡ boundsOf m
+Inv-loop bytes limits places list edges bounds r entries heads links n rows₀ e₀ rows e = (length rows ≡ length rows₀) × ((m : Model) → readTable bytes ≡ accepted m → Limited m limits → Placed m places → Lists m list → ((j : ℕ) → j < length (m .edges) → Fitting (edgeOf m j)) → bounds ≡ boundsOf m
     → edges ≡ length (m .edges) → (j : ℕ) → j < e → Stepping m (listed entries n) r j rows)
 
 abbrev μ-loop : tie.MeasureT-loop
-μ-loop bytes limits places sources actions denominators edges bounds r entries heads links n rows₀ e₀ rows e = edges - e
+μ-loop bytes limits places list edges bounds r entries heads links n rows₀ e₀ rows e = edges - e
 
+-- src/sight.rt:178:5
 loop-holds : tie.Need-loop-holds Inv-loop μ-loop
-loop-holds c = (refl, λ m answer limited arrays listing fits same few j h. absurd (omega arith))
+loop-holds c = (refl, λ m answer limited placed lists fits same few j h. absurd (omega arith))
 
+-- src/sight.rt:179:13
 number-at-requires : tie.Need-number-at-requires Inv-loop μ-loop
 number-at-requires c κs = search needs
 
-number-at-requires-2 : tie.Need-number-at-requires-2 Inv-loop μ-loop
-number-at-requires-2 c κs = search needs
+-- src/sight.rt:180:13
+edge-of-requires : tie.Need-edge-of-requires Inv-loop μ-loop
+edge-of-requires c κs = search needs
 
-number-at-requires-3 : tie.Need-number-at-requires-3 Inv-loop μ-loop
-number-at-requires-3 c κs = search needs
-
-number-at-requires-4 : tie.Need-number-at-requires-4 Inv-loop μ-loop
-number-at-requires-4 c κs = search needs
-
+-- src/sight.rt:192:13
 mul-list-step : tie.Need-mul-list-step Inv-loop μ-loop
-mul-list-step c =
-    let loop-test = c .before .before .before .before .loop-test in
-    let pre = c .before .before .before .before .before .before .before .before .before .before .before .before .before .before .before .before .pre in
+mul-list-step c = let loop-test = (c .before .before .loop-test) in
+    let pre = (c .before .before .before .before .before .before .before .before .before .before .before .pre) in
     omega (arith, loop-test .taken, pre .1 .1)
 
+-- src/sight.rt:181:9
 list-step-requires : tie.Need-list-step-requires Inv-loop μ-loop
-list-step-requires c κs =
-    let pre = c .before .before .before .before .before .before .before .before .before .before .before .before .before .before .before .before .before .pre in
-    let loop-test = c .before .before .before .before .before .loop-test in
-    let loop = c .before .before .before .before .before .before .loop in
+list-step-requires c κs = let pre = (c .before .before .before .before .before .before .before .before .before .before .before .before .pre) in
+    let loop-test = (c .before .before .before .loop-test) in
+    let loop = (c .before .before .before .before .loop) in
     (pre .0, (pre .1 .0, omega (arith, loop-test .taken, loop .inv .0, pre .1 .1, pre .1 .2)))
 
+-- src/sight.rt:195:13
 add-e : tie.Need-add-e Inv-loop μ-loop
-add-e c =
-    let loop-test = c .before .before .before .before .before .before .before .before .loop-test in
-    let pre = c .before .before .before .before .before .before .before .before .before .before .before .before .before .before .before .before .before .before .before .before .pre in
+add-e c = let loop-test = (c .before .before .before .before .before .before .loop-test) in
+    let pre = (c .before .before .before .before .before .before .before .before .before .before .before .before .before .before .before .pre) in
     omega (arith, loop-test .taken, pre .1 .1)
 
+-- src/sight.rt:178:5
 loop-less : tie.Need-loop-less Inv-loop μ-loop
-loop-less c =
-    let loop-test = c .before .before .before .before .before .before .before .before .loop-test in
+loop-less c = let loop-test = (c .before .before .before .before .before .before .loop-test) in
     omega (arith, loop-test .taken)
 
+-- src/sight.rt:178:5
 loop-again : tie.Need-loop-again Inv-loop μ-loop
-loop-again c =
-    let list-step = c .before .before .list-step in
-    let loop = c .before .before .before .before .before .before .before .before .before .loop in
-    let loop-test = c .before .before .before .before .before .before .before .before .loop-test in
-    let args = c .before .before .before .before .before .before .before .before .before .before .before .before .before .before .before .before .before .before .before .before .args in
-    let number-at = c .before .before .before .before .before .before .before .number-at in
-    let number-at2 = c .before .before .before .before .before .before .number-at2 in
-    let number-at3 = c .before .before .before .before .before .number-at3 in
-    let number-at4 = c .before .before .before .before .number-at4 in (
+loop-again c = let list-step = (c .before .before .list-step) in
+    let loop = (c .before .before .before .before .before .before .before .loop) in
+    let loop-test = (c .before .before .before .before .before .before .loop-test) in
+    let args = (c .before .before .before .before .before .before .before .before .before .before .before .before .before .before .before .args) in
+    let number-at = (c .before .before .before .before .before .number-at) in
+    let edge-of = (c .before .before .before .before .edge-of) in (
       list-step .ensures .0 .as-long ∙ loop .inv .0,
-      λ m answer limited arrays listing fits same few. let here : loop .e < length (m .edges) = omega (
+      λ m answer limited placed lists fits same few. let here : loop .e < length (m .edges) = omega (
         arith,
         loop-test .taken,
         few,
       ) in
           let edge : ReadsEdge (args .bytes .now) (number-at .result) m
-          (loop .e) = record { answer = answer; place-is = number-at .ensures ∙ listing .place (loop .e) here } in
+          (loop .e) = record { answer = answer; place-is = number-at .ensures ∙ placed (loop .e) here } in
           steps-on m (listed (args .entries .now) (args .n)) (args .r) (loop .e) (loop .rows)
-          (list-step .last .1 .1 .1 .1 .1 .1 .1 .1 .1 .1 .1 .1 .1 .0) fits here (list-step .ensures .0)
-          (loop .inv .1 m answer limited arrays listing fits same few)
-          (list-step .ensures .1 m (loop .e) limited edge (fits (loop .e) here) (number-at2 .ensures ∙ arrays .source (loop .e)
-          here)
-          (number-at3 .ensures ∙ listing .action (loop .e) here) (number-at4 .ensures ∙ listing .whole (loop .e) here) same
+          (list-step .last .1 .1 .1 .1 .1 .1 .1 .1 .1 .1 .1 .0) fits here (list-step .ensures .0)
+          (loop .inv .1 m answer limited placed lists fits same few)
+          (list-step .ensures .1 m (loop .e) limited edge (fits (loop .e) here) (edge-of .ensures ∙ lists (loop .e)) same
           refl),
     )
 
+-- src/sight.rt:156:1
 same-length : tie.Need-same-length Inv-loop μ-loop
-same-length c =
-    let loop = c .before .loop in
+same-length c = let loop = (c .before .loop) in
     loop .inv .0
 
+-- src/sight.rt:156:1
 returns : tie.Need-returns Inv-loop μ-loop
-returns c =
-    let loop = c .before .loop in
-    λ m answer limited arrays listing fits same few j h. loop .inv .1 m answer limited arrays listing fits same few j (omega
-    (arith, h, c .loop-test .left))
+returns c = let loop = (c .before .loop) in
+    λ m answer limited placed lists fits same few j h. loop .inv .1 m answer limited placed lists fits same few j (omega
+    (arith, h, (c .loop-test) .left))
 
 pub list-steps-spec : {M : Type 1} → statement M
 list-steps-spec =
@@ -111,9 +106,7 @@ list-steps-spec =
     μ-loop
     loop-holds
     number-at-requires
-    number-at-requires-2
-    number-at-requires-3
-    number-at-requires-4
+    edge-of-requires
     mul-list-step
     list-step-requires
     add-e
