@@ -25,7 +25,7 @@ impl Digest {
     }
 }
 
-/// The answer without the four lists. Edges from number `room` on stay out of the digest.
+/// The answer without the digest of the lists. Edges from number `room` on stay out of the digest.
 pub fn line(answer: &Answer, room: usize) -> String {
     match answer {
         Err(refusal) => format!("refused {} place {}", refusal.number, refusal.place),
@@ -71,25 +71,40 @@ fn model_digest(model: &Model, room: usize) -> u64 {
     digest.value
 }
 
-/// What the four lists say of an edge: place, source, action, denominator.
+/// What the lists say of an edge: place, source, action, denominator.
 fn edge_numbers(edge: &Edge) -> [u64; 4] {
     [edge.place as u64, edge.source.into(), edge.action.into(), edge.denominator.into()]
 }
 
-/// The digest of the four lists of `room` numbers each after the call.
+/// The digest of the lists of `room` numbers each after the call: that of the places alone where the table is
+/// refused, and all four where it is accepted.
 pub fn lent_digest(answer: &Answer, room: usize, fill: u8) -> u64 {
     let mut digest = Digest::new();
-    for array in 0..4 {
-        for element in 0..room {
-            let before = u64::from(fill) + 256 * array as u64 + 1024 * element as u64;
-            let after = match answer {
-                Ok(model) => model.edges.get(element).map_or(before, |edge| edge_numbers(edge)[array]),
-                Err(_) => before,
-            };
-            digest.add(after);
+    match answer {
+        Err(_) => add_places(&mut digest, &[], room, fill),
+        Ok(model) => {
+            add_places(&mut digest, &model.edges, room, fill);
+            for list in 1..4 {
+                add_parts(&mut digest, &model.edges, room, list);
+            }
         }
     }
     digest.value
+}
+
+/// Adds the list of places: the edges take the first numbers, and those after them stay as they were filled.
+fn add_places(digest: &mut Digest, edges: &[Edge], room: usize, fill: u8) {
+    for number in 0..room {
+        let before = u64::from(fill) + 1024 * number as u64;
+        digest.add(edges.get(number).map_or(before, |edge| edge_numbers(edge)[0]));
+    }
+}
+
+/// Adds one of the other lists: that number of each edge, and 0 after the last edge.
+fn add_parts(digest: &mut Digest, edges: &[Edge], room: usize, list: usize) {
+    for number in 0..room {
+        digest.add(edges.get(number).map_or(0, |edge| edge_numbers(edge)[list]));
+    }
 }
 
 /// The answer of the graph call, with the digest of all lent bytes after the call.

@@ -1,4 +1,4 @@
-// The clock layer: one region by itself, with its delay, its reset and what an atom says of it.
+// The region layer, beneath: one region by itself, with its delay, its reset and what an atom says of it.
 mod clock;
 mod four;
 mod region;

@@ -1,7 +1,7 @@
-// Call 1: reads a table and lists its edges, and their places into a lent list, filled beforehand so that a stray write shows. Four
-// lists go into the digest that is printed as lent, each of as many numbers as there is room for edges: the places are list 0; lists
-// 1 to 3 are the sources, actions and denominators of the edge list and, after the last edge, what `filler` gives.
-ghost use Prim.Native.Nat.{_≤_, _<_};
+// Call 1: reads a table and lists its edges, and their places into a lent list, filled beforehand so that a stray write shows. The digest
+// that is printed as lent is that of the list of places and, where the table is accepted, of three lists more, as long as that one: the
+// sources, the actions and the denominators that the edge list has by number. After the last edge these are to be 0.
+ghost use Prim.Native.Nat.{_≤_};
 ghost use lib.ListN.{length};
 use crate::digest::mix;
 use crate::digest::mix_list;
@@ -116,7 +116,7 @@ fn print_shape(shape: Shape) {
     print::number(b" edges ", shape.edges);
 }
 
-// The part of an edge that list k has, from 1 on.
+// The part of an edge that list k has: the source in list 1, the action in list 2, the denominator in list 3.
 fn part_of(edge: Edge, k: usize) -> usize {
     if k == 1 {
         edge.source as usize
@@ -127,43 +127,23 @@ fn part_of(edge: Edge, k: usize) -> usize {
     }
 }
 
-// The part that list k has of each of the first edges.
-fn mix_parts(digest: u64, edges: [Edge; 128], k: usize, count: usize) -> u64 {
+// List k, from 1 on: what the edge list has by number, as far as there is room, also after the last edge and past its end.
+fn mix_parts(digest: u64, edges: [Edge; 128], k: usize, room: usize) -> u64 {
     let mut now = digest;
     let mut i = 0;
-    while i < count {
+    while i < room {
         now = mix(now, part_of(table::edge_of(edges, i), k));
         i = i + 1;
     }
     now
 }
 
-// What list k has from a number on, after the last edge.
-fn mix_fillers(digest: u64, byte: u8, k: usize, from: usize, room: usize) -> u64
-    requires { ⌜ (k < 4) × (room ≤ 160) ⌝ }
-{
-    let mut now = digest;
-    let mut i = from;
-    while i < room {
-        now = mix(now, filler(byte, k, i));
-        i = i + 1;
-    }
-    now
-}
-
-// Lists 1 to 3 of no edges.
-fn mix_empty(digest: u64, byte: u8, room: usize) -> u64
-    requires { ⌜ room ≤ 160 ⌝ }
-{
-    let now = mix_fillers(digest, byte, 1, 0, room);
-    mix_fillers(mix_fillers(now, byte, 2, 0, room), byte, 3, 0, room)
-}
-
-// List k, from 1 on, of the first edges.
-fn mix_listed(digest: u64, edges: [Edge; 128], k: usize, count: usize, byte: u8, room: usize) -> u64
-    requires { ⌜ (k < 4) × (room ≤ 160) ⌝ }
-{
-    mix_fillers(mix_parts(digest, edges, k, count), byte, k, count, room)
+// The four lists, each as long as that of the places.
+fn mix_lists(places: &[usize], edges: [Edge; 128]) -> u64 {
+    let room = places.len();
+    let with_sources = mix_parts(mix_list(0, places), edges, 1, room);
+    let with_actions = mix_parts(with_sources, edges, 2, room);
+    mix_parts(with_actions, edges, 3, room)
 }
 
 fn print_lists(sum: u64) {
@@ -171,40 +151,31 @@ fn print_lists(sum: u64) {
     print::word(b"\n");
 }
 
-// A refused table: the places are to be as they were filled, and there are no edges.
-fn print_refused(number: u8, place: usize, byte: u8, places: &[usize])
-    requires { ⌜ length (now places) ≤ 160 ⌝ }
-{
+// A refused table: the places are to be as they were filled, and there is no edge list.
+fn print_refused(number: u8, place: usize, places: &[usize]) {
     print::refused(number, place);
-    print_lists(mix_empty(mix_list(0, places), byte, places.len()));
+    print_lists(mix_list(0, places));
 }
 
 // An accepted table: its model and the four lists.
-fn print_model(bytes: &[u8], shape: Shape, byte: u8, places: &[usize], edges: [Edge; 128])
-    requires { ⌜ length (now places) ≤ 160 ⌝ }
-{
+fn print_model(bytes: &[u8], shape: Shape, places: &[usize], edges: [Edge; 128]) {
     print_shape(shape);
-    let room = places.len();
-    let count = least(shape.edges, room);
+    let count = least(shape.edges, places.len());
     let head = mix_invariants(mix_labels(0, bytes, shape), bytes, shape);
     print::digest(b" digest ", mix_edges(head, bytes, count, places, edges));
-    let with_sources = mix_listed(mix_list(0, places), edges, 1, count, byte, room);
-    let with_actions = mix_listed(with_sources, edges, 2, count, byte, room);
-    print_lists(mix_listed(with_actions, edges, 3, count, byte, room));
+    print_lists(mix_lists(places, edges));
 }
 
 // Runs the call, over a list of places that was filled.
-fn run_over(bytes: &[u8], byte: u8, places: &mut [usize])
-    requires { ⌜ length (now places) ≤ 160 ⌝ }
-{
+fn run_over(bytes: &[u8], places: &mut [usize]) {
     let reading = table::read(bytes);
     match reading {
         Reading::Refused { number, place } => {
-            print_refused(number, place, byte, places);
+            print_refused(number, place, places);
         }
         Reading::Accepted(shape) => {
             table::list_places(bytes, shape, places);
-            print_model(bytes, shape, byte, places, table::list_edges(bytes, shape));
+            print_model(bytes, shape, places, table::list_edges(bytes, shape));
         }
     }
 }
@@ -216,7 +187,7 @@ fn run_filled(bytes: &[u8], room: usize, byte: u8, list: &mut [usize])
 {
     let places = &mut list[..room];
     fill(places, byte);
-    run_over(bytes, byte, places);
+    run_over(bytes, places);
 }
 
 // Runs the call on a table, with room for some edges.

@@ -37,6 +37,8 @@ fromAnswer cap (refusal number place) = refused number place
 fromAnswer cap (accepted m) =
     cond (meets (boundsOf m) (m .invariants) (first m)) (fromFound (explore sameRegion (nextOf m) cap (first m))) (refused 14 0)
 
+-- What the graph call comes to, for a table and room for so many regions. "A model is accepted, with the entries lent, where the graph
+-- call refuses nothing": where this is `whole`.
 unfoldable pub outcomeOf : List ℕ → ℕ → Outcome
 outcomeOf table cap = fromAnswer cap (readTable table)
 

@@ -132,6 +132,8 @@ pub data Leads (m : Model) (r : Region) : Region → Type 0 where
   by-delay : {q : Region} → List·Memᴰ q (delayNext m r) → Leads m r q
   by-edge : {q : Region} {e : Edge} → List·Memᴰ e (m .edges) → List·Memᴰ q (edgeNext m r e) → Leads m r q
 
+-- What document 01 calls reached: region 0, and whatever a reached region leads to. The regions of the graph are these (`whole-graph` of
+-- Laws.Call).
 pub data Reached (m : Model) : Region → Type 0 where
   begun : Reached m (first m)
   led : {r q : Region} → Reached m r → Leads m r q → Reached m q

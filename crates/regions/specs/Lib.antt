@@ -1,7 +1,7 @@
 -- The definitions of the region layer, in the words of document 01:
 --   Lists      a test of all items of a list
 --   Graph      bounds, invariants, available edges, what a region leads to, and what is reached
---   Edges      the arrays of edges of a model
+--   Edges      the edges of a model by number and by source
 --   Limits     invariants as one limit for each location and clock, as exploring tests them
 --   Entries    regions in a list of bytes, nine to an entry
 --   Index      a chained hash index over the first entries
@@ -13,7 +13,7 @@
 --   View       the graph as the layers above see it: labels, delays and steps by number
 --   Shown      the graph in slices, as the layer above goes by it
 --   Sight      one region by itself, as the layer above asks for it
---   Filling    how these slices are filled, step by step
+--   Filling    how the slices of Shown are filled, step by step
 --   Example    document 01's printed model: its table, and the model that it is read as
 -- Laws on these stand in Laws.
 pub mod Lists

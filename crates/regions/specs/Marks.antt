@@ -21,7 +21,8 @@ use Rattle.regions.specs.declared.explore.Met.{Met}
 use Rattle.clocks.specs.declared.region.Bounds.{Bounds}
 use Rattle.clocks.specs.declared.region.Region.{Region}
 
--- Where the mark of a branch stands: 16 to a target, by the mask. (A mask of more than four clocks, which no model has, is past all marks.)
+-- Where the mark of a branch stands: 16 to a target, by the mask. (A mask that names a clock beyond the four, which no model has, is
+-- past all marks.)
 abbrev pub markPlace : Branch → ℕ
 markPlace b = cond (ltb 15 (b .mask)) 4096 (16 * b .target + b .mask)
 
@@ -30,13 +31,13 @@ abbrev pub Marked : Bounds → Region → List ℕ → ℕ → (Region → Type 
 Marked bounds r marks v P = (b : Branch) → getD marks (markPlace b) 0 ≡ v → P (landing bounds r b)
 
 -- What is known of invariants: mark 1 where the region that a branch leads to breaks its own, 2 where it meets it.
-pub record Judged (limits : List ℕ) (bounds : Bounds) (r : Region) (marks : List ℕ) : Type 0 where
+pub record Tested (limits : List ℕ) (bounds : Bounds) (r : Region) (marks : List ℕ) : Type 0 where
   pub room : length marks ≡ 1024
   pub broken : (m : Model) → Limited m limits → Marked bounds r marks 1 (λ q. meets bounds (m .invariants) q ≡ false)
   pub met : (m : Model) → Limited m limits → Marked bounds r marks 2 (λ q. meets bounds (m .invariants) q ≡ true)
 
 -- What is known of numbers: mark 1 where the region that a branch leads to is among the first n entries.
-pub record Seen (bounds : Bounds) (r : Region) (es : List ℕ) (n : ℕ) (marks : List ℕ) : Type 0 where
+pub record Visited (bounds : Bounds) (r : Region) (es : List ℕ) (n : ℕ) (marks : List ℕ) : Type 0 where
   pub room : length marks ≡ 1024
   pub numbered : Marked bounds r marks 1 (λ q. known sameRegion q (listed es n) ≡ true)
 
@@ -93,32 +94,32 @@ module _ (bounds : Bounds) (r : Region) (v : ℕ) (some : 0 < v) (P : Region →
 -- ---- Invariants
 
 module _ (limits : List ℕ) (bounds : Bounds) (r : Region) where
-  pub judged-none : Judged limits bounds r (replicate 1024 0)
-  judged-none =
+  pub tested-none : Tested limits bounds r (replicate 1024 0)
+  tested-none =
       record {
         room = length-replicate {A = ℕ} 1024 0;
         broken = λ m limited. mark-none bounds r 1 (omega arith) (λ q. meets bounds (m .invariants) q ≡ false) 1024;
         met = λ m limited. mark-none bounds r 2 (omega arith) (λ q. meets bounds (m .invariants) q ≡ true) 1024;
       }
 
-  module _ (marks : List ℕ) (judged : Judged limits bounds r marks) (b : Branch) (at : ℕ) (is : at ≡ markPlace b) where
+  module _ (marks : List ℕ) (tested : Tested limits bounds r marks) (b : Branch) (at : ℕ) (is : at ≡ markPlace b) where
     -- What a mark says.
-    pub judged-broken : (mark : ℕ) → mark ≡ getD marks at 0 → mark ≡ 1 → (m : Model) → Limited m limits
+    pub tested-broken : (mark : ℕ) → mark ≡ getD marks at 0 → mark ≡ 1 → (m : Model) → Limited m limits
         → false ≡ meets bounds (m .invariants) (landing bounds r b)
-    judged-broken mark read e m limited = sym (judged .broken m limited b (ap (λ k. getD marks k 0) (sym is) ∙ sym read ∙ e))
+    tested-broken mark read e m limited = sym (tested .broken m limited b (ap (λ k. getD marks k 0) (sym is) ∙ sym read ∙ e))
 
-    pub judged-met : (mark : ℕ) → mark ≡ getD marks at 0 → mark ≡ 2 → (m : Model) → Limited m limits
+    pub tested-met : (mark : ℕ) → mark ≡ getD marks at 0 → mark ≡ 2 → (m : Model) → Limited m limits
         → true ≡ meets bounds (m .invariants) (landing bounds r b)
-    judged-met mark read e m limited = sym (judged .met m limited b (ap (λ k. getD marks k 0) (sym is) ∙ sym read ∙ e))
+    tested-met mark read e m limited = sym (tested .met m limited b (ap (λ k. getD marks k 0) (sym is) ∙ sym read ∙ e))
 
     -- Where the branch leads was tested, and its mark says what came of it.
-    pub judged-on : (q : Region) → q ≡ landing bounds r b → (v : Bool)
+    pub tested-on : (q : Region) → q ≡ landing bounds r b → (v : Bool)
         → ((m : Model) → Limited m limits → v ≡ meets bounds (m .invariants) q)
-        → (w : ℕ) → w ≡ cond v 2 1 → (marks′ : List ℕ) → marks′ ≡ set marks at w → Judged limits bounds r marks′
-    judged-on q lands v told w says marks′ stored = subst (Judged limits bounds r) (sym (stored ∙ ap (λ k. set marks k w) is)) on
+        → (w : ℕ) → w ≡ cond v 2 1 → (marks′ : List ℕ) → marks′ ≡ set marks at w → Tested limits bounds r marks′
+    tested-on q lands v told w says marks′ stored = subst (Tested limits bounds r) (sym (stored ∙ ap (λ k. set marks k w) is)) on
       where
         few : length marks ≤ 4096
-        few = omega (arith, judged .room)
+        few = omega (arith, tested .room)
 
         is-told : (m : Model) → Limited m limits → (x : Bool) → v ≡ x → meets bounds (m .invariants) (landing bounds r b) ≡ x
         is-told m limited x e = ap (meets bounds (m .invariants)) (sym lands) ∙ sym (told m limited) ∙ e
@@ -131,30 +132,30 @@ module _ (limits : List ℕ) (bounds : Bounds) (r : Region) where
         two true e = refl
         two false e = absurd (omega (arith, e))
 
-        on : Judged limits bounds r (set marks (markPlace b) w)
+        on : Tested limits bounds r (set marks (markPlace b) w)
         on =
             record {
-              room = length-set marks (markPlace b) w ∙ judged .room;
+              room = length-set marks (markPlace b) w ∙ tested .room;
               broken = λ m limited. mark-on bounds r 1 (omega arith) (λ q. meets bounds (m .invariants) q ≡ false) marks few b w
-                  (λ e. is-told m limited false (one v (sym e ∙ says))) (judged .broken m limited);
+                  (λ e. is-told m limited false (one v (sym e ∙ says))) (tested .broken m limited);
               met = λ m limited. mark-on bounds r 2 (omega arith) (λ q. meets bounds (m .invariants) q ≡ true) marks few b w
-                  (λ e. is-told m limited true (two v (sym e ∙ says))) (judged .met m limited);
+                  (λ e. is-told m limited true (two v (sym e ∙ says))) (tested .met m limited);
             }
 
 -- ---- Numbers
 
 module _ (bounds : Bounds) (r : Region) where
-  pub seen-none : (es : List ℕ) (n : ℕ) → Seen bounds r es n (replicate 1024 0)
-  seen-none es n =
+  pub visited-none : (es : List ℕ) (n : ℕ) → Visited bounds r es n (replicate 1024 0)
+  visited-none es n =
       record {
-        room = judged-none [] bounds r .room;
+        room = tested-none [] bounds r .room;
         numbered = mark-none bounds r 1 (omega arith) (λ q. known sameRegion q (listed es n) ≡ true) 1024;
       }
 
-  module _ (cap n : ℕ) (es es′ : List ℕ) (met : Met) (marks : List ℕ) (seen : Seen bounds r es n marks) where
+  module _ (cap n : ℕ) (es es′ : List ℕ) (met : Met) (marks : List ℕ) (visited : Visited bounds r es n marks) where
     -- Regions that are met leave those that were met before where they are.
-    pub seen-kept : (qs : List Region) → AllMet cap n qs es es′ met → Seen bounds r es′ (met .count) marks
-    seen-kept qs all = record { room = seen .room; numbered = λ b e. still (landing bounds r b) (seen .numbered b e) }
+    pub visited-kept : (qs : List Region) → AllMet cap n qs es es′ met → Visited bounds r es′ (met .count) marks
+    visited-kept qs all = record { room = visited .room; numbered = λ b e. still (landing bounds r b) (visited .numbered b e) }
       where
         items : (full : Bool) (l : List Region) → itemsOf (foundOf full l) ≡ l
         items true l = refl
@@ -166,29 +167,29 @@ module _ (bounds : Bounds) (r : Region) where
             ∙ known-met sameRegion noNext cap (listed es n) qs q old
 
     -- Where a branch leads was met, and there was room: it has its mark.
-    pub seen-on : (b : Branch) → AllMet cap n (landing bounds r b ∷ []) es es′ met → met .full ≡ false
-        → (at : ℕ) → at ≡ markPlace b → (marks′ : List ℕ) → marks′ ≡ set marks at 1 → Seen bounds r es′ (met .count) marks′
-    seen-on b all room at is marks′ stored =
-        subst (Seen bounds r es′ (met .count)) (sym (stored ∙ ap (λ k. set marks k 1) is)) on
+    pub visited-on : (b : Branch) → AllMet cap n (landing bounds r b ∷ []) es es′ met → met .full ≡ false
+        → (at : ℕ) → at ≡ markPlace b → (marks′ : List ℕ) → marks′ ≡ set marks at 1 → Visited bounds r es′ (met .count) marks′
+    visited-on b all room at is marks′ stored =
+        subst (Visited bounds r es′ (met .count)) (sym (stored ∙ ap (λ k. set marks k 1) is)) on
       where
         now : known sameRegion (landing bounds r b) (listed es′ (met .count)) ≡ true
         now =
             known-last sameRegion noNext same-refl cap (listed es n) (landing bounds r b) (listed es′ (met .count))
             (all ∙ ap (λ f. foundOf f (listed es′ (met .count))) room)
 
-        on : Seen bounds r es′ (met .count) (set marks (markPlace b) 1)
+        on : Visited bounds r es′ (met .count) (set marks (markPlace b) 1)
         on =
             record {
-              room = length-set marks (markPlace b) 1 ∙ seen .room;
+              room = length-set marks (markPlace b) 1 ∙ visited .room;
               numbered = mark-on bounds r 1 (omega arith) (λ q. known sameRegion q (listed es′ (met .count)) ≡ true) marks
-                  (omega (arith, seen .room)) b 1 (λ e. now)
-                  (seen-kept (landing bounds r b ∷ []) all .numbered);
+                  (omega (arith, visited .room)) b 1 (λ e. now)
+                  (visited-kept (landing bounds r b ∷ []) all .numbered);
             }
 
   -- A branch with a mark: the region that it leads to has a number, and meeting it changes nothing.
-  pub seen-met : (cap n : ℕ) (es marks : List ℕ) → Seen bounds r es n marks → (b : Branch) (at : ℕ) → at ≡ markPlace b
+  pub visited-met : (cap n : ℕ) (es marks : List ℕ) → Visited bounds r es n marks → (b : Branch) (at : ℕ) → at ≡ markPlace b
       → (mark : ℕ) → mark ≡ getD marks at 0 → mark ≡ 1
       → AllMet cap n (landing bounds r b ∷ []) es es (record { full = false; count = n })
-  seen-met cap n es marks seen b at is mark read e =
+  visited-met cap n es marks visited b at is mark read e =
       meet-known sameRegion noNext cap (listed es n) (landing bounds r b) []
-      (seen .numbered b (ap (λ k. getD marks k 0) (sym is) ∙ sym read ∙ e))
+      (visited .numbered b (ap (λ k. getD marks k 0) (sym is) ∙ sym read ∙ e))

@@ -19,7 +19,8 @@ use Rattle.regions.specs.Graph.{boundsOf, landing, available, first}
 use Rattle.regions.specs.View.{numberIn, labelOf, delayNumbers}
 use Rattle.clocks.specs.declared.region.Region.{Region}
 
--- How many numbers each takes: the flags of a region, the masks of a region, the locations of a set of clocks, the row of an edge.
+-- How many numbers each takes: the flags of a region, the masks of a region, the locations of a set of clocks, the row of an edge. These
+-- four stand in comparison too (Held), which knows nothing of regions; partition joins the two (`shown-held` of Laws.Shown).
 abbrev pub flagRoom : ℕ
 flagRoom = 128
 
@@ -40,7 +41,8 @@ followers size next = cond (ltb next size) (next ∷ []) []
 abbrev pub shownRegion : Model → List Region → ℕ → Region
 shownRegion m found x = getD found x (first m)
 
--- The number after the last of the numbers below e that pass, and 0 where none does.
+-- The number after the last of the numbers below e that pass, and 0 where none does. The same as `openBelow` of comparison (Held), and
+-- partition shows that the two agree (`same-open` of Laws.Shown).
 unfoldable pub openBelow : (ℕ → Bool) → ℕ → ℕ
 openBelow p zero = 0
 openBelow p (suc e) = cond (p e) (suc e) (openBelow p e)

@@ -9,6 +9,7 @@ use Rattle.table.specs.Reading.{Answer, refusal, accepted}
 use Rattle.table.specs.declared.model.Branch.{Branch}
 use Rattle.regions.specs.Graph.{boundsOf, landing, available, delayNext}
 use Rattle.regions.specs.Explore.{sameRegion}
+use Rattle.clocks.specs.declared.region.Bounds.{Bounds}
 use Rattle.clocks.specs.declared.region.Region.{Region}
 
 -- The number of a region in a list: the place where it stands first, and the list's length where it is not there.
@@ -49,6 +50,11 @@ stepsFrom m found r (e ∷ l) = cond (available m e r) (stepOf m found r e ∷ s
 -- The steps of a region: its available edges in table order, branches in order.
 unfoldable pub stepsOf : Model → List Region → Region → List Step
 stepsOf m found r = stepsFrom m found r (m .edges)
+
+-- The bounds of the clocks of the model that a table was read as; a table that is refused has no clocks (a choice of ours).
+abbrev pub boundsRead : Answer → Bounds
+boundsRead (refusal number place) = record { count = 0; bound = 0 ∷ 0 ∷ 0 ∷ 0 ∷ [] }
+boundsRead (accepted m) = boundsOf m
 
 -- How many edges a table that was read has; a table that is refused has none (a choice of ours).
 abbrev pub edgesRead : Answer → ℕ

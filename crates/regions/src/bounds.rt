@@ -71,7 +71,7 @@ pub(crate) fn bounds_of(bytes: &[u8], shape: Shape, places: &[usize]) -> Bounds
 }
 
 // The bounds of the clocks of a table that was read.
-pub fn bounds_for(bytes: &[u8], shape: Shape) -> Bounds
+pub(crate) fn bounds_for(bytes: &[u8], shape: Shape) -> Bounds
     ensures { λ r. ⌜ ((m : Model) → Reads (now (bytes .entry)) shape m → r ≡ boundsOf m) ⌝ }
 {
     let mut places = [0usize; 128];

@@ -98,7 +98,7 @@ fn graph_from(
 }
 
 // The graph of a table that was read.
-pub fn graph_of(bytes: &[u8], shape: Shape, entries: &mut [u8]) -> Graph
+pub(crate) fn graph_of(bytes: &[u8], shape: Shape, entries: &mut [u8]) -> Graph
     ensures { λ r. ⌜ ((m : Model) → Reads (now (bytes .entry)) shape m
         → (r ≡ graphOf (fromAnswer (roomFor (length (now (entries .entry)))) (accepted m)))
         × (now (entries .exit) ≡ entriesAfter (now (entries .entry)) (fromAnswer (roomFor (length (now (entries .entry)))) (accepted m)))) ⌝ }

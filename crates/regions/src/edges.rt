@@ -7,7 +7,7 @@ ghost use Rattle.table.specs.Model.{Model};
 ghost use Rattle.table.specs.Reads.{Lists};
 ghost use Rattle.regions.specs.Edges.{Linked};
 use crate::entry::byte_at;
-use crate::marks::put_mark;
+use crate::slices::put_byte;
 use table::Edge;
 
 // The link at a place, and none past the end.
@@ -30,7 +30,7 @@ pub(crate) fn link_edges(list: [Edge; 128], count: usize, starts: &mut [u8], fol
         let edge = table::edge_of(list, e);
         let source = edge.source as usize;
         let next = byte_at(starts, source);
-        put_mark(follows, e, next);
-        put_mark(starts, source, (e + 1) as u8);
+        put_byte(follows, e, next);
+        put_byte(starts, source, (e + 1) as u8);
     }
 }

@@ -8,7 +8,7 @@ ghost use Rattle.table.specs.Reads.{Reads, ReadsEdge, edgeOf};
 ghost use Rattle.regions.specs.Graph.{landing, gather, boundsOf, edgeNext, delayNext, nextOf};
 ghost use Rattle.regions.specs.Edges.{Placed, Linked};
 ghost use Rattle.regions.specs.Limits.{Limited};
-ghost use Rattle.regions.specs.Marks.{Judged, Seen};
+ghost use Rattle.regions.specs.Marks.{Tested, Visited};
 ghost use Rattle.regions.specs.Worklist.{exploreFrom, explore};
 ghost use Rattle.regions.specs.Entries.{entryBytes, maxEntries};
 ghost use Rattle.regions.specs.Explore.{Room, Kept, Left, AllMet, sameRegion, listed, foundOf};
@@ -23,14 +23,14 @@ use crate::index::add;
 use crate::index::find;
 use crate::limits::meets_invariant;
 use crate::marks::mark_place;
-use crate::marks::put_mark;
+use crate::slices::put_byte;
 use clocks::Bounds;
 use clocks::Region;
 use table::Branch;
 use table::Shape;
 
 // The mark of a branch that leads to a region with a number.
-const NUMBERED: u8 = 1;
+const VISITED: u8 = 1;
 
 // How many regions are listed after some were met, and whether there was no room for one of them.
 pub(crate) struct Met {
@@ -84,17 +84,17 @@ fn meet_target(
     entries: &mut [u8],
     heads: &mut [u16],
     nexts: &mut [u16],
-    seen: &mut [u8],
+    visited: &mut [u8],
 ) -> Met
     requires { ⌜ Room cap (now entries) (now heads) (now nexts) n ⌝ }
-    requires { ⌜ Seen bounds r (now entries) n (now seen) ⌝ }
+    requires { ⌜ Visited bounds r (now entries) n (now visited) ⌝ }
     ensures { λ met. ⌜ Kept cap n (now (entries .entry)) (now (heads .entry)) (now (nexts .entry))
         (now (entries .exit)) (now (heads .exit)) (now (nexts .exit)) (met .count) ⌝ }
-    ensures { λ met. ⌜ Seen bounds r (now (entries .exit)) (met .count) (now (seen .exit)) ⌝ }
+    ensures { λ met. ⌜ Visited bounds r (now (entries .exit)) (met .count) (now (visited .exit)) ⌝ }
     ensures { λ met. ⌜ AllMet cap n (landing bounds r b ∷ []) (now (entries .entry)) (now (entries .exit)) met ⌝ }
 {
     let at = mark_place(b);
-    if byte_at(seen, at) == NUMBERED {
+    if byte_at(visited, at) == VISITED {
         return Met {
             full: false,
             count: n,
@@ -105,7 +105,7 @@ fn meet_target(
     if met.full {
         return met;
     }
-    put_mark(seen, at, NUMBERED);
+    put_byte(visited, at, VISITED);
     met
 }
 
@@ -120,13 +120,13 @@ fn meet_branches(
     entries: &mut [u8],
     heads: &mut [u16],
     nexts: &mut [u16],
-    seen: &mut [u8],
+    visited: &mut [u8],
 ) -> Met
     requires { ⌜ Room cap (now entries) (now heads) (now nexts) n ⌝ }
-    requires { ⌜ Seen bounds r (now entries) n (now seen) ⌝ }
+    requires { ⌜ Visited bounds r (now entries) n (now visited) ⌝ }
     ensures { λ met. ⌜ Kept cap n (now (entries .entry)) (now (heads .entry)) (now (nexts .entry))
         (now (entries .exit)) (now (heads .exit)) (now (nexts .exit)) (met .count) ⌝ }
-    ensures { λ met. ⌜ Seen bounds r (now (entries .exit)) (met .count) (now (seen .exit)) ⌝ }
+    ensures { λ met. ⌜ Visited bounds r (now (entries .exit)) (met .count) (now (visited .exit)) ⌝ }
     ensures { λ met. ⌜ ((m : Model) (e : ℕ) → ReadsEdge (now (bytes .entry)) place m e
         → AllMet cap n (gather (λ b. landing bounds r b ∷ []) (edgeOf m e .branches)) (now (entries .entry)) (now (entries .exit)) met) ⌝ }
 {
@@ -135,7 +135,7 @@ fn meet_branches(
     let mut i = 0;
     while i < branches {
         let b = table::branch_at(bytes, place, i);
-        let met = meet_target(bounds, r, b, listed, cap, entries, heads, nexts, seen);
+        let met = meet_target(bounds, r, b, listed, cap, entries, heads, nexts, visited);
         if met.full {
             return met;
         }
@@ -161,21 +161,32 @@ fn meet_edge(
     entries: &mut [u8],
     heads: &mut [u16],
     nexts: &mut [u16],
-    judged: &mut [u8],
-    seen: &mut [u8],
+    tested: &mut [u8],
+    visited: &mut [u8],
 ) -> Met
     requires { ⌜ Room cap (now entries) (now heads) (now nexts) n ⌝ }
-    requires { ⌜ Judged (now limits) bounds r (now judged) × Seen bounds r (now entries) n (now seen) ⌝ }
+    requires { ⌜ Tested (now limits) bounds r (now tested) × Visited bounds r (now entries) n (now visited) ⌝ }
     ensures { λ met. ⌜ Kept cap n (now (entries .entry)) (now (heads .entry)) (now (nexts .entry))
         (now (entries .exit)) (now (heads .exit)) (now (nexts .exit)) (met .count) ⌝ }
-    ensures { λ met. ⌜ Judged (now (limits .entry)) bounds r (now (judged .exit))
-        × Seen bounds r (now (entries .exit)) (met .count) (now (seen .exit)) ⌝ }
+    ensures { λ met. ⌜ Tested (now (limits .entry)) bounds r (now (tested .exit))
+        × Visited bounds r (now (entries .exit)) (met .count) (now (visited .exit)) ⌝ }
     ensures { λ met. ⌜ ((m : Model) (e : ℕ) → Limited m (now (limits .entry)) → ReadsEdge (now (bytes .entry)) place m e
         → source ≡ edgeOf m e .source → bounds ≡ boundsOf m
         → AllMet cap n (edgeNext m r (edgeOf m e)) (now (entries .entry)) (now (entries .exit)) met) ⌝ }
 {
-    if is_available(bytes, limits, place, source, bounds, r, judged) {
-        return meet_branches(bytes, place, bounds, r, n, cap, entries, heads, nexts, seen);
+    if is_available(bytes, limits, place, source, bounds, r, tested) {
+        return meet_branches(
+            bytes,
+            place,
+            bounds,
+            r,
+            n,
+            cap,
+            entries,
+            heads,
+            nexts,
+            visited,
+        );
     }
     Met {
         full: false,
@@ -237,14 +248,15 @@ fn meet_edges(
     requires { ⌜ Room cap (now entries) (now heads) (now nexts) n ⌝ }
     ensures { λ met. ⌜ Kept cap n (now (entries .entry)) (now (heads .entry)) (now (nexts .entry))
         (now (entries .exit)) (now (heads .exit)) (now (nexts .exit)) (met .count) ⌝ }
-    ensures { λ met. ⌜ ((m : Model) → Reads (now (bytes .entry)) shape m → Limited m (now (limits .entry)) → Placed m (now (places .entry)) → Linked m (now (starts .entry)) (now (follows .entry))
+    ensures { λ met. ⌜ ((m : Model) → Reads (now (bytes .entry)) shape m → Limited m (now (limits .entry))
+        → Placed m (now (places .entry)) → Linked m (now (starts .entry)) (now (follows .entry))
         → bounds ≡ boundsOf m
         → AllMet cap n (gather (edgeNext m r) (m .edges)) (now (entries .entry)) (now (entries .exit)) met) ⌝ }
 {
     let edges = shape.edges;
     let location = r.location as usize;
-    let mut judged = [0u8; 1024];
-    let mut seen = [0u8; 1024];
+    let mut tested = [0u8; 1024];
+    let mut visited = [0u8; 1024];
     let mut listed = n;
     let mut link = edge_link(starts, location);
     let mut i = 0;
@@ -263,8 +275,8 @@ fn meet_edges(
                 entries,
                 heads,
                 nexts,
-                &mut judged,
-                &mut seen,
+                &mut tested,
+                &mut visited,
             );
             if met.full {
                 return met;
@@ -299,7 +311,8 @@ fn meet_next(
     requires { ⌜ Room cap (now entries) (now heads) (now nexts) n ⌝ }
     ensures { λ met. ⌜ Kept cap n (now (entries .entry)) (now (heads .entry)) (now (nexts .entry))
         (now (entries .exit)) (now (heads .exit)) (now (nexts .exit)) (met .count) ⌝ }
-    ensures { λ met. ⌜ ((m : Model) → Reads (now (bytes .entry)) shape m → Limited m (now (limits .entry)) → Placed m (now (places .entry)) → Linked m (now (starts .entry)) (now (follows .entry))
+    ensures { λ met. ⌜ ((m : Model) → Reads (now (bytes .entry)) shape m → Limited m (now (limits .entry))
+        → Placed m (now (places .entry)) → Linked m (now (starts .entry)) (now (follows .entry))
         → bounds ≡ boundsOf m → AllMet cap n (nextOf m r) (now (entries .entry)) (now (entries .exit)) met) ⌝ }
 {
     let met = meet_delay(limits, bounds, r, n, cap, entries, heads, nexts);
@@ -342,7 +355,8 @@ fn explore_listed(
     ensures { λ met. ⌜ Kept cap 1 (now (entries .entry)) (now (heads .entry)) (now (nexts .entry))
         (now (entries .exit)) (now (heads .exit)) (now (nexts .exit)) (met .count) ⌝ }
     ensures { λ met. ⌜ ((m : Model) (d : Region) → Reads (now (bytes .entry)) shape m
-        → Limited m (now (limits .entry)) → Placed m (now (places .entry)) → Linked m (now (starts .entry)) (now (follows .entry)) → bounds ≡ boundsOf m
+        → Limited m (now (limits .entry)) → Placed m (now (places .entry)) → Linked m (now (starts .entry)) (now (follows .entry))
+        → bounds ≡ boundsOf m
         → exploreFrom sameRegion (nextOf m) (suc cap) cap d (listed (now (entries .entry)) 1) 0
         ≡ foundOf (met .full) (listed (now (entries .exit)) (met .count))) ⌝ }
 {
@@ -393,7 +407,8 @@ pub(crate) fn explore_all(
     requires { ⌜ (cap ≤ maxEntries) × (entryBytes * cap ≤ length (now entries)) ⌝ }
     ensures { λ met. ⌜ Left (now (entries .entry)) (now (entries .exit)) (met .count) ⌝ }
     ensures { λ met. ⌜ ((m : Model) → Reads (now (bytes .entry)) shape m
-        → Limited m (now (limits .entry)) → Placed m (now (places .entry)) → Linked m (now (starts .entry)) (now (follows .entry)) → bounds ≡ boundsOf m
+        → Limited m (now (limits .entry)) → Placed m (now (places .entry)) → Linked m (now (starts .entry)) (now (follows .entry))
+        → bounds ≡ boundsOf m
         → explore sameRegion (nextOf m) cap start ≡ foundOf (met .full) (listed (now (entries .exit)) (met .count))) ⌝ }
 {
     if cap < 1 {

@@ -6,11 +6,11 @@ ghost use Rattle.table.specs.Model.{Model};
 ghost use Rattle.table.specs.Reads.{ReadsEdge, edgeOf};
 ghost use Rattle.regions.specs.Graph.{isHolds, meets, satisfies, every, landing, lands, available, boundsOf};
 ghost use Rattle.regions.specs.Limits.{Limited};
-ghost use Rattle.regions.specs.Marks.{Judged};
+ghost use Rattle.regions.specs.Marks.{Tested};
 use crate::entry::byte_at;
 use crate::limits::meets_invariant;
 use crate::marks::mark_place;
-use crate::marks::put_mark;
+use crate::slices::put_byte;
 use clocks::Bounds;
 use clocks::Region;
 use clocks::Verdict;
@@ -41,7 +41,8 @@ fn is_satisfied(r: Region, bounds: Bounds, g: Guard) -> bool
 
 // Do all guard atoms of the edge at a place hold?
 pub(crate) fn meets_guards(bytes: &[u8], place: usize, bounds: Bounds, r: Region) -> bool
-    ensures { λ b. ⌜ ((m : Model) (e : ℕ) → ReadsEdge (now (bytes .entry)) place m e → b ≡ every (satisfies bounds r) (edgeOf m e .guards)) ⌝ }
+    ensures { λ b. ⌜ ((m : Model) (e : ℕ) → ReadsEdge (now (bytes .entry)) place m e
+        → b ≡ every (satisfies bounds r) (edgeOf m e .guards)) ⌝ }
 {
     let count = table::guard_count(bytes, place);
     let mut i = 0;
@@ -64,13 +65,13 @@ pub(crate) fn landing_of(bounds: Bounds, r: Region, b: Branch) -> Region
 }
 
 // Does a branch land in a region that meets its invariant? Its mark says so, or is set to say so.
-fn meets_target(limits: &[u16], bounds: Bounds, r: Region, b: Branch, judged: &mut [u8]) -> bool
-    requires { ⌜ Judged (now limits) bounds r (now judged) ⌝ }
+fn meets_target(limits: &[u16], bounds: Bounds, r: Region, b: Branch, tested: &mut [u8]) -> bool
+    requires { ⌜ Tested (now limits) bounds r (now tested) ⌝ }
     ensures { λ v. ⌜ ((m : Model) → Limited m (now (limits .entry)) → v ≡ meets bounds (m .invariants) (landing bounds r b)) ⌝ }
-    ensures { λ _. ⌜ Judged (now (limits .entry)) bounds r (now (judged .exit)) ⌝ }
+    ensures { λ _. ⌜ Tested (now (limits .entry)) bounds r (now (tested .exit)) ⌝ }
 {
     let at = mark_place(b);
-    let mark = byte_at(judged, at);
+    let mark = byte_at(tested, at);
     if mark == BROKEN {
         return false;
     }
@@ -79,10 +80,10 @@ fn meets_target(limits: &[u16], bounds: Bounds, r: Region, b: Branch, judged: &m
     }
     let q = landing_of(bounds, r, b);
     if meets_invariant(limits, bounds, q) {
-        put_mark(judged, at, MET);
+        put_byte(tested, at, MET);
         return true;
     }
-    put_mark(judged, at, BROKEN);
+    put_byte(tested, at, BROKEN);
     false
 }
 
@@ -93,10 +94,10 @@ fn lands_all(
     place: usize,
     bounds: Bounds,
     r: Region,
-    judged: &mut [u8],
+    tested: &mut [u8],
 ) -> bool
-    requires { ⌜ Judged (now limits) bounds r (now judged) ⌝ }
-    ensures { λ _. ⌜ Judged (now (limits .entry)) bounds r (now (judged .exit)) ⌝ }
+    requires { ⌜ Tested (now limits) bounds r (now tested) ⌝ }
+    ensures { λ _. ⌜ Tested (now (limits .entry)) bounds r (now (tested .exit)) ⌝ }
     ensures { λ b. ⌜ ((m : Model) (e : ℕ) → Limited m (now (limits .entry)) → ReadsEdge (now (bytes .entry)) place m e
         → b ≡ lands bounds (m .invariants) (edgeOf m e) r) ⌝ }
 {
@@ -104,7 +105,7 @@ fn lands_all(
     let mut i = 0;
     while i < count {
         let b = table::branch_at(bytes, place, i);
-        if !meets_target(limits, bounds, r, b, judged) {
+        if !meets_target(limits, bounds, r, b, tested) {
             return false;
         }
         i = i + 1;
@@ -120,10 +121,10 @@ pub(crate) fn is_available(
     source: usize,
     bounds: Bounds,
     r: Region,
-    judged: &mut [u8],
+    tested: &mut [u8],
 ) -> bool
-    requires { ⌜ Judged (now limits) bounds r (now judged) ⌝ }
-    ensures { λ _. ⌜ Judged (now (limits .entry)) bounds r (now (judged .exit)) ⌝ }
+    requires { ⌜ Tested (now limits) bounds r (now tested) ⌝ }
+    ensures { λ _. ⌜ Tested (now (limits .entry)) bounds r (now (tested .exit)) ⌝ }
     ensures { λ b. ⌜ ((m : Model) (e : ℕ) → Limited m (now (limits .entry)) → ReadsEdge (now (bytes .entry)) place m e
         → source ≡ edgeOf m e .source → bounds ≡ boundsOf m → b ≡ available m (edgeOf m e) r) ⌝ }
 {
@@ -134,5 +135,5 @@ pub(crate) fn is_available(
     if !meets_guards(bytes, place, bounds, r) {
         return false;
     }
-    lands_all(bytes, limits, place, bounds, r, judged)
+    lands_all(bytes, limits, place, bounds, r, tested)
 }

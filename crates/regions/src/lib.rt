@@ -17,10 +17,8 @@ mod sight;
 mod slices;
 mod view;
 
-pub use bounds::bounds_for;
 pub use call::Graph;
 pub use call::explore_table;
-pub use call::graph_of;
 pub use clocks::Bounds;
 pub use clocks::Moved;
 pub use clocks::Region;
@@ -32,4 +30,5 @@ pub use sight::Sight;
 pub use sight::check_table;
 pub use sight::entry_at;
 pub use sight::show_region;
+pub use view::bounds_read;
 pub use view::edge_count;

@@ -1,7 +1,6 @@
 // Marks on where the branches of one region lead: a byte for each mask and target, in a slice that the caller lends. Branches that
 // have both in common lead to the same region, and what was found of one is not worked out again.
 ghost use mathlib.Core.Path.{_≡_};
-ghost use lib.ListN.{set};
 ghost use Rattle.regions.specs.Marks.{markPlace};
 use table::Branch;
 
@@ -18,13 +17,4 @@ pub(crate) fn mark_place(b: Branch) -> usize
         return PAST_MARKS;
     }
     MASKS * (b.target as usize) + (b.mask as usize)
-}
-
-// Stores a mark where the slice has room for it.
-pub(crate) fn put_mark(marks: &mut [u8], at: usize, mark: u8)
-    ensures { λ _. ⌜ now (marks .exit) ≡ set (now (marks .entry)) at mark ⌝ }
-{
-    if at < marks.len() {
-        marks[at] = mark;
-    }
 }

@@ -8,7 +8,7 @@ ghost use Rattle.table.specs.Reads.{Reads, ReadsEdge, edgeOf};
 ghost use Rattle.regions.specs.Graph.{boundsOf, available};
 ghost use Rattle.regions.specs.Edges.{Placed, Linked};
 ghost use Rattle.regions.specs.Limits.{Limited};
-ghost use Rattle.regions.specs.Marks.{Judged};
+ghost use Rattle.regions.specs.Marks.{Tested};
 ghost use Rattle.regions.specs.Entries.{entryBytes, maxEntries, regionAt};
 ghost use Rattle.regions.specs.Index.{Index};
 ghost use Rattle.regions.specs.Explore.{listed};
@@ -55,8 +55,8 @@ fn delay_number(
 ) -> usize
     requires { ⌜ Index (now entries) (now heads) (now links) n ⌝ }
     ensures { λ k. ⌜ k ≤ n ⌝ }
-    ensures { λ k. ⌜ ((m : Model) (x : ℕ) → AllRegions m (listed (now (entries .entry)) n) → Limited m (now (limits .entry)) → bounds ≡ boundsOf m
-        → x < n → r ≡ regionAt (now (entries .entry)) x
+    ensures { λ k. ⌜ ((m : Model) (x : ℕ) → AllRegions m (listed (now (entries .entry)) n) → Limited m (now (limits .entry))
+        → bounds ≡ boundsOf m → x < n → r ≡ regionAt (now (entries .entry)) x
         → delayNumbers m (listed (now (entries .entry)) n) r ≡ followers n k) ⌝ }
 {
     let moved = r.delay(bounds);
@@ -141,16 +141,16 @@ fn open_after(
     r: Region,
     e: usize,
     last: u8,
-    judged: &mut [u8],
+    tested: &mut [u8],
 ) -> u8
-    requires { ⌜ (e < 128) × Judged (now limits) bounds r (now judged) ⌝ }
-    ensures { λ _. ⌜ Judged (now (limits .entry)) bounds r (now (judged .exit)) ⌝ }
+    requires { ⌜ (e < 128) × Tested (now limits) bounds r (now tested) ⌝ }
+    ensures { λ _. ⌜ Tested (now (limits .entry)) bounds r (now (tested .exit)) ⌝ }
     ensures { λ v. ⌜ ((m : Model) → Limited m (now (limits .entry)) → ReadsEdge (now (bytes .entry)) place m e
         → r .location ≡ edgeOf m e .source → bounds ≡ boundsOf m → last ≡ openBelow (λ f. available m (edgeOf m f) r) e
         → v ≡ openBelow (λ f. available m (edgeOf m f) r) (suc e)) ⌝ }
 {
     let location = r.location as usize;
-    if is_available(bytes, limits, place, location, bounds, r, judged) {
+    if is_available(bytes, limits, place, location, bounds, r, tested) {
         return (e + 1) as u8;
     }
     last
@@ -173,18 +173,19 @@ fn mark_edges(
     requires { ⌜ (edges ≤ 128) × (base + edges ≤ length (now flags)) ⌝ }
     ensures { λ _. ⌜ Before base (now (flags .entry)) (now (flags .exit)) ⌝ }
     ensures { λ _. ⌜ ((m : Model) → readTable (now (bytes .entry)) ≡ accepted m → Limited m (now (limits .entry))
-        → Placed m (now (places .entry)) → Linked m (now (starts .entry)) (now (follows .entry)) → bounds ≡ boundsOf m → edges ≡ length (m .edges)
+        → Placed m (now (places .entry)) → Linked m (now (starts .entry)) (now (follows .entry))
+        → bounds ≡ boundsOf m → edges ≡ length (m .edges)
         → Run base edges (λ e v. v ≡ openBelow (λ f. available m (edgeOf m f) r) (suc e)) (now (flags .exit))) ⌝ }
 {
     let location = r.location as usize;
-    let mut judged = [0u8; 1024];
+    let mut tested = [0u8; 1024];
     let mut last = 0u8;
     let mut link = edge_link(starts, location);
     let mut e = 0;
     while e < edges {
         if link == e + 1 {
             let place = table::number_at(places, e);
-            last = open_after(bytes, limits, place, bounds, r, e, last, &mut judged);
+            last = open_after(bytes, limits, place, bounds, r, e, last, &mut tested);
             link = edge_link(follows, e);
         }
         flags[base + e] = last;
@@ -207,7 +208,8 @@ pub(crate) fn show_flags(
 )
     requires { ⌜ (n ≤ maxEntries) × (edges ≤ 128) × (4096 * 128 ≤ length (now flags)) ⌝ }
     ensures { λ _. ⌜ ((m : Model) → readTable (now (bytes .entry)) ≡ accepted m → Limited m (now (limits .entry))
-        → Placed m (now (places .entry)) → Linked m (now (starts .entry)) (now (follows .entry)) → bounds ≡ boundsOf m → edges ≡ length (m .edges)
+        → Placed m (now (places .entry)) → Linked m (now (starts .entry)) (now (follows .entry))
+        → bounds ≡ boundsOf m → edges ≡ length (m .edges)
         → Blocks 128 edges n (λ x e v. v ≡ openBelow (λ f. available m (edgeOf m f) (regionAt (now (entries .entry)) x)) (suc e))
         (now (flags .exit))) ⌝ }
 {

@@ -136,13 +136,14 @@ fn list_step(
     requires { ⌜ Index (now entries) (now heads) (now links) n ⌝ }
     requires { ⌜ (n ≤ maxEntries) × (at + 32 ≤ length (now rows)) ⌝ }
     ensures { λ _. ⌜ Before at (now (rows .entry)) (now (rows .exit)) ⌝ }
-    ensures { λ _. ⌜ ((m : Model) (e : ℕ) → Limited m (now (limits .entry)) → ReadsEdge (now (bytes .entry)) place m e → Fitting (edgeOf m e)
+    ensures { λ _. ⌜ ((m : Model) (e : ℕ) → Limited m (now (limits .entry)) → ReadsEdge (now (bytes .entry)) place m e
+        → Fitting (edgeOf m e)
         → edge ≡ edgeStruct (edgeOf m e) → bounds ≡ boundsOf m
         → at ≡ 32 * e → Stepping m (listed (now (entries .entry)) n) r e (now (rows .exit))) ⌝ }
 {
     let source = edge.source as usize;
-    let mut judged = [0u8; 1024];
-    if is_available(bytes, limits, place, source, bounds, r, &mut judged) {
+    let mut tested = [0u8; 1024];
+    if is_available(bytes, limits, place, source, bounds, r, &mut tested) {
         store(rows, at, 1);
         store(rows, at + 1, edge.action as usize);
         store(rows, at + 2, edge.denominator as usize);
@@ -206,7 +207,8 @@ fn see_steps(
     delays: &mut [u16],
     rows: &mut [u16],
 ) -> usize
-    requires { ⌜ (n ≤ maxEntries) × (x < n) × (entryBytes * n ≤ length (now entries)) × (n < length (now delays)) × (128 * 32 ≤ length (now rows)) ⌝ }
+    requires { ⌜ (n ≤ maxEntries) × (x < n) × (entryBytes * n ≤ length (now entries)) × (n < length (now delays))
+        × (128 * 32 ≤ length (now rows)) ⌝ }
     ensures { λ k. ⌜ ((m : Model) → Reads (now (bytes .entry)) shape m
         → (k ≡ length (delayList m (listed (now (entries .entry)) n) (regionAt (now (entries .entry)) x)))
         × Sighted m (now (entries .entry)) n x (now (delays .entry)) (now (delays .exit)) (now (rows .exit))) ⌝ }
@@ -269,7 +271,8 @@ fn see_read(
     rows: &mut [u16],
 ) -> Sight
     ensures { λ r. ⌜ ((m : Model) → Reads (now (bytes .entry)) shape m
-        → r ≡ sightOf (isSeen n x (length (now (entries .entry))) (length (now (delays .entry))) (length (now (rows .entry)))) (now (entries .entry)) n x (accepted m)) ⌝ }
+        → r ≡ sightOf (isSeen n x (length (now (entries .entry))) (length (now (delays .entry))) (length (now (rows .entry))))
+        (now (entries .entry)) n x (accepted m)) ⌝ }
     ensures { λ _. ⌜ ((m : Model) → Reads (now (bytes .entry)) shape m
         → isSeen n x (length (now (entries .entry))) (length (now (delays .entry))) (length (now (rows .entry))) ≡ true
         → Sighted m (now (entries .entry)) n x (now (delays .entry)) (now (delays .exit)) (now (rows .exit))) ⌝ }

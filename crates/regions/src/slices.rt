@@ -24,6 +24,15 @@ pub(crate) fn load(list: &[u16], at: usize) -> usize
     }
 }
 
+// Stores a byte where the list has room for it.
+pub(crate) fn put_byte(list: &mut [u8], at: usize, b: u8)
+    ensures { λ _. ⌜ now (list .exit) ≡ set (now (list .entry)) at b ⌝ }
+{
+    if at < list.len() {
+        list[at] = b;
+    }
+}
+
 // Stores three numbers from a place on.
 pub(crate) fn store_three(list: &mut [u16], at: usize, a: usize, b: usize, c: usize)
     requires { ⌜ at + 3 ≤ length (now list) ⌝ }

@@ -1,7 +1,7 @@
--- The region theorem (document 01, "Regions"): a region leads by delays and edges exactly where each state in it does. So a
--- reader may think of states, and the program goes by regions. Every well-formed region has a state (`formed-state`), and the
--- region of a state stands in one entry of the graph, or in none (`one-entry`, `no-entry`). The definitions that the
--- statements need come first.
+-- The region theorem (demand 2; document 01, "Regions"): "A region leads by some delay or edge to another exactly when each of its states,
+-- with fractions as clock values, does so under the automaton's own rules" (`each-state-delays`, `each-state-steps`). So a reader may
+-- think of states, and the program goes by regions. Every well-formed region has a state (`formed-state`), and the region of a state
+-- stands in one entry of the graph, or in none (`one-entry`, `no-entry`). The definitions that the statements need come first.
 use Prim.Native.Nat.{ℕ, _≤_, _<_}
 use mathlib.Core.Logic.{_↔_}
 use mathlib.Core.Path.{_≡_, refl, sym, _∙_, subst}

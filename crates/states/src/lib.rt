@@ -1,4 +1,4 @@
-// States in the region graph: the state call.
+// The region layer, above: states, and the state call.
 mod states;
 
 pub use states::Placing;

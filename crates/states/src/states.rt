@@ -27,9 +27,9 @@ use clocks::byte_of;
 use clocks::kept;
 use clocks::or_four;
 use regions::Graph;
-use regions::bounds_for;
+use regions::bounds_read;
 use regions::entry_at;
-use regions::graph_of;
+use regions::explore_table;
 use regions::same_region;
 use table::Reading;
 use table::Shape;
@@ -252,7 +252,7 @@ fn place_among(
             place: 0,
         };
     }
-    let bounds = bounds_for(bytes, shape);
+    let bounds = bounds_read(bytes);
     let q = region_at(bounds, location as u8, v0, v1, v2, v3, d);
     let number = number_of(entries, n, q);
     if number < n {
@@ -278,9 +278,10 @@ fn place_read(
 ) -> Placing
     ensures { λ r. ⌜ ((m : Model) → Reads (now (bytes .entry)) shape m
         → (r ≡ placedAmong m (asked location v0 v1 v2 v3 d) (fromAnswer (roomFor (length (now (entries .entry)))) (accepted m)))
-        × (now (entries .exit) ≡ entriesAfter (now (entries .entry)) (fromAnswer (roomFor (length (now (entries .entry)))) (accepted m)))) ⌝ }
+        × (now (entries .exit)
+        ≡ entriesAfter (now (entries .entry)) (fromAnswer (roomFor (length (now (entries .entry)))) (accepted m)))) ⌝ }
 {
-    let graph = graph_of(bytes, shape, entries);
+    let graph = explore_table(bytes, entries);
     match graph {
         Graph::Refused { number, place } => Placing::Refused {
             number: number,

@@ -23,6 +23,8 @@ twoBytes low high = low + 256 * high
 abbrev pub maxBytes : ℕ
 maxBytes = 16384
 
+-- "Clocks n (0 to 4), locations (1 to 64)"; "constants are 0 to 15"; "denominator W in two bytes (1 to 60,000)"; "at most 128 invariant
+-- atoms and 128 edges, and 8 guard atoms and 8 branches to an edge".
 abbrev pub maxClocks : ℕ
 maxClocks = 4
 

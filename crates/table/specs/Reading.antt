@@ -126,5 +126,6 @@ answerOf (ended q items) = accepted (modelOf items)
 unfoldable pub runTable : List ℕ → Run
 runTable table = cond (ltb maxBytes (length table)) (refused 1 0) (run (suc (length table)) table start 0)
 
+-- Reading a table: the first refusal of document 01's list from 1 to 13, or the model that it describes.
 unfoldable pub readTable : List ℕ → Answer
 readTable table = answerOf (runTable table)

@@ -1,6 +1,6 @@
 -- Every region that is reached is well formed (`reached-formed`): its bytes are as document 01 says, its clocks are within their
--- bounds, and its ranks have no gaps. Delay and reset keep a region so (`delayed-formed`, `reset-formed`). What it says about the bytes is in
--- `formed-..`.
+-- bounds, and its ranks have no gaps. Delay and reset keep a region so (`delayed-formed`, `reset-formed`). What it says about the bytes
+-- is in `formed-..`.
 use Prim.Native.Nat.{ℕ, zero, suc, _+_, _≤_, _<_, min}
 use native.Mathlib.Omega.{arith}
 use mathlib.Core.Logic.{_⊎_, inl, inr}

@@ -104,12 +104,19 @@ place-refused m s (refused n p) number place e = cc
 place-refused m s (cut found) number place e = cc
 place-refused m s (whole found) number place e = absurd (omega (arith, ap kindOf e))
 
+-- What exploring a table comes to, by the model that it is read as.
+outcome-read : (table : List ℕ) (m : Model) (cap : ℕ) → readTable table ≡ accepted m → outcomeOf table cap ≡ fromAnswer cap (accepted m)
+unfolding outcomeOf
+outcome-read table m cap read = ap (fromAnswer cap) read
+
+pub explored : (table es es′ : List ℕ) (g : Graph) (m : Model) (cap : ℕ) → readTable table ≡ accepted m
+    → g ≡ graphOf (outcomeOf table cap) → es′ ≡ entriesAfter es (outcomeOf table cap)
+    → (g ≡ graphOf (fromAnswer cap (accepted m))) × (es′ ≡ entriesAfter es (fromAnswer cap (accepted m)))
+explored table es es′ g m cap read answer left =
+    let is = outcome-read table m cap read in (answer ∙ ap graphOf is, left ∙ ap (entriesAfter es) is)
+
 module _ (table es es′ : List ℕ) (m : Model) (cap : ℕ) (read : readTable table ≡ accepted m) (room : cap ≤ maxEntries) (n : ℕ)
     (answer : G.Regions n ≡ graphOf (fromAnswer cap (accepted m))) (left : es′ ≡ entriesAfter es (fromAnswer cap (accepted m))) where
-  outcome-read : outcomeOf table cap ≡ fromAnswer cap (accepted m)
-  unfolding outcomeOf
-  outcome-read = ap (fromAnswer cap) read
-
   the-regions : (o : Outcome) → fromAnswer cap (accepted m) ≡ o
       → (found : List Region) × (fromAnswer cap (accepted m) ≡ whole found) × (length found ≡ n)
   the-regions (refused k p) e = absurd (omega (arith, ap kindOf (answer ∙ ap graphOf e)))
@@ -124,7 +131,7 @@ module _ (table es es′ : List ℕ) (m : Model) (cap : ℕ) (read : readTable t
   pub place-few : n ≤ maxEntries
   place-few =
       let f = the-regions (fromAnswer cap (accepted m)) refl in
-      let g = whole-graph table cap (f .0) (outcome-read ∙ f .1) in
+      let g = whole-graph table cap (f .0) ((outcome-read table m cap read) ∙ f .1) in
       omega (arith, g .2, f .2, room)
 
   pub place-regions : (s : State) (r : Placing)
@@ -133,8 +140,8 @@ module _ (table es es′ : List ℕ) (m : Model) (cap : ℕ) (read : readTable t
   place-regions s r e =
       let f = the-regions (fromAnswer cap (accepted m)) refl in
       let found = f .0 in
-      let is : outcomeOf table cap ≡ whole found = outcome-read ∙ f .1 in
-      let bytes : es′ ≡ entriesAfter es (outcomeOf table cap) = left ∙ ap (entriesAfter es) (sym outcome-read) in
+      let is : outcomeOf table cap ≡ whole found = (outcome-read table m cap read) ∙ f .1 in
+      let bytes : es′ ≡ entriesAfter es (outcomeOf table cap) = left ∙ ap (entriesAfter es) (sym (outcome-read table m cap read)) in
       let list : listed es′ n ≡ found =
       ap₂ (λ (x : List ℕ) (k : ℕ). listed x k) bytes (sym (f .2)) ∙ listed-whole table es cap found is in
       e

@@ -1,14 +1,14 @@
--- `mix_parts` is safe and ends: the measure is how many edges are left. Assumes nothing.
+-- `mix_parts` is safe and ends: the measure is how many numbers are left. Assumes nothing.
 use Prim.Native.Nat.{_-_}
 use borrow.Author.Needs.{needs}
 use Rattle.crosscheck.proofs.tables.mix_parts.Statement.{statement}
 use Rattle.crosscheck.proofs.tables.mix_parts.Tie as tie
 
 abbrev Inv-loop : tie.InvT-loop
-Inv-loop digest edges k count now₀ i₀ now i = Unit
+Inv-loop digest edges k room now₀ i₀ now i = Unit
 
 abbrev μ-loop : tie.MeasureT-loop
-μ-loop digest edges k count now₀ i₀ now i = count - i
+μ-loop digest edges k room now₀ i₀ now i = room - i
 
 loop-holds : tie.Need-loop-holds Inv-loop μ-loop
 loop-holds c = search needs

@@ -1,4 +1,4 @@
--- `run_filled` is safe: a part of a list that is long enough has the length asked for, and filling it keeps that. Assumes nothing.
+-- `run_filled` is safe: a part of a list that is long enough has the length asked for. Assumes nothing.
 use mathlib.Core.Path.{sym}
 use native.Mathlib.Omega.{arith}
 use lib.Seq.{length-take-le}
@@ -20,10 +20,7 @@ fill-requires c κs =
     omega (arith, length-take-le start.args.room start.args.list.now start.pre.1, start.pre.0)
 
 run-over-requires : tie.Need-run-over-requires
-run-over-requires c κs =
-    let start = c .before .before .before .before .before .before .before in
-    let fill = c .before .before .fill in
-    omega (arith, length-take-le start.args.room start.args.list.now start.pre.1, start.pre.0, fill.kept)
+run-over-requires c κs = search needs
 
 same-length : tie.Need-same-length
 same-length c = search needs

@@ -1,3 +1,4 @@
+-- `bounds_for` meets its contract. Assumes nothing.
 use Prim.Native.Nat.{ℕ}
 use lib.ListN.{replicate, length-replicate}
 use Rattle.table.specs.Reads.{sound-read}
@@ -6,31 +7,25 @@ use borrow.Author.Needs.{needs}
 use Rattle.regions.proofs.bounds.bounds_for.Statement.{statement}
 use Rattle.regions.proofs.bounds.bounds_for.Tie as tie
 use Rattle.regions.proofs.bounds.bounds_for.Reads as reads
-use Rattle.regions.proofs.bounds.bounds_for.Lts as lts
-use Rattle.regions.proofs.bounds.bounds_of.Reads as bounds-of-reads
-use Rattle.table.proofs.list_places.Reads as list-places-reads
 
--- src/bounds.rt:78:38
 slice-aggregate-list-places : tie.Need-slice-aggregate-list-places
 slice-aggregate-list-places c = search needs
 
--- src/bounds.rt:78:5
 list-places-requires : tie.Need-list-places-requires
 list-places-requires c κs = search needs
 
--- src/bounds.rt:79:29
 slice-aggregate-bounds-of : tie.Need-slice-aggregate-bounds-of
 slice-aggregate-bounds-of c = search needs
 
--- src/bounds.rt:79:5
 bounds-of-requires : tie.Need-bounds-of-requires
 bounds-of-requires c κs = search needs
 
--- src/bounds.rt:74:1
 returns : tie.Need-returns
-returns c = let args = (c .before .before .before .before .before .before .args) in
-    let list-places = (c .before .before .before .list-places) in
-    λ m reads. (c .bounds-of) .ensures m reads (placed-filled m (sound-read args.bytes.now args.shape m reads) (replicate 128 0)
+returns c =
+    let args = c .before .before .before .before .before .before .args in
+    let list-places = c .before .before .before .list-places in
+    λ m reads. (c .bounds-of) .ensures m reads (placed-filled m (sound-read args.bytes.now args.shape m reads) (replicate 128
+    0)
     list-places.last.1.1.0 (length-replicate {A = ℕ} 128 0) (list-places.ensures.1 m reads))
 
 pub bounds-for-spec : {M : Type 1} → statement M

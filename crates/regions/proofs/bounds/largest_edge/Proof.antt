@@ -1,4 +1,5 @@
-use Prim.Native.Nat.{ℕ, _-_, _<_, max}
+-- `largest_edge` meets its contract. Assumes nothing.
+use Prim.Native.Nat.{_-_, _<_, max}
 use mathlib.Core.Path.{_≡_, _∙_, ap}
 use native.Mathlib.Omega.{arith}
 use lib.ListN.{length, drop}
@@ -12,11 +13,6 @@ use Rattle.regions.specs.Laws.Every.{largest-on, largest-over}
 use borrow.Author.Needs.{needs}
 use Rattle.regions.proofs.bounds.largest_edge.Statement.{statement}
 use Rattle.regions.proofs.bounds.largest_edge.Tie as tie
-use Rattle.regions.proofs.bounds.largest_edge.Reads as reads
-use Rattle.regions.proofs.bounds.largest_edge.Lts as lts
-use Rattle.clocks.proofs.larger.Reads as larger-reads
-use Rattle.regions.proofs.bounds.largest_guard.Reads as largest-guard-reads
-use Rattle.table.proofs.number_at.Reads as number-at-reads
 
 abbrev Inv-loop : tie.InvT-loop
 Inv-loop bytes count places best₀ i₀ best i = (m : Model) → readTable bytes ≡ accepted m → count ≡ length (m .edges) → Placed m places → max best (largestOf edgeConstant (drop i (m .edges))) ≡ largestOf edgeConstant (m .edges)
@@ -24,36 +20,30 @@ Inv-loop bytes count places best₀ i₀ best i = (m : Model) → readTable byte
 abbrev μ-loop : tie.MeasureT-loop
 μ-loop bytes count places best₀ i₀ best i = count - i
 
--- src/bounds.rt:51:5
 loop-holds : tie.Need-loop-holds Inv-loop μ-loop
 loop-holds c = λ m answer few placed. omega arith
 
--- src/bounds.rt:52:50
 number-at-requires : tie.Need-number-at-requires Inv-loop μ-loop
 number-at-requires c κs = search needs
 
--- src/bounds.rt:52:29
 largest-guard-requires : tie.Need-largest-guard-requires Inv-loop μ-loop
 largest-guard-requires c κs = search needs
 
--- src/bounds.rt:52:9
 larger-requires : tie.Need-larger-requires Inv-loop μ-loop
 larger-requires c κs = search needs
 
--- src/bounds.rt:53:13
 add-i : tie.Need-add-i Inv-loop μ-loop
 add-i c = search needs
 
--- src/bounds.rt:51:5
 loop-less : tie.Need-loop-less Inv-loop μ-loop
 loop-less c = search needs
 
--- src/bounds.rt:51:5
 loop-again : tie.Need-loop-again Inv-loop μ-loop
-loop-again c = let loop = (c .before .before .before .before .loop) in
-    let loop-test = (c .before .before .before .loop-test) in
-    let args = (c .before .before .before .before .before .before .before .args) in
-    let number-at = (c .before .before .number-at) in
+loop-again c =
+    let loop = c .before .before .before .before .loop in
+    let loop-test = c .before .before .before .loop-test in
+    let args = c .before .before .before .before .before .before .before .args in
+    let number-at = c .before .before .number-at in
     let larger = (c .larger) in
     λ m answer few placed. let here : loop.i < length (m .edges) = omega (arith, loop-test.taken) in let edge :
     ReadsEdge args.bytes.now number-at.result m loop.i = record
@@ -61,7 +51,6 @@ loop-again c = let loop = (c .before .before .before .before .loop) in
     loop.best noEdge (loop.inv m answer few placed) here larger.result
     (larger.ensures ∙ ap (max loop.best) ((c .before .largest-guard) .ensures m loop.i edge))
 
--- src/bounds.rt:45:1
 returns : tie.Need-returns Inv-loop μ-loop
 returns c = let loop = (c .before .loop) in
     λ m answer few placed. largest-over edgeConstant (m .edges) loop.i loop.best noEdge

@@ -1,3 +1,4 @@
+-- `explore_all` meets its contract. Assumes nothing.
 use Prim.Native.Nat.{ℕ}
 use mathlib.Core.Path.{_≡_, refl, _∙_, ap}
 use native.Mathlib.Omega.{arith}
@@ -9,65 +10,57 @@ use Rattle.regions.specs.Explore.{sameRegion, first-listed, explored, ex
 use borrow.Author.Needs.{needs}
 use Rattle.regions.proofs.explore.explore_all.Statement.{statement}
 use Rattle.regions.proofs.explore.explore_all.Tie as tie
-use Rattle.regions.proofs.explore.explore_all.Reads as reads
-use Rattle.regions.proofs.explore.explore_all.Lts as lts
-use Rattle.regions.proofs.explore.explore_listed.Reads as explore-listed-reads
-use Rattle.regions.proofs.index.add.Reads as add-reads
 
--- src/explore.rt:400:9
 returns : tie.Need-returns
-returns c = let args = (c .before .before .before .before .before .before .before .args) in (
-  record { entries = refl; fits = omega arith; after = λ k h. refl },
-  λ m reads limited placed linked same. let none : args.cap ≡ 0 =
-      omega (arith, (c .if1) .taken) in ap (λ (k : ℕ). explore sameRegion (nextOf m) k args.start) none
-      ∙ explored-none (nextOf m) args.start args.entries.now,
-)
+returns c =
+    let args = c .before .before .before .before .before .before .before .args in (
+      record { entries = refl; fits = omega arith; after = λ k h. refl },
+      λ m reads limited placed linked same. let none : args.cap ≡ 0 =
+          omega (arith, (c .if1) .taken) in ap (λ (k : ℕ). explore sameRegion (nextOf m) k args.start) none
+          ∙ explored-none (nextOf m) args.start args.entries.now,
+    )
 
--- src/explore.rt:407:28
 slice-aggregate-add : tie.Need-slice-aggregate-add
 slice-aggregate-add c = search needs
 
--- src/explore.rt:407:40
 slice-aggregate-add-2 : tie.Need-slice-aggregate-add-2
 slice-aggregate-add-2 c = search needs
 
--- src/explore.rt:407:5
 add-requires : tie.Need-add-requires
-add-requires c κs = let pre = (c .before .before .before .before .before .before .before .before .before .before .pre) in
-    let if1 = (c .before .before .before .if1) in
+add-requires c κs =
+    let pre = c .before .before .before .before .before .before .before .before .before .before .pre in
+    let if1 = c .before .before .before .if1 in
     (index-zeros _ _, (omega arith, omega (arith, pre.1, if1.left), omega (arith, length-replicate {A = ℕ} 4096 0)))
 
--- src/explore.rt:418:9
 slice-aggregate-explore-listed : tie.Need-slice-aggregate-explore-listed
 slice-aggregate-explore-listed c = search needs
 
--- src/explore.rt:419:9
 slice-aggregate-explore-listed-2 : tie.Need-slice-aggregate-explore-listed-2
 slice-aggregate-explore-listed-2 c = search needs
 
--- src/explore.rt:408:5
 explore-listed-requires : tie.Need-explore-listed-requires
-explore-listed-requires c κs = let args = (c .before .before .before .before .before .before .before .before .before .before .before .before .before .before .before .before .before .before .args) in
-    let add = (c .before .before .before .before .before .before .before .add) in
-    let if1 = (c .before .before .before .before .before .before .before .before .before .before .before .if1) in
-    let pre = (c .before .before .before .before .before .before .before .before .before .before .before .before .before .before .before .before .before .before .pre) in
+explore-listed-requires c κs =
+    let args = c .before .before .before .before .before .before .before .before .before .before .before .before .before .before .before .before .before .before .args in
+    let add = c .before .before .before .before .before .before .before .add in
+    let if1 = c .before .before .before .before .before .before .before .before .before .before .before .if1 in
+    let pre = c .before .before .before .before .before .before .before .before .before .before .before .before .before .before .before .before .before .before .pre in
     first-listed args.cap args.entries.now (replicate 4096 0) (replicate 4096 0) add.last.1.1.0 add.last.1.1.1.0
     add.last.1.1.1.1.0 args.start (omega (arith, if1.left)) pre.0 pre.1
     (omega (arith, pre.0, length-replicate {A = ℕ} 4096 0)) add.ensures .0
 
--- src/explore.rt:381:1
 same-length : tie.Need-same-length
-same-length c = let explore-listed = (c .before .before .before .before .explore-listed) in
-    let add = (c .before .before .before .before .before .before .before .before .before .before .before .before .add) in
+same-length c =
+    let explore-listed = c .before .before .before .before .explore-listed in
+    let add = c .before .before .before .before .before .before .before .before .before .before .before .before .add in
     explore-listed.ensures.0.entries ∙ add.ensures.entries
 
--- src/explore.rt:381:1
 returns-2 : tie.Need-returns-2
-returns-2 c = let explore-listed = (c .before .before .before .before .explore-listed) in
-    let add = (c .before .before .before .before .before .before .before .before .before .before .before .before .add) in
-    let args = (c .before .before .before .before .before .before .before .before .before .before .before .before .before .before .before .before .before .before .before .before .before .before .before .args) in
-    let if1 = (c .before .before .before .before .before .before .before .before .before .before .before .before .before .before .before .before .if1) in
-    let pre = (c .before .before .before .before .before .before .before .before .before .before .before .before .before .before .before .before .before .before .before .before .before .before .before .pre) in
+returns-2 c =
+    let explore-listed = c .before .before .before .before .explore-listed in
+    let add = c .before .before .before .before .before .before .before .before .before .before .before .before .add in
+    let args = c .before .before .before .before .before .before .before .before .before .before .before .before .before .before .before .before .before .before .before .before .before .before .before .args in
+    let if1 = c .before .before .before .before .before .before .before .before .before .before .before .before .before .before .before .before .if1 in
+    let pre = c .before .before .before .before .before .before .before .before .before .before .before .before .before .before .before .before .before .before .before .before .before .before .before .pre in
     let long = explore-listed.ensures.0.entries ∙ add.ensures.entries in (
       record {
         entries = long;
@@ -75,7 +68,8 @@ returns-2 c = let explore-listed = (c .before .before .before .before .explore-l
         after = λ k h.
             explore-listed.ensures.0.after k h ∙ add.ensures.after k (omega (arith, explore-listed.ensures.0.more));
       },
-      λ m reads limited placed linked same. explored (nextOf m) args.cap args.start add.last.1.1.0 explore-listed.last.1.1.1.1.1.1.1.1.0
+      λ m reads limited placed linked same. explored (nextOf m) args.cap args.start add.last.1.1.0
+          explore-listed.last.1.1.1.1.1.1.1.1.0
           explore-listed.result (omega (arith, if1.left))
           (first-listed args.cap args.entries.now (replicate 4096 0) (replicate 4096 0) add.last.1.1.0 add.last.1.1.1.0
           add.last.1.1.1.1.0 args.start (omega (arith, if1.left)) pre.0 pre.1

@@ -1,3 +1,4 @@
+-- `explore_listed` meets its contract. Assumes nothing.
 use Prim.Native.Nat.{ℕ, suc, _-_}
 use mathlib.Core.Path.{_≡_, sym, _∙_, ap}
 use native.Mathlib.Omega.{arith}
@@ -9,13 +10,8 @@ use Rattle.regions.specs.Graph.{boundsOf, nextOf}
 use Rattle.regions.specs.Worklist.{meet, exploreFrom}
 use Rattle.regions.specs.Explore.{sameRegion, listed, Kept, kept-none, kept-on, turn-full, turn-on, turn-over}
 use Rattle.clocks.specs.declared.region.Region.{Region}
-use borrow.Author.Needs.{needs}
 use Rattle.regions.proofs.explore.explore_listed.Statement.{statement}
 use Rattle.regions.proofs.explore.explore_listed.Tie as tie
-use Rattle.regions.proofs.explore.explore_listed.Reads as reads
-use Rattle.regions.proofs.explore.explore_listed.Lts as lts
-use Rattle.regions.proofs.entry.read_entry.Reads as read-entry-reads
-use Rattle.regions.proofs.explore.meet_next.Reads as meet-next-reads
 
 abbrev Inv-loop : tie.InvT-loop
 Inv-loop bytes shape limits places starts follows bounds cap entries₀ heads₀ nexts₀ count₀ i₀ entries heads nexts count i = Kept cap 1 entries₀ heads₀ nexts₀ entries heads nexts count
@@ -25,52 +21,53 @@ Inv-loop bytes shape limits places starts follows bounds cap entries₀ heads₀
 abbrev μ-loop : tie.MeasureT-loop
 μ-loop bytes shape limits places starts follows bounds cap entries₀ heads₀ nexts₀ count₀ i₀ entries heads nexts count i = cap - i
 
--- src/explore.rt:351:5
 loop-holds : tie.Need-loop-holds Inv-loop μ-loop
-loop-holds c = let args = (c .before .before .before .before .before .before .before .before .args) in
-    let pre = (c .before .before .before .before .before .before .before .before .pre) in (
+loop-holds c =
+    let args = c .before .before .before .before .before .before .before .before .args in
+    let pre = c .before .before .before .before .before .before .before .before .pre in (
       kept-none args.cap 1 args.entries.now args.heads.now args.nexts.now pre,
       λ m d reads limited placed linked same. ap
           (λ (k : ℕ). exploreFrom sameRegion (nextOf m) k args.cap d (listed args.entries.now 1) 0) (omega arith),
     )
 
--- src/explore.rt:352:13
 read-entry-requires : tie.Need-read-entry-requires Inv-loop μ-loop
-read-entry-requires c κs = let loop = (c .before .before .loop) in
+read-entry-requires c κs =
+    let loop = c .before .before .loop in
     omega (arith, (c .before .loop-test) .taken, loop.inv.0.room.room, loop.inv.0.room.few)
 
--- src/explore.rt:353:13
 meet-next-requires : tie.Need-meet-next-requires Inv-loop μ-loop
-meet-next-requires c κs = let loop = (c .before .before .before .before .before .before .loop) in
+meet-next-requires c κs =
+    let loop = c .before .before .before .before .before .before .loop in
     loop.inv.0.room
 
--- src/explore.rt:369:13
 same-length : tie.Need-same-length Inv-loop μ-loop
-same-length c = let meet-next = (c .before .before .before .before .before .before .before .meet-next) in
-    let loop = (c .before .before .before .before .before .before .before .before .before .before .before .before .before .before .loop) in
+same-length c =
+    let meet-next = c .before .before .before .before .before .before .before .meet-next in
+    let loop = c .before .before .before .before .before .before .before .before .before .before .before .before .before .before .loop in
     meet-next.ensures.0.entries ∙ loop.inv.0.entries
 
--- src/explore.rt:369:13
 same-length-2 : tie.Need-same-length-2 Inv-loop μ-loop
-same-length-2 c = let meet-next = (c .before .before .before .before .before .before .before .meet-next) in
-    let loop = (c .before .before .before .before .before .before .before .before .before .before .before .before .before .before .loop) in
+same-length-2 c =
+    let meet-next = c .before .before .before .before .before .before .before .meet-next in
+    let loop = c .before .before .before .before .before .before .before .before .before .before .before .before .before .before .loop in
     meet-next.ensures.0.buckets ∙ loop.inv.0.buckets
 
--- src/explore.rt:369:13
 same-length-3 : tie.Need-same-length-3 Inv-loop μ-loop
-same-length-3 c = let meet-next = (c .before .before .before .before .before .before .before .meet-next) in
-    let loop = (c .before .before .before .before .before .before .before .before .before .before .before .before .before .before .loop) in
+same-length-3 c =
+    let meet-next = c .before .before .before .before .before .before .before .meet-next in
+    let loop = c .before .before .before .before .before .before .before .before .before .before .before .before .before .before .loop in
     meet-next.ensures.0.links ∙ loop.inv.0.links
 
--- src/explore.rt:369:13
 returns : tie.Need-returns Inv-loop μ-loop
-returns c = let args = (c .before .before .before .before .before .before .before .before .before .before .before .before .before .before .before .before .before .before .before .before .before .before .before .args) in
-    let loop = (c .before .before .before .before .before .before .before .before .before .before .before .before .before .before .loop) in
-    let meet-next = (c .before .before .before .before .before .before .before .meet-next) in
-    let loop-test = (c .before .before .before .before .before .before .before .before .before .before .before .before .before .loop-test) in
-    let read-entry = (c .before .before .before .before .before .before .before .before .before .before .before .read-entry) in (
+returns c =
+    let args = c .before .before .before .before .before .before .before .before .before .before .before .before .before .before .before .before .before .before .before .before .before .before .before .args in
+    let loop = c .before .before .before .before .before .before .before .before .before .before .before .before .before .before .loop in
+    let meet-next = c .before .before .before .before .before .before .before .meet-next in
+    let loop-test = c .before .before .before .before .before .before .before .before .before .before .before .before .before .loop-test in
+    let read-entry = c .before .before .before .before .before .before .before .before .before .before .before .read-entry in (
       kept-on args.cap 1 args.entries.now args.heads.now args.nexts.now loop.entries loop.heads loop.nexts
-          meet-next.last.1.1.1.1.1.1.1.1.1.1.0 meet-next.last.1.1.1.1.1.1.1.1.1.1.1.0 meet-next.last.1.1.1.1.1.1.1.1.1.1.1.1.0 loop.count
+          meet-next.last.1.1.1.1.1.1.1.1.1.1.0 meet-next.last.1.1.1.1.1.1.1.1.1.1.1.0 meet-next.last.1.1.1.1.1.1.1.1.1.1.1.1.0
+          loop.count
           meet-next.result.count loop.inv.0 meet-next.ensures.0,
       λ m d reads limited placed linked same. loop.inv.1 m d reads limited placed linked same
           ∙ turn-full (nextOf m) args.cap d loop.entries loop.count loop.i loop-test.taken loop.inv.0.room.room
@@ -79,27 +76,28 @@ returns c = let args = (c .before .before .before .before .before .before .befor
           ∙ meet-next.ensures.1 m reads limited placed linked same) ((c .if1) .taken),
     )
 
--- src/explore.rt:372:13
 add-i : tie.Need-add-i Inv-loop μ-loop
-add-i c = let loop-test = (c .before .before .before .before .before .before .before .before .before .before .before .before .before .loop-test) in
-    let loop = (c .before .before .before .before .before .before .before .before .before .before .before .before .before .before .loop) in
+add-i c =
+    let loop-test = c .before .before .before .before .before .before .before .before .before .before .before .before .before .loop-test in
+    let loop = c .before .before .before .before .before .before .before .before .before .before .before .before .before .before .loop in
     omega (arith, loop-test.taken, loop.inv.0.room.room, loop.inv.0.room.few)
 
--- src/explore.rt:351:5
 loop-less : tie.Need-loop-less Inv-loop μ-loop
-loop-less c = let loop-test = (c .before .before .before .before .before .before .before .before .before .before .before .before .before .loop-test) in
-    let loop = (c .before .before .before .before .before .before .before .before .before .before .before .before .before .before .loop) in
+loop-less c =
+    let loop-test = c .before .before .before .before .before .before .before .before .before .before .before .before .before .loop-test in
+    let loop = c .before .before .before .before .before .before .before .before .before .before .before .before .before .before .loop in
     omega (arith, loop-test.taken, loop.inv.0.room.room)
 
--- src/explore.rt:351:5
 loop-again : tie.Need-loop-again Inv-loop μ-loop
-loop-again c = let args = (c .before .before .before .before .before .before .before .before .before .before .before .before .before .before .before .before .before .before .before .before .before .before .before .args) in
-    let loop = (c .before .before .before .before .before .before .before .before .before .before .before .before .before .before .loop) in
-    let meet-next = (c .before .before .before .before .before .before .before .meet-next) in
-    let loop-test = (c .before .before .before .before .before .before .before .before .before .before .before .before .before .loop-test) in
-    let read-entry = (c .before .before .before .before .before .before .before .before .before .before .before .read-entry) in (
+loop-again c =
+    let args = c .before .before .before .before .before .before .before .before .before .before .before .before .before .before .before .before .before .before .before .before .before .before .before .args in
+    let loop = c .before .before .before .before .before .before .before .before .before .before .before .before .before .before .loop in
+    let meet-next = c .before .before .before .before .before .before .before .meet-next in
+    let loop-test = c .before .before .before .before .before .before .before .before .before .before .before .before .before .loop-test in
+    let read-entry = c .before .before .before .before .before .before .before .before .before .before .before .read-entry in (
       kept-on args.cap 1 args.entries.now args.heads.now args.nexts.now loop.entries loop.heads loop.nexts
-          meet-next.last.1.1.1.1.1.1.1.1.1.1.0 meet-next.last.1.1.1.1.1.1.1.1.1.1.1.0 meet-next.last.1.1.1.1.1.1.1.1.1.1.1.1.0 loop.count
+          meet-next.last.1.1.1.1.1.1.1.1.1.1.0 meet-next.last.1.1.1.1.1.1.1.1.1.1.1.0 meet-next.last.1.1.1.1.1.1.1.1.1.1.1.1.0
+          loop.count
           meet-next.result.count loop.inv.0 meet-next.ensures.0,
       λ m d reads limited placed linked same. loop.inv.1 m d reads limited placed linked same
           ∙ turn-on (nextOf m) args.cap d loop.entries loop.count loop.i loop-test.taken loop.inv.0.room.room
@@ -108,22 +106,19 @@ loop-again c = let args = (c .before .before .before .before .before .before .be
           ∙ meet-next.ensures.1 m reads limited placed linked same) ((c .if1) .left),
     )
 
--- src/explore.rt:328:1
 same-length-4 : tie.Need-same-length-4 Inv-loop μ-loop
 same-length-4 c = (c .before .loop) .inv .0 .entries
 
--- src/explore.rt:328:1
 same-length-5 : tie.Need-same-length-5 Inv-loop μ-loop
 same-length-5 c = (c .before .loop) .inv .0 .buckets
 
--- src/explore.rt:328:1
 same-length-6 : tie.Need-same-length-6 Inv-loop μ-loop
 same-length-6 c = (c .before .loop) .inv .0 .links
 
--- src/explore.rt:328:1
 returns-2 : tie.Need-returns-2 Inv-loop μ-loop
-returns-2 c = let loop = (c .before .loop) in
-    let args = (c .before .before .before .before .before .before .before .before .before .before .args) in (
+returns-2 c =
+    let args = c .before .before .before .before .before .before .before .before .before .before .args in
+    let loop = (c .before .loop) in (
       loop.inv.0,
       λ m d reads limited placed linked same. loop.inv.1 m d reads limited placed linked same
           ∙ turn-over (nextOf m) args.cap d loop.entries loop.count loop.i ((c .loop-test) .left),

@@ -1,3 +1,4 @@
+-- `meet_edges` meets its contract. Assumes nothing.
 use Prim.Native.Nat.{ℕ, suc, _-_, _<_}
 use native.Mathlib.Numerals.{add-one}
 use mathlib.Core.Path.{_≡_, refl, sym, _∙_, ap}
@@ -11,21 +12,16 @@ use Rattle.table.specs.Reading.{readTable, accepted}
 use Rattle.table.specs.Reads.{ReadsEdge, edgeOf, counts-read}
 use Rattle.regions.specs.Edges.{Placed, Linked, linkFrom, link-here, link-other, link-past}
 use Rattle.regions.specs.Limits.{Limited}
-use Rattle.regions.specs.Marks.{Judged, Seen, judged-none, seen-none}
+use Rattle.regions.specs.Marks.{Tested, Visited, tested-none, visited-none}
 use Rattle.regions.specs.Graph.{gather, boundsOf, edgeNext}
 use Rattle.regions.specs.Laws.Graph.{edge-elsewhere}
 use Rattle.regions.specs.Explore.{Kept, AllMet, kept-none, kept-on, loop-on, loop-past, loop-full, loop-over}
 use borrow.Author.Needs.{needs}
 use Rattle.regions.proofs.explore.meet_edges.Statement.{statement}
 use Rattle.regions.proofs.explore.meet_edges.Tie as tie
-use Rattle.regions.proofs.explore.meet_edges.Reads as reads
-use Rattle.regions.proofs.explore.meet_edges.Lts as lts
-use Rattle.regions.proofs.edges.edge_link.Reads as edge-link-reads
-use Rattle.regions.proofs.explore.meet_edge.Reads as meet-edge-reads
-use Rattle.table.proofs.number_at.Reads as number-at-reads
 
 abbrev Inv-loop : tie.InvT-loop
-Inv-loop bytes limits places starts follows bounds r n cap entries₀ heads₀ nexts₀ edges location judged₀ seen₀ listed₀ link₀ i₀ entries heads nexts judged seen listed link i = Kept cap n entries₀ heads₀ nexts₀ entries heads nexts listed × Judged limits bounds r judged × Seen bounds r entries listed seen
+Inv-loop bytes limits places starts follows bounds r n cap entries₀ heads₀ nexts₀ edges location tested₀ visited₀ listed₀ link₀ i₀ entries heads nexts tested visited listed link i = Kept cap n entries₀ heads₀ nexts₀ entries heads nexts listed × Tested limits bounds r tested × Visited bounds r entries listed visited
     × ((m : Model) → readTable bytes ≡ accepted m → edges ≡ length (m .edges) → Limited m limits → Placed m places → Linked m starts follows →
     bounds ≡ boundsOf m → (link ≡ linkFrom m (r .location) i) × AllMet cap n (gather (edgeNext m r) (take i (m .edges))) entries₀ entries (record {
       full = false;
@@ -33,111 +29,139 @@ Inv-loop bytes limits places starts follows bounds r n cap entries₀ heads₀ n
     }))
 
 abbrev μ-loop : tie.MeasureT-loop
-μ-loop bytes limits places starts follows bounds r n cap entries₀ heads₀ nexts₀ edges location judged₀ seen₀ listed₀ link₀ i₀ entries heads nexts judged seen listed link i = edges - i
+μ-loop bytes limits places starts follows bounds r n cap entries₀ heads₀ nexts₀ edges location tested₀ visited₀ listed₀ link₀ i₀ entries heads nexts tested visited listed link i = edges - i
 
--- src/explore.rt:245:20
 cast-location : tie.Need-cast-location Inv-loop μ-loop
 cast-location c = search needs
 
--- src/explore.rt:249:9
 edge-link-requires : tie.Need-edge-link-requires Inv-loop μ-loop
 edge-link-requires c κs = search needs
 
--- src/explore.rt:251:5
 loop-holds : tie.Need-loop-holds Inv-loop μ-loop
-loop-holds c = let args = (c .before .before .before .before .before .before .before .before .before .before .args) in (
-  kept-none args.cap args.n args.entries.now args.heads.now args.nexts.now (c .before .before .before .before .before .before .before .before .before .before .pre),
-  judged-none args.limits.now args.bounds args.r,
-  seen-none args.bounds args.r args.entries.now args.n,
-  λ m answer few limited placed linked same. ((c .edge-link) .ensures ∙ linked .start (args.r.location) (omega (arith, (c .before .struct-known))), refl),
-)
+loop-holds c =
+    let args = c .before .before .before .before .before .before .before .before .before .before .args in
+    let pre = c .before .before .before .before .before .before .before .before .before .before .pre in (
+      kept-none args.cap args.n args.entries.now args.heads.now args.nexts.now pre,
+      tested-none args.limits.now args.bounds args.r,
+      visited-none args.bounds args.r args.entries.now args.n,
+      λ m answer few limited placed linked same. (
+        (c .edge-link) .ensures ∙ linked .start (args.r.location) (omega (
+          arith,
+          (c .before .struct-known),
+        )),
+        refl,
+      ),
+    )
 
--- src/explore.rt:252:20
 add-if1 : tie.Need-add-if1 Inv-loop μ-loop
-add-if1 c = omega (arith, (c .loop-test) .taken, (c .before .before .before .before .before .before .before .before .before .before .before .before .good))
+add-if1 c =
+    let good = c .before .before .before .before .before .before .before .before .before .before .before .before .good in
+    omega (arith, (c .loop-test) .taken, good)
 
--- src/explore.rt:253:17
 number-at-requires : tie.Need-number-at-requires Inv-loop μ-loop
 number-at-requires c κs = search needs
 
--- src/explore.rt:266:17
 slice-aggregate-meet-edge : tie.Need-slice-aggregate-meet-edge Inv-loop μ-loop
-slice-aggregate-meet-edge c = sym ((c .before .before .before .before .before .before .before .loop) .inv .1 .room)
+slice-aggregate-meet-edge c =
+    let loop = c .before .before .before .before .before .before .before .loop in
+    sym (loop .inv .1 .room)
 
--- src/explore.rt:267:17
 slice-aggregate-meet-edge-2 : tie.Need-slice-aggregate-meet-edge-2 Inv-loop μ-loop
-slice-aggregate-meet-edge-2 c = sym ((c .before .before .before .before .before .before .before .before .loop) .inv .2 .room)
+slice-aggregate-meet-edge-2 c =
+    let loop = c .before .before .before .before .before .before .before .before .loop in
+    sym (loop .inv .2 .room)
 
--- src/explore.rt:254:17
 meet-edge-requires : tie.Need-meet-edge-requires Inv-loop μ-loop
-meet-edge-requires c κs = ((c .before .before .before .before .before .before .before .before .loop) .inv .0 .room, ((c .before .before .before .before .before .before .before .before .loop) .inv .1, (c .before .before .before .before .before .before .before .before .loop) .inv .2))
+meet-edge-requires c κs =
+    let loop = c .before .before .before .before .before .before .before .before .loop in
+    (loop .inv .0 .room, (loop .inv .1, loop .inv .2))
 
--- src/explore.rt:270:17
 same-length : tie.Need-same-length Inv-loop μ-loop
-same-length c = (c .before .before .before .before .before .before .before .before .before .meet-edge) .ensures .0 .entries ∙ (c .before .before .before .before .before .before .before .before .before .before .before .before .before .before .before .before .before .before .loop) .inv .0 .entries
+same-length c =
+    let meet-edge = c .before .before .before .before .before .before .before .before .before .meet-edge in
+    let loop = c .before .before .before .before .before .before .before .before .before .before .before .before .before .before .before .before .before .before .loop in
+    meet-edge .ensures .0 .entries ∙ loop .inv .0 .entries
 
--- src/explore.rt:270:17
 same-length-2 : tie.Need-same-length-2 Inv-loop μ-loop
-same-length-2 c = (c .before .before .before .before .before .before .before .before .before .meet-edge) .ensures .0 .buckets ∙ (c .before .before .before .before .before .before .before .before .before .before .before .before .before .before .before .before .before .before .loop) .inv .0 .buckets
+same-length-2 c =
+    let meet-edge = c .before .before .before .before .before .before .before .before .before .meet-edge in
+    let loop = c .before .before .before .before .before .before .before .before .before .before .before .before .before .before .before .before .before .before .loop in
+    meet-edge .ensures .0 .buckets ∙ loop .inv .0 .buckets
 
--- src/explore.rt:270:17
 same-length-3 : tie.Need-same-length-3 Inv-loop μ-loop
-same-length-3 c = (c .before .before .before .before .before .before .before .before .before .meet-edge) .ensures .0 .links ∙ (c .before .before .before .before .before .before .before .before .before .before .before .before .before .before .before .before .before .before .loop) .inv .0 .links
+same-length-3 c =
+    let meet-edge = c .before .before .before .before .before .before .before .before .before .meet-edge in
+    let loop = c .before .before .before .before .before .before .before .before .before .before .before .before .before .before .before .before .before .before .loop in
+    meet-edge .ensures .0 .links ∙ loop .inv .0 .links
 
--- src/explore.rt:270:17
 returns : tie.Need-returns Inv-loop μ-loop
-returns c = let args = (c .before .before .before .before .before .before .before .before .before .before .before .before .before .before .before .before .before .before .before .before .before .before .before .before .before .before .before .before .before .args) in
-    let loop = (c .before .before .before .before .before .before .before .before .before .before .before .before .before .before .before .before .before .before .loop) in
-    let meet-edge = (c .before .before .before .before .before .before .before .before .before .meet-edge) in
-    let loop-test = (c .before .before .before .before .before .before .before .before .before .before .before .before .before .before .before .before .before .loop-test) in
-    let if1 = (c .before .before .before .before .before .before .before .before .before .before .before .before .before .before .before .before .if1) in
-    let number-at = (c .before .before .before .before .before .before .before .before .before .before .before .before .before .before .before .number-at) in (
-      kept-on args.cap args.n args.entries.now args.heads.now args.nexts.now loop.entries loop.heads loop.nexts meet-edge.last.1.1.1.1.1.1.1.1.0
-          meet-edge.last.1.1.1.1.1.1.1.1.1.0 meet-edge.last.1.1.1.1.1.1.1.1.1.1.0 loop.listed meet-edge.result.count loop.inv.0 meet-edge.ensures.0,
+returns c =
+    let args = c .before .before .before .before .before .before .before .before .before .before .before .before .before .before .before .before .before .before .before .before .before .before .before .before .before .before .before .before .before .args in
+    let loop = c .before .before .before .before .before .before .before .before .before .before .before .before .before .before .before .before .before .before .loop in
+    let meet-edge = c .before .before .before .before .before .before .before .before .before .meet-edge in
+    let loop-test = c .before .before .before .before .before .before .before .before .before .before .before .before .before .before .before .before .before .loop-test in
+    let if1 = c .before .before .before .before .before .before .before .before .before .before .before .before .before .before .before .before .if1 in
+    let number-at = c .before .before .before .before .before .before .before .before .before .before .before .before .before .before .before .number-at in (
+      kept-on args.cap args.n args.entries.now args.heads.now args.nexts.now loop.entries loop.heads loop.nexts
+          meet-edge.last.1.1.1.1.1.1.1.1.0
+          meet-edge.last.1.1.1.1.1.1.1.1.1.0 meet-edge.last.1.1.1.1.1.1.1.1.1.1.0 loop.listed meet-edge.result.count loop.inv.0
+          meet-edge.ensures.0,
       λ m reads limited placed linked same.
           let few = counts-read args.bytes.now args.shape m reads .edges in
           let here : loop.i < length (m .edges) = omega (arith, loop-test.taken) in
           let (link, all) = loop.inv.3 m (reads .answer) few limited placed linked same in
           let mine = link-here m args.r.location loop.i here (sym link ∙ if1.taken ∙ add-one loop.i) in
-          let edge : ReadsEdge args.bytes.now number-at.result m loop.i = record { answer = reads .answer; place-is = number-at.ensures ∙ placed loop.i here } in
+          let edge : ReadsEdge args.bytes.now number-at.result m loop.i = record {
+            answer = reads .answer;
+            place-is =
+                number-at.ensures ∙ placed loop.i here;
+          } in
           let one = meet-edge.ensures.1.1 m loop.i limited edge (sym mine) same in
-          loop-full (edgeNext m args.r) (m .edges) loop.i noEdge args.cap args.n loop.listed args.entries.now loop.entries all here meet-edge.last.1.1.1.1.1.1.1.1.0
+          loop-full (edgeNext m args.r) (m .edges) loop.i noEdge args.cap args.n loop.listed args.entries.now loop.entries all here
+          meet-edge.last.1.1.1.1.1.1.1.1.0
           meet-edge.result ((c .if2) .taken) one,
     )
 
--- src/explore.rt:273:13
 edge-link-requires-2 : tie.Need-edge-link-requires-2 Inv-loop μ-loop
 edge-link-requires-2 c κs = search needs
 
--- src/explore.rt:275:13
 add-i : tie.Need-add-i Inv-loop μ-loop
-add-i c = omega (arith, (c .before .loop-test) .taken, (c .before .before .before .before .before .before .before .before .before .before .before .before .before .good))
+add-i c =
+    let good = c .before .before .before .before .before .before .before .before .before .before .before .before .before .good in
+    omega (arith, (c .before .loop-test) .taken, good)
 
--- src/explore.rt:251:5
 loop-less : tie.Need-loop-less Inv-loop μ-loop
 loop-less c = omega (arith, (c .before .loop-test) .taken)
 
--- src/explore.rt:251:5
 loop-again : tie.Need-loop-again Inv-loop μ-loop
-loop-again c = let args = (c .before .before .before .before .before .before .before .before .before .before .before .before .before .args) in
-    let loop = (c .before .before .loop) in
+loop-again c =
+    let args = c .before .before .before .before .before .before .before .before .before .before .before .before .before .args in
+    let loop = c .before .before .loop in
     let loop-test = (c .before .loop-test) in
     ⊎-elim
     (λ w.
     let met = w .7 in
     rw (w .18, w .19, w .20, w .21, w .22, w .23, w .24) (
-      kept-on args.cap args.n args.entries.now args.heads.now args.nexts.now loop.entries loop.heads loop.nexts (met .last .1 .1 .1 .1 .1 .1 .1 .1 .0)
-          (met .last .1 .1 .1 .1 .1 .1 .1 .1 .1 .0) (met .last .1 .1 .1 .1 .1 .1 .1 .1 .1 .1 .0) loop.listed (met .result .count) loop.inv.0 (met .ensures .0),
+      kept-on args.cap args.n args.entries.now args.heads.now args.nexts.now loop.entries loop.heads loop.nexts
+          (met .last .1 .1 .1 .1 .1 .1 .1 .1 .0)
+          (met .last .1 .1 .1 .1 .1 .1 .1 .1 .1 .0) (met .last .1 .1 .1 .1 .1 .1 .1 .1 .1 .1 .0) loop.listed (met .result .count)
+          loop.inv.0 (met .ensures .0),
       met .ensures .1 .0 .0,
       met .ensures .1 .0 .1,
       λ m answer few limited placed linked same.
           let here : loop.i < length (m .edges) = omega (arith, loop-test.taken, few) in
           let (link, all) = loop.inv.3 m answer few limited placed linked same in
           let mine = link-here m args.r.location loop.i here (sym link ∙ w .0 .taken ∙ add-one loop.i) in
-          let edge : ReadsEdge args.bytes.now (w .1 .result) m loop.i = record { answer = answer; place-is = w .1 .ensures ∙ placed loop.i here } in
+          let edge : ReadsEdge args.bytes.now (w .1 .result) m loop.i = record {
+            answer = answer;
+            place-is = w .1 .ensures ∙ placed
+                loop.i here;
+          } in
           let one = met .ensures .1 .1 m loop.i limited edge (sym mine) same in (
-            w .17 .ensures ∙ linked .follow loop.i here ∙ ap (λ (k : ℕ). linkFrom m k (suc loop.i)) mine ∙ ap (linkFrom m args.r.location) (sym (add-one loop.i)),
-            loop-on (edgeNext m args.r) (m .edges) loop.i noEdge args.cap args.n loop.listed args.entries.now loop.entries all here (met .last .1 .1 .1 .1 .1 .1 .1 .1 .0)
+            w .17 .ensures ∙ linked .follow loop.i here ∙ ap (λ (k : ℕ). linkFrom m k (suc loop.i)) mine ∙ ap (linkFrom m
+                args.r.location) (sym (add-one loop.i)),
+            loop-on (edgeNext m args.r) (m .edges) loop.i noEdge args.cap args.n loop.listed args.entries.now loop.entries all here
+                (met .last .1 .1 .1 .1 .1 .1 .1 .1 .0)
                 (met .result) (w .16 .left) one,
           ),
     ))
@@ -156,22 +180,19 @@ loop-again c = let args = (c .before .before .before .before .before .before .be
     ))
     ((c .if1) .came)
 
--- src/explore.rt:222:1
 same-length-4 : tie.Need-same-length-4 Inv-loop μ-loop
 same-length-4 c = (c .before .loop) .inv .0 .entries
 
--- src/explore.rt:222:1
 same-length-5 : tie.Need-same-length-5 Inv-loop μ-loop
 same-length-5 c = (c .before .loop) .inv .0 .buckets
 
--- src/explore.rt:222:1
 same-length-6 : tie.Need-same-length-6 Inv-loop μ-loop
 same-length-6 c = (c .before .loop) .inv .0 .links
 
--- src/explore.rt:222:1
 returns-2 : tie.Need-returns-2 Inv-loop μ-loop
-returns-2 c = let loop = (c .before .loop) in
-    let args = (c .before .before .before .before .before .before .before .before .before .before .before .before .args) in (
+returns-2 c =
+    let args = c .before .before .before .before .before .before .before .before .before .before .before .before .args in
+    let loop = (c .before .loop) in (
       loop.inv.0,
       λ m reads limited placed linked same.
           let few = counts-read args.bytes.now args.shape m reads .edges in

@@ -18,7 +18,8 @@ enum-told-2 c = c .match .keys2
 
 add-requires : tie.Need-add-requires
 add-requires c κs =
-    let pre = c .before .before .before .before .before .before .before .before .before .before .before .before .before .pre in
+    let pre = c .before .before .before .before .before .before .before .before .before .before .before .before .before .pre
+    in
     let if1 = c .before .before .before .if1 in
     (pre.index, (omega (arith, if1.taken, pre.few), omega (arith, if1.taken, pre.fits), omega (arith, if1.taken, pre.links)))
 
@@ -72,10 +73,10 @@ returns-2 c =
     let find = c .before .before .find in
     let args = c .before .before .before .before .before .before .before .before .before .args in
     let pre = c .before .before .before .before .before .before .before .before .before .pre in
-    let seen = rw (c .enum-told .given .1) at find.ensures in (
+    let visited = rw (c .enum-told .given .1) at find.ensures in (
       kept-none args.cap args.n args.entries.now args.heads.now args.nexts.now pre,
       one-known args.cap args.n args.entries.now
-          args.heads.now args.nexts.now pre args.q _ (seen .0) (seen .1),
+          args.heads.now args.nexts.now pre args.q _ (visited .0) (visited .1),
     )
 
 same-length-7 : tie.Need-same-length-7

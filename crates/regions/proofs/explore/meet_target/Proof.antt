@@ -1,97 +1,119 @@
+-- `meet_target` meets its contract. Assumes nothing.
 use mathlib.Core.List.{[], _∷_}
 use Rattle.regions.specs.Graph.{landing}
-use mathlib.Core.Path.{sym, _∙_}
 use lib.ListN.{length}
 use Rattle.regions.specs.Explore.{kept-none}
-use Rattle.regions.specs.Marks.{seen-kept, seen-on, seen-met}
+use Rattle.regions.specs.Marks.{visited-kept, visited-on, visited-met}
 use Rattle.regions.specs.Limits.{stored-as-long}
 use borrow.Author.Needs.{needs}
 use Rattle.regions.proofs.explore.meet_target.Statement.{statement}
 use Rattle.regions.proofs.explore.meet_target.Tie as tie
-use Rattle.regions.proofs.explore.meet_target.Reads as reads
-use Rattle.regions.proofs.explore.meet_target.Lts as lts
-use Rattle.regions.proofs.entry.byte_at.Reads as byte-at-reads
-use Rattle.regions.proofs.explore.meet_one.Reads as meet-one-reads
-use Rattle.regions.proofs.guards.landing_of.Reads as landing-of-reads
-use Rattle.regions.proofs.marks.mark_place.Reads as mark-place-reads
-use Rattle.regions.proofs.marks.put_mark.Reads as put-mark-reads
 
--- src/explore.rt:95:9
 mark-place-requires : tie.Need-mark-place-requires
 mark-place-requires c κs = search needs
 
--- src/explore.rt:96:8
 byte-at-requires : tie.Need-byte-at-requires
 byte-at-requires c κs = search needs
 
--- src/explore.rt:97:9
 same-length : tie.Need-same-length
 same-length c = search needs
 
--- src/explore.rt:97:9
 returns : tie.Need-returns
-returns c = (
-  kept-none ((c .before .before .before .before .before .before .before .before .args) .cap) ((c .before .before .before .before .before .before .before .before .args) .n) ((c .before .before .before .before .before .before .before .before .args) .entries .now) ((c .before .before .before .before .before .before .before .before .args) .heads .now) ((c .before .before .before .before .before .before .before .before .args) .nexts .now) ((c .before .before .before .before .before .before .before .before .pre) .0),
-  ((c .before .before .before .before .before .before .before .before .pre) .1, seen-met ((c .before .before .before .before .before .before .before .before .args) .bounds) ((c .before .before .before .before .before .before .before .before .args) .r) ((c .before .before .before .before .before .before .before .before .args) .cap) ((c .before .before .before .before .before .before .before .before .args) .n) ((c .before .before .before .before .before .before .before .before .args) .entries .now) ((c .before .before .before .before .before .before .before .before .args) .seen .now) ((c .before .before .before .before .before .before .before .before .pre) .1) ((c .before .before .before .before .before .before .before .before .args) .b) _ ((c .before .before .before .mark-place) .ensures) _ ((c .before .byte-at) .ensures) ((c .if1) .taken)),
-)
+returns c =
+    let args = c .before .before .before .before .before .before .before .before .args in
+    let pre = c .before .before .before .before .before .before .before .before .pre in
+    let mark-place = c .before .before .before .mark-place in (
+      kept-none (args .cap) (args .n) (args .entries .now) (args .heads .now) (args .nexts .now) (pre .0),
+      (
+        pre .1,
+        visited-met (args .bounds) (args .r) (args .cap) (args .n) (args .entries .now) (args .visited .now) (pre .1)
+            (args .b) _ (mark-place .ensures) _ ((c .before .byte-at) .ensures) ((c .if1) .taken),
+      ),
+    )
 
--- src/explore.rt:102:9
 landing-of-requires : tie.Need-landing-of-requires
 landing-of-requires c κs = search needs
 
--- src/explore.rt:103:9
 meet-one-requires : tie.Need-meet-one-requires
-meet-one-requires c κs = (c .before .before .before .before .before .before .before .before .before .before .before .before .pre) .0
+meet-one-requires c κs =
+    let pre = c .before .before .before .before .before .before .before .before .before .before .before .before .pre in
+    pre .0
 
--- src/explore.rt:105:9
 same-length-2 : tie.Need-same-length-2
-same-length-2 c = (c .before .before .before .before .before .before .before .meet-one) .ensures .0 .entries
+same-length-2 c =
+    let meet-one = c .before .before .before .before .before .before .before .meet-one in
+    meet-one .ensures .0 .entries
 
--- src/explore.rt:105:9
 same-length-3 : tie.Need-same-length-3
-same-length-3 c = (c .before .before .before .before .before .before .before .meet-one) .ensures .0 .buckets
+same-length-3 c =
+    let meet-one = c .before .before .before .before .before .before .before .meet-one in
+    meet-one .ensures .0 .buckets
 
--- src/explore.rt:105:9
 same-length-4 : tie.Need-same-length-4
-same-length-4 c = (c .before .before .before .before .before .before .before .meet-one) .ensures .0 .links
+same-length-4 c =
+    let meet-one = c .before .before .before .before .before .before .before .meet-one in
+    meet-one .ensures .0 .links
 
--- src/explore.rt:105:9
 same-length-5 : tie.Need-same-length-5
 same-length-5 c = search needs
 
--- src/explore.rt:105:9
 returns-2 : tie.Need-returns-2
-returns-2 c = let all = rw ((c .before .before .before .before .before .before .before .before .before .before .before .landing-of) .ensures) at ((c .before .before .before .before .before .before .before .meet-one) .ensures .1) in (
-  (c .before .before .before .before .before .before .before .meet-one) .ensures .0,
-  (seen-kept ((c .before .before .before .before .before .before .before .before .before .before .before .before .before .before .before .before .before .before .before .before .args) .bounds) ((c .before .before .before .before .before .before .before .before .before .before .before .before .before .before .before .before .before .before .before .before .args) .r) ((c .before .before .before .before .before .before .before .before .before .before .before .before .before .before .before .before .before .before .before .before .args) .cap) ((c .before .before .before .before .before .before .before .before .before .before .before .before .before .before .before .before .before .before .before .before .args) .n) ((c .before .before .before .before .before .before .before .before .before .before .before .before .before .before .before .before .before .before .before .before .args) .entries .now) _ ((c .before .before .before .before .before .before .before .meet-one) .result) ((c .before .before .before .before .before .before .before .before .before .before .before .before .before .before .before .before .before .before .before .before .args) .seen .now) ((c .before .before .before .before .before .before .before .before .before .before .before .before .before .before .before .before .before .before .before .before .pre) .1) (landing ((c .before .before .before .before .before .before .before .before .before .before .before .before .before .before .before .before .before .before .before .before .args) .bounds) ((c .before .before .before .before .before .before .before .before .before .before .before .before .before .before .before .before .before .before .before .before .args) .r) ((c .before .before .before .before .before .before .before .before .before .before .before .before .before .before .before .before .before .before .before .before .args) .b) ∷ []) all, all),
-)
+returns-2 c =
+    let landing-of = c .before .before .before .before .before .before .before .before .before .before .before .landing-of in
+    let meet-one = c .before .before .before .before .before .before .before .meet-one in
+    let args = c .before .before .before .before .before .before .before .before .before .before .before .before .before .before .before .before .before .before .before .before .args in
+    let pre = c .before .before .before .before .before .before .before .before .before .before .before .before .before .before .before .before .before .before .before .before .pre in
+    let all = rw (landing-of .ensures) at (meet-one .ensures .1) in (
+      meet-one .ensures .0,
+      (
+        visited-kept (args .bounds) (args .r) (args .cap) (args .n) (args .entries .now) _ (meet-one .result)
+            (args .visited .now) (pre .1) (landing (args .bounds) (args .r) (args .b) ∷ []) all,
+        all,
+      ),
+    )
 
--- src/explore.rt:107:5
-put-mark-requires : tie.Need-put-mark-requires
-put-mark-requires c κs = search needs
+put-byte-requires : tie.Need-put-byte-requires
+put-byte-requires c κs = search needs
 
--- src/explore.rt:77:1
 same-length-6 : tie.Need-same-length-6
-same-length-6 c = (c .before .before .before .before .before .before .before .before .before .before .before .meet-one) .ensures .0 .entries
+same-length-6 c =
+    let meet-one = c .before .before .before .before .before .before .before .before .before .before .before .meet-one in
+    meet-one .ensures .0 .entries
 
--- src/explore.rt:77:1
 same-length-7 : tie.Need-same-length-7
-same-length-7 c = (c .before .before .before .before .before .before .before .before .before .before .before .meet-one) .ensures .0 .buckets
+same-length-7 c =
+    let meet-one = c .before .before .before .before .before .before .before .before .before .before .before .meet-one in
+    meet-one .ensures .0 .buckets
 
--- src/explore.rt:77:1
 same-length-8 : tie.Need-same-length-8
-same-length-8 c = (c .before .before .before .before .before .before .before .before .before .before .before .meet-one) .ensures .0 .links
+same-length-8 c =
+    let meet-one = c .before .before .before .before .before .before .before .before .before .before .before .meet-one in
+    meet-one .ensures .0 .links
 
--- src/explore.rt:77:1
 same-length-9 : tie.Need-same-length-9
-same-length-9 c = stored-as-long ((c .before .before .before .before .before .before .before .before .before .before .before .before .before .before .before .before .before .before .before .before .before .before .before .before .args) .seen .now) ((c .before .before .put-mark) .last .0) ((c .before .before .before .before .before .before .before .before .before .before .before .before .before .before .before .before .before .before .before .mark-place) .result) 1 ((c .before .before .put-mark) .ensures)
+same-length-9 c =
+    let args = c .before .before .before .before .before .before .before .before .before .before .before .before .before .before .before .before .before .before .before .before .before .before .before .before .args in
+    let put-byte = c .before .before .put-byte in
+    let mark-place = c .before .before .before .before .before .before .before .before .before .before .before .before .before .before .before .before .before .before .before .mark-place in
+    stored-as-long (args .visited .now) (put-byte .last .0) (mark-place .result) 1 (put-byte .ensures)
 
--- src/explore.rt:77:1
 returns-3 : tie.Need-returns-3
-returns-3 c = let all = rw ((c .before .before .before .before .before .before .before .before .before .before .before .before .before .before .before .landing-of) .ensures) at ((c .before .before .before .before .before .before .before .before .before .before .before .meet-one) .ensures .1) in (
-  (c .before .before .before .before .before .before .before .before .before .before .before .meet-one) .ensures .0,
-  (seen-on ((c .before .before .before .before .before .before .before .before .before .before .before .before .before .before .before .before .before .before .before .before .before .before .before .before .args) .bounds) ((c .before .before .before .before .before .before .before .before .before .before .before .before .before .before .before .before .before .before .before .before .before .before .before .before .args) .r) ((c .before .before .before .before .before .before .before .before .before .before .before .before .before .before .before .before .before .before .before .before .before .before .before .before .args) .cap) ((c .before .before .before .before .before .before .before .before .before .before .before .before .before .before .before .before .before .before .before .before .before .before .before .before .args) .n) ((c .before .before .before .before .before .before .before .before .before .before .before .before .before .before .before .before .before .before .before .before .before .before .before .before .args) .entries .now) _ ((c .before .before .before .before .before .before .before .before .before .before .before .meet-one) .result) ((c .before .before .before .before .before .before .before .before .before .before .before .before .before .before .before .before .before .before .before .before .before .before .before .before .args) .seen .now) ((c .before .before .before .before .before .before .before .before .before .before .before .before .before .before .before .before .before .before .before .before .before .before .before .before .pre) .1) ((c .before .before .before .before .before .before .before .before .before .before .before .before .before .before .before .before .before .before .before .before .before .before .before .before .args) .b) all ((c .before .before .before .before .if2) .left) _ ((c .before .before .before .before .before .before .before .before .before .before .before .before .before .before .before .before .before .before .before .mark-place) .ensures) _ ((c .before .before .put-mark) .ensures), all),
-)
+returns-3 c =
+    let landing-of = c .before .before .before .before .before .before .before .before .before .before .before .before .before .before .before .landing-of in
+    let meet-one = c .before .before .before .before .before .before .before .before .before .before .before .meet-one in
+    let args = c .before .before .before .before .before .before .before .before .before .before .before .before .before .before .before .before .before .before .before .before .before .before .before .before .args in
+    let pre = c .before .before .before .before .before .before .before .before .before .before .before .before .before .before .before .before .before .before .before .before .before .before .before .before .pre in
+    let if2 = c .before .before .before .before .if2 in
+    let mark-place = c .before .before .before .before .before .before .before .before .before .before .before .before .before .before .before .before .before .before .before .mark-place in
+    let put-byte = c .before .before .put-byte in
+    let all = rw (landing-of .ensures) at (meet-one .ensures .1) in (
+      meet-one .ensures .0,
+      (
+        visited-on (args .bounds) (args .r) (args .cap) (args .n) (args .entries .now) _ (meet-one .result) (args .visited .now)
+            (pre .1) (args .b) all (if2 .left) _ (mark-place .ensures) _ (put-byte .ensures),
+        all,
+      ),
+    )
 
 pub meet-target-spec : {M : Type 1} → statement M
 meet-target-spec =
@@ -108,7 +130,7 @@ meet-target-spec =
     same-length-4
     same-length-5
     returns-2
-    put-mark-requires
+    put-byte-requires
     same-length-6
     same-length-7
     same-length-8

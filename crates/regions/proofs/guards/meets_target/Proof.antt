@@ -1,79 +1,112 @@
+-- `meets_target` meets its contract. Assumes nothing.
 use mathlib.Core.Path.{sym, ap, _∙_}
 use Rattle.regions.specs.Graph.{meets}
 use mathlib.Core.Bool.{Bool, cond}
-use Rattle.regions.specs.Marks.{judged-broken, judged-met, judged-on}
+use Rattle.regions.specs.Marks.{tested-broken, tested-met, tested-on}
 use borrow.Author.Needs.{needs}
 use Rattle.regions.proofs.guards.meets_target.Statement.{statement}
 use Rattle.regions.proofs.guards.meets_target.Tie as tie
-use Rattle.regions.proofs.guards.meets_target.Reads as reads
-use Rattle.regions.proofs.guards.meets_target.Lts as lts
-use Rattle.regions.proofs.entry.byte_at.Reads as byte-at-reads
-use Rattle.regions.proofs.guards.landing_of.Reads as landing-of-reads
-use Rattle.regions.proofs.limits.meets_invariant.Reads as meets-invariant-reads
-use Rattle.regions.proofs.marks.mark_place.Reads as mark-place-reads
-use Rattle.regions.proofs.marks.put_mark.Reads as put-mark-reads
 
--- src/guards.rt:72:9
 mark-place-requires : tie.Need-mark-place-requires
 mark-place-requires c κs = search needs
 
--- src/guards.rt:73:9
 byte-at-requires : tie.Need-byte-at-requires
 byte-at-requires c κs = search needs
 
--- src/guards.rt:75:9
 same-length : tie.Need-same-length
 same-length c = search needs
 
--- src/guards.rt:75:9
 returns : tie.Need-returns
-returns c = (judged-broken ((c .before .before .before .before .before .before .args) .limits .now) ((c .before .before .before .before .before .before .args) .bounds) ((c .before .before .before .before .before .before .args) .r) ((c .before .before .before .before .before .before .args) .judged .now) (c .before .before .before .before .before .before .pre) ((c .before .before .before .before .before .before .args) .b) _ ((c .before .before .before .mark-place) .ensures) _ ((c .before .byte-at) .ensures) ((c .if1) .taken), (c .before .before .before .before .before .before .pre))
+returns c =
+    let args = c .before .before .before .before .before .before .args in
+    let pre = c .before .before .before .before .before .before .pre in
+    let mark-place = c .before .before .before .mark-place in (
+      tested-broken (args .limits .now) (args .bounds) (args .r) (args .tested .now) pre (args .b) _ (mark-place .ensures) _
+          ((c .before .byte-at) .ensures) ((c .if1) .taken),
+      pre,
+    )
 
--- src/guards.rt:78:9
 same-length-2 : tie.Need-same-length-2
 same-length-2 c = search needs
 
--- src/guards.rt:78:9
 returns-2 : tie.Need-returns-2
-returns-2 c = (judged-met ((c .before .before .before .before .before .before .before .args) .limits .now) ((c .before .before .before .before .before .before .before .args) .bounds) ((c .before .before .before .before .before .before .before .args) .r) ((c .before .before .before .before .before .before .before .args) .judged .now) (c .before .before .before .before .before .before .before .pre) ((c .before .before .before .before .before .before .before .args) .b) _ ((c .before .before .before .before .mark-place) .ensures) _ ((c .before .before .byte-at) .ensures) ((c .if2) .taken), (c .before .before .before .before .before .before .before .pre))
+returns-2 c =
+    let args = c .before .before .before .before .before .before .before .args in
+    let pre = c .before .before .before .before .before .before .before .pre in
+    let mark-place = c .before .before .before .before .mark-place in
+    let byte-at = c .before .before .byte-at in (
+      tested-met (args .limits .now) (args .bounds) (args .r) (args .tested .now) pre (args .b) _ (mark-place .ensures) _
+          (byte-at .ensures) ((c .if2) .taken),
+      pre,
+    )
 
--- src/guards.rt:80:9
 landing-of-requires : tie.Need-landing-of-requires
 landing-of-requires c κs = search needs
 
--- src/guards.rt:81:8
 meets-invariant-requires : tie.Need-meets-invariant-requires
 meets-invariant-requires c κs = search needs
 
--- src/guards.rt:82:9
-put-mark-requires : tie.Need-put-mark-requires
-put-mark-requires c κs = search needs
+put-byte-requires : tie.Need-put-byte-requires
+put-byte-requires c κs = search needs
 
--- src/guards.rt:83:9
 same-length-3 : tie.Need-same-length-3
-same-length-3 c = judged-on ((c .before .before .before .before .before .before .before .before .before .before .before .before .before .before .args) .limits .now) ((c .before .before .before .before .before .before .before .before .before .before .before .before .before .before .args) .bounds) ((c .before .before .before .before .before .before .before .before .before .before .before .before .before .before .args) .r) ((c .before .before .before .before .before .before .before .before .before .before .before .before .before .before .args) .judged .now) (c .before .before .before .before .before .before .before .before .before .before .before .before .before .before .pre) ((c .before .before .before .before .before .before .before .before .before .before .before .before .before .before .args) .b) _ ((c .before .before .before .before .before .before .before .before .before .before .before .mark-place) .ensures) _ ((c .before .before .before .before .before .before .landing-of) .ensures) _ ((c .before .before .before .before .before .meets-invariant) .ensures) _ (sym (ap (λ (x : Bool). cond x 2 1) ((c .before .before .before .before .if3) .taken))) _ ((c .before .before .put-mark) .ensures) .room ∙ sym ((c .before .before .before .before .before .before .before .before .before .before .before .before .before .before .pre) .room)
+same-length-3 c =
+    let args = c .before .before .before .before .before .before .before .before .before .before .before .before .before .before .args in
+    let pre = c .before .before .before .before .before .before .before .before .before .before .before .before .before .before .pre in
+    let mark-place = c .before .before .before .before .before .before .before .before .before .before .before .mark-place in
+    let landing-of = c .before .before .before .before .before .before .landing-of in
+    let meets-invariant = c .before .before .before .before .before .meets-invariant in
+    let if3 = c .before .before .before .before .if3 in
+    let put-byte = c .before .before .put-byte in
+    tested-on (args .limits .now) (args .bounds) (args .r) (args .tested .now) pre (args .b) _ (mark-place .ensures) _
+    (landing-of .ensures) _ (meets-invariant .ensures) _ (sym (ap (λ (x : Bool). cond x 2 1) (if3 .taken))) _
+    (put-byte .ensures) .room ∙ sym (pre .room)
 
--- src/guards.rt:83:9
 returns-3 : tie.Need-returns-3
-returns-3 c = let told = (c .before .before .before .before .before .meets-invariant) .ensures in let lands = (c .before .before .before .before .before .before .landing-of) .ensures in (
-  λ m limited. sym ((c .before .before .before .before .if3) .taken) ∙ told m limited ∙ ap (meets ((c .before .before .before .before .before .before .before .before .before .before .before .before .before .before .args) .bounds) (m .invariants)) lands,
-  judged-on ((c .before .before .before .before .before .before .before .before .before .before .before .before .before .before .args) .limits .now) ((c .before .before .before .before .before .before .before .before .before .before .before .before .before .before .args) .bounds) ((c .before .before .before .before .before .before .before .before .before .before .before .before .before .before .args) .r) ((c .before .before .before .before .before .before .before .before .before .before .before .before .before .before .args) .judged .now) (c .before .before .before .before .before .before .before .before .before .before .before .before .before .before .pre) ((c .before .before .before .before .before .before .before .before .before .before .before .before .before .before .args) .b) _ ((c .before .before .before .before .before .before .before .before .before .before .before .mark-place) .ensures) _ lands _ told _ (sym (ap (λ (x : Bool). cond x 2 1) ((c .before .before .before .before .if3) .taken))) _ ((c .before .before .put-mark) .ensures),
-)
+returns-3 c =
+    let meets-invariant = c .before .before .before .before .before .meets-invariant in
+    let landing-of = c .before .before .before .before .before .before .landing-of in
+    let if3 = c .before .before .before .before .if3 in
+    let args = c .before .before .before .before .before .before .before .before .before .before .before .before .before .before .args in
+    let pre = c .before .before .before .before .before .before .before .before .before .before .before .before .before .before .pre in
+    let mark-place = c .before .before .before .before .before .before .before .before .before .before .before .mark-place in
+    let put-byte = c .before .before .put-byte in
+    let told = meets-invariant .ensures in let lands = landing-of .ensures in (
+      λ m limited. sym (if3 .taken) ∙ told m limited ∙ ap (meets (args .bounds) (m .invariants)) lands,
+      tested-on (args .limits .now) (args .bounds) (args .r) (args .tested .now) pre (args .b) _ (mark-place .ensures) _ lands
+          _ told _ (sym (ap (λ (x : Bool). cond x 2 1) (if3 .taken))) _ (put-byte .ensures),
+    )
 
--- src/guards.rt:85:5
-put-mark-requires-2 : tie.Need-put-mark-requires-2
-put-mark-requires-2 c κs = search needs
+put-byte-requires-2 : tie.Need-put-byte-requires-2
+put-byte-requires-2 c κs = search needs
 
--- src/guards.rt:67:1
 same-length-4 : tie.Need-same-length-4
-same-length-4 c = judged-on ((c .before .before .before .before .before .before .before .before .before .before .before .before .before .before .args) .limits .now) ((c .before .before .before .before .before .before .before .before .before .before .before .before .before .before .args) .bounds) ((c .before .before .before .before .before .before .before .before .before .before .before .before .before .before .args) .r) ((c .before .before .before .before .before .before .before .before .before .before .before .before .before .before .args) .judged .now) (c .before .before .before .before .before .before .before .before .before .before .before .before .before .before .pre) ((c .before .before .before .before .before .before .before .before .before .before .before .before .before .before .args) .b) _ ((c .before .before .before .before .before .before .before .before .before .before .before .mark-place) .ensures) _ ((c .before .before .before .before .before .before .landing-of) .ensures) _ ((c .before .before .before .before .before .meets-invariant) .ensures) _ (sym (ap (λ (x : Bool). cond x 2 1) ((c .before .before .before .before .if3) .left))) _ ((c .before .before .put-mark2) .ensures) .room ∙ sym ((c .before .before .before .before .before .before .before .before .before .before .before .before .before .before .pre) .room)
+same-length-4 c =
+    let args = c .before .before .before .before .before .before .before .before .before .before .before .before .before .before .args in
+    let pre = c .before .before .before .before .before .before .before .before .before .before .before .before .before .before .pre in
+    let mark-place = c .before .before .before .before .before .before .before .before .before .before .before .mark-place in
+    let landing-of = c .before .before .before .before .before .before .landing-of in
+    let meets-invariant = c .before .before .before .before .before .meets-invariant in
+    let if3 = c .before .before .before .before .if3 in
+    let put-byte2 = c .before .before .put-byte2 in
+    tested-on (args .limits .now) (args .bounds) (args .r) (args .tested .now) pre (args .b) _ (mark-place .ensures) _
+    (landing-of .ensures) _ (meets-invariant .ensures) _ (sym (ap (λ (x : Bool). cond x 2 1) (if3 .left))) _
+    (put-byte2 .ensures) .room ∙ sym (pre .room)
 
--- src/guards.rt:67:1
 returns-4 : tie.Need-returns-4
-returns-4 c = let told = (c .before .before .before .before .before .meets-invariant) .ensures in let lands = (c .before .before .before .before .before .before .landing-of) .ensures in (
-  λ m limited. sym ((c .before .before .before .before .if3) .left) ∙ told m limited ∙ ap (meets ((c .before .before .before .before .before .before .before .before .before .before .before .before .before .before .args) .bounds) (m .invariants)) lands,
-  judged-on ((c .before .before .before .before .before .before .before .before .before .before .before .before .before .before .args) .limits .now) ((c .before .before .before .before .before .before .before .before .before .before .before .before .before .before .args) .bounds) ((c .before .before .before .before .before .before .before .before .before .before .before .before .before .before .args) .r) ((c .before .before .before .before .before .before .before .before .before .before .before .before .before .before .args) .judged .now) (c .before .before .before .before .before .before .before .before .before .before .before .before .before .before .pre) ((c .before .before .before .before .before .before .before .before .before .before .before .before .before .before .args) .b) _ ((c .before .before .before .before .before .before .before .before .before .before .before .mark-place) .ensures) _ lands _ told _ (sym (ap (λ (x : Bool). cond x 2 1) ((c .before .before .before .before .if3) .left))) _ ((c .before .before .put-mark2) .ensures),
-)
+returns-4 c =
+    let meets-invariant = c .before .before .before .before .before .meets-invariant in
+    let landing-of = c .before .before .before .before .before .before .landing-of in
+    let if3 = c .before .before .before .before .if3 in
+    let args = c .before .before .before .before .before .before .before .before .before .before .before .before .before .before .args in
+    let pre = c .before .before .before .before .before .before .before .before .before .before .before .before .before .before .pre in
+    let mark-place = c .before .before .before .before .before .before .before .before .before .before .before .mark-place in
+    let put-byte2 = c .before .before .put-byte2 in
+    let told = meets-invariant .ensures in let lands = landing-of .ensures in (
+      λ m limited. sym (if3 .left) ∙ told m limited ∙ ap (meets (args .bounds) (m .invariants)) lands,
+      tested-on (args .limits .now) (args .bounds) (args .r) (args .tested .now) pre (args .b) _ (mark-place .ensures) _ lands
+          _ told _ (sym (ap (λ (x : Bool). cond x 2 1) (if3 .left))) _ (put-byte2 .ensures),
+    )
 
 pub meets-target-spec : {M : Type 1} → statement M
 meets-target-spec =
@@ -87,9 +120,9 @@ meets-target-spec =
     returns-2
     landing-of-requires
     meets-invariant-requires
-    put-mark-requires
+    put-byte-requires
     same-length-3
     returns-3
-    put-mark-requires-2
+    put-byte-requires-2
     same-length-4
     returns-4)

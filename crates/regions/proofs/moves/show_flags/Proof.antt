@@ -1,3 +1,4 @@
+-- `show_flags` meets its contract. Assumes nothing.
 use native.Mathlib.Omega.{arith}
 use Prim.Native.Nat.{suc, _-_}
 use mathlib.Core.Path.{_≡_, refl, _∙_, ap}
@@ -16,10 +17,6 @@ use Rattle.clocks.specs.declared.region.Region.{Region}
 use borrow.Author.Needs.{needs}
 use Rattle.regions.proofs.moves.show_flags.Statement.{statement}
 use Rattle.regions.proofs.moves.show_flags.Tie as tie
-use Rattle.regions.proofs.moves.show_flags.Reads as reads
-use Rattle.regions.proofs.moves.show_flags.Lts as lts
-use Rattle.regions.proofs.entry.read_entry.Reads as read-entry-reads
-use Rattle.regions.proofs.moves.mark_edges.Reads as mark-edges-reads
 
 abbrev Inv-loop : tie.InvT-loop
 Inv-loop bytes limits places starts follows bounds edges entries n flags₀ x₀ flags x = (length flags ≡ length flags₀) × ((m : Model) →
@@ -29,57 +26,53 @@ Inv-loop bytes limits places starts follows bounds edges entries n flags₀ x₀
 abbrev μ-loop : tie.MeasureT-loop
 μ-loop bytes limits places starts follows bounds edges entries n flags₀ x₀ flags x = n - x
 
--- src/moves.rt:215:5
 loop-holds : tie.Need-loop-holds Inv-loop μ-loop
 loop-holds c = (refl, λ m answer limited placed linked same few y j h less. absurd (omega arith))
 
--- src/moves.rt:216:13
 read-entry-requires : tie.Need-read-entry-requires Inv-loop μ-loop
-read-entry-requires c κs = let pre = (c .before .before .before .before .before .before .before .before .before .pre) in
+read-entry-requires c κs =
+    let pre = c .before .before .before .before .before .before .before .before .before .pre in
     omega (arith, ((c .loop-test) .taken), pre.0)
 
--- src/moves.rt:226:13
 mul-mark-edges : tie.Need-mul-mark-edges Inv-loop μ-loop
 mul-mark-edges c = search needs
 
--- src/moves.rt:217:9
 mark-edges-requires : tie.Need-mark-edges-requires Inv-loop μ-loop
-mark-edges-requires c κs = let loop-test = (c .before .before .loop-test) in
-    let loop = (c .before .before .before .loop) in
-    let pre = (c .before .before .before .before .before .before .before .before .before .before .before .pre) in
+mark-edges-requires c κs =
+    let loop-test = c .before .before .loop-test in
+    let loop = c .before .before .before .loop in
+    let pre = c .before .before .before .before .before .before .before .before .before .before .before .pre in
     (pre.1, omega (arith, loop-test.taken, loop.inv.0, pre.0, pre.1, pre.2))
 
--- src/moves.rt:229:13
 add-x : tie.Need-add-x Inv-loop μ-loop
-add-x c = let loop-test = (c .before .before .before .before .before .loop-test) in
-    let pre = (c .before .before .before .before .before .before .before .before .before .before .before .before .before .before .pre) in
+add-x c =
+    let loop-test = c .before .before .before .before .before .loop-test in
+    let pre = c .before .before .before .before .before .before .before .before .before .before .before .before .before .before .pre in
     omega (arith, loop-test.taken, pre.0)
 
--- src/moves.rt:215:5
 loop-less : tie.Need-loop-less Inv-loop μ-loop
 loop-less c = search needs
 
--- src/moves.rt:215:5
 loop-again : tie.Need-loop-again Inv-loop μ-loop
-loop-again c = let mark-edges = (c .before .before .mark-edges) in
-    let loop = (c .before .before .before .before .before .before .loop) in
-    let args = (c .before .before .before .before .before .before .before .before .before .before .before .before .before .before .args) in
-    let pre = (c .before .before .before .before .before .before .before .before .before .before .before .before .before .before .pre) in
-    let read-entry = (c .before .before .before .before .read-entry) in (
+loop-again c =
+    let mark-edges = c .before .before .mark-edges in
+    let loop = c .before .before .before .before .before .before .loop in
+    let args = c .before .before .before .before .before .before .before .before .before .before .before .before .before .before .args in
+    let pre = c .before .before .before .before .before .before .before .before .before .before .before .before .before .before .pre in
+    let read-entry = c .before .before .before .before .read-entry in (
       (mark-edges.ensures.0.as-long) ∙ loop.inv.0,
       λ m answer limited placed linked same few. blocks-on 128 args.edges
           loop.x (λ y j v. v ≡ openBelow (λ f. available m (edgeOf m f) (regionAt args.entries.now y)) (suc j)) loop.flags
           mark-edges.last.1.1.1.1.1.1.1.1.1.0 pre.1 mark-edges.ensures.0 (loop.inv.1 m answer limited placed linked same few)
-          (λ j less. mark-edges.ensures.1 m answer limited placed linked same few j less ∙ ap (λ (q : Region). openBelow (λ f. available
+          (λ j less. mark-edges.ensures.1 m answer limited placed linked same few j less ∙ ap (λ (q : Region). openBelow (λ f.
+          available
           m (edgeOf m f) q) (suc j)) read-entry.ensures),
     )
 
--- src/moves.rt:196:1
 same-length : tie.Need-same-length Inv-loop μ-loop
 same-length c = let loop = (c .before .loop) in
     loop.inv.0
 
--- src/moves.rt:196:1
 returns : tie.Need-returns Inv-loop μ-loop
 returns c = let loop = (c .before .loop) in
     λ m answer limited placed linked same few x e h less. loop.inv.1 m answer limited placed linked same few x e (omega (

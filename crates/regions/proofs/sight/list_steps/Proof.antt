@@ -1,3 +1,4 @@
+-- `list_steps` meets its contract. Assumes nothing.
 use native.Mathlib.Omega.{arith}
 use Prim.Native.Nat.{ℕ, _-_, _<_}
 use mathlib.Core.Path.{_≡_, refl, _∙_}
@@ -15,11 +16,6 @@ use Rattle.regions.specs.Laws.Sight.{steps-on}
 use borrow.Author.Needs.{needs}
 use Rattle.regions.proofs.sight.list_steps.Statement.{statement}
 use Rattle.regions.proofs.sight.list_steps.Tie as tie
-use Rattle.regions.proofs.sight.list_steps.Reads as reads
-use Rattle.regions.proofs.sight.list_steps.Lts as lts
-use Rattle.regions.proofs.sight.list_step.Reads as list-step-reads
-use Rattle.table.proofs.edge_of.Reads as edge-of-reads
-use Rattle.table.proofs.number_at.Reads as number-at-reads
 
 abbrev Inv-loop : tie.InvT-loop
 Inv-loop bytes limits places list edges bounds r entries heads links n rows₀ e₀ rows e = (length rows ≡ length rows₀) × ((m : Model) → readTable bytes ≡ accepted m → Limited m limits → Placed m places → Lists m list → ((j : ℕ) → j < length (m .edges) → Fitting (edgeOf m j)) → bounds ≡ boundsOf m
@@ -28,50 +24,47 @@ Inv-loop bytes limits places list edges bounds r entries heads links n rows₀ e
 abbrev μ-loop : tie.MeasureT-loop
 μ-loop bytes limits places list edges bounds r entries heads links n rows₀ e₀ rows e = edges - e
 
--- src/sight.rt:178:5
 loop-holds : tie.Need-loop-holds Inv-loop μ-loop
 loop-holds c = (refl, λ m answer limited placed lists fits same few j h. absurd (omega arith))
 
--- src/sight.rt:179:13
 number-at-requires : tie.Need-number-at-requires Inv-loop μ-loop
 number-at-requires c κs = search needs
 
--- src/sight.rt:180:13
 edge-of-requires : tie.Need-edge-of-requires Inv-loop μ-loop
 edge-of-requires c κs = search needs
 
--- src/sight.rt:192:13
 mul-list-step : tie.Need-mul-list-step Inv-loop μ-loop
-mul-list-step c = let loop-test = (c .before .before .loop-test) in
-    let pre = (c .before .before .before .before .before .before .before .before .before .before .before .pre) in
+mul-list-step c =
+    let loop-test = c .before .before .loop-test in
+    let pre = c .before .before .before .before .before .before .before .before .before .before .before .pre in
     omega (arith, loop-test .taken, pre .1 .1)
 
--- src/sight.rt:181:9
 list-step-requires : tie.Need-list-step-requires Inv-loop μ-loop
-list-step-requires c κs = let pre = (c .before .before .before .before .before .before .before .before .before .before .before .before .pre) in
-    let loop-test = (c .before .before .before .loop-test) in
-    let loop = (c .before .before .before .before .loop) in
+list-step-requires c κs =
+    let pre = c .before .before .before .before .before .before .before .before .before .before .before .before .pre in
+    let loop-test = c .before .before .before .loop-test in
+    let loop = c .before .before .before .before .loop in
     (pre .0, (pre .1 .0, omega (arith, loop-test .taken, loop .inv .0, pre .1 .1, pre .1 .2)))
 
--- src/sight.rt:195:13
 add-e : tie.Need-add-e Inv-loop μ-loop
-add-e c = let loop-test = (c .before .before .before .before .before .before .loop-test) in
-    let pre = (c .before .before .before .before .before .before .before .before .before .before .before .before .before .before .before .pre) in
+add-e c =
+    let loop-test = c .before .before .before .before .before .before .loop-test in
+    let pre = c .before .before .before .before .before .before .before .before .before .before .before .before .before .before .before .pre in
     omega (arith, loop-test .taken, pre .1 .1)
 
--- src/sight.rt:178:5
 loop-less : tie.Need-loop-less Inv-loop μ-loop
-loop-less c = let loop-test = (c .before .before .before .before .before .before .loop-test) in
+loop-less c =
+    let loop-test = c .before .before .before .before .before .before .loop-test in
     omega (arith, loop-test .taken)
 
--- src/sight.rt:178:5
 loop-again : tie.Need-loop-again Inv-loop μ-loop
-loop-again c = let list-step = (c .before .before .list-step) in
-    let loop = (c .before .before .before .before .before .before .before .loop) in
-    let loop-test = (c .before .before .before .before .before .before .loop-test) in
-    let args = (c .before .before .before .before .before .before .before .before .before .before .before .before .before .before .before .args) in
-    let number-at = (c .before .before .before .before .before .number-at) in
-    let edge-of = (c .before .before .before .before .edge-of) in (
+loop-again c =
+    let list-step = c .before .before .list-step in
+    let loop = c .before .before .before .before .before .before .before .loop in
+    let loop-test = c .before .before .before .before .before .before .loop-test in
+    let args = c .before .before .before .before .before .before .before .before .before .before .before .before .before .before .before .args in
+    let number-at = c .before .before .before .before .before .number-at in
+    let edge-of = c .before .before .before .before .edge-of in (
       list-step .ensures .0 .as-long ∙ loop .inv .0,
       λ m answer limited placed lists fits same few. let here : loop .e < length (m .edges) = omega (
         arith,
@@ -87,12 +80,10 @@ loop-again c = let list-step = (c .before .before .list-step) in
           refl),
     )
 
--- src/sight.rt:156:1
 same-length : tie.Need-same-length Inv-loop μ-loop
 same-length c = let loop = (c .before .loop) in
     loop .inv .0
 
--- src/sight.rt:156:1
 returns : tie.Need-returns Inv-loop μ-loop
 returns c = let loop = (c .before .loop) in
     λ m answer limited placed lists fits same few j h. loop .inv .1 m answer limited placed lists fits same few j (omega

@@ -1,3 +1,4 @@
+-- `see_steps` meets its contract. Assumes nothing.
 use native.Mathlib.Omega.{arith}
 use Prim.Native.Nat.{ℕ}
 use mathlib.Core.Path.{_≡_, refl, _∙_}
@@ -11,132 +12,113 @@ use borrow.Author.Needs.{needs}
 use Rattle.regions.proofs.sight.see_steps.Statement.{statement}
 use Rattle.regions.proofs.sight.see_steps.Tie as tie
 use Rattle.regions.proofs.sight.see_steps.Reads as reads
-use Rattle.regions.proofs.sight.see_steps.Lts as lts
-use Rattle.regions.proofs.bounds.bounds_of.Reads as bounds-of-reads
-use Rattle.regions.proofs.entry.read_entry.Reads as read-entry-reads
-use Rattle.regions.proofs.limits.list_limits.Reads as list-limits-reads
-use Rattle.regions.proofs.moves.link_all.Reads as link-all-reads
-use Rattle.regions.proofs.reach.list_delays.Reads as list-delays-reads
-use Rattle.regions.proofs.sight.list_steps.Reads as list-steps-reads
-use Rattle.regions.proofs.slices.at_most.Reads as at-most-reads
-use Rattle.table.proofs.list_edges.Reads as list-edges-reads
-use Rattle.table.proofs.list_places.Reads as list-places-reads
 
--- src/sight.rt:215:38
 slice-aggregate-list-places : tie.Need-slice-aggregate-list-places
 slice-aggregate-list-places c = search needs
 
--- src/sight.rt:215:5
 list-places-requires : tie.Need-list-places-requires
 list-places-requires c κs = search needs
 
--- src/sight.rt:216:9
 list-edges-requires : tie.Need-list-edges-requires
 list-edges-requires c κs = search needs
 
--- src/sight.rt:218:31
 slice-aggregate-list-limits : tie.Need-slice-aggregate-list-limits
 slice-aggregate-list-limits c = search needs
 
--- src/sight.rt:218:5
 list-limits-requires : tie.Need-list-limits-requires
 list-limits-requires c κs = search needs
 
--- src/sight.rt:219:42
 slice-aggregate-bounds-of : tie.Need-slice-aggregate-bounds-of
 slice-aggregate-bounds-of c = search needs
 
--- src/sight.rt:219:9
 bounds-of-requires : tie.Need-bounds-of-requires
 bounds-of-requires c κs = search needs
 
--- src/sight.rt:220:9
 at-most-requires : tie.Need-at-most-requires
 at-most-requires c κs = search needs
 
--- src/sight.rt:223:26
 slice-aggregate-link-all : tie.Need-slice-aggregate-link-all
 slice-aggregate-link-all c = search needs
 
--- src/sight.rt:223:38
 slice-aggregate-link-all-2 : tie.Need-slice-aggregate-link-all-2
 slice-aggregate-link-all-2 c = search needs
 
--- src/sight.rt:223:5
 link-all-requires : tie.Need-link-all-requires
-link-all-requires c κs = let pre = (c .before .before .before .before .before .before .before .before .before .before .before .before .before .before .before .before .pre) in
+link-all-requires c κs =
+    let pre = c .before .before .before .before .before .before .before .before .before .before .before .before .before .before .before .before .pre in
     (index-zeros _ _, (pre .0, pre .2, omega (arith, pre .0, length-replicate {A = ℕ} 4096 0)))
 
--- src/sight.rt:224:9
 read-entry-requires : tie.Need-read-entry-requires
-read-entry-requires c κs = let pre = (c .before .before .before .before .before .before .before .before .before .before .before .before .before .before .before .before .before .before .before .pre) in
+read-entry-requires c κs =
+    let pre = c .before .before .before .before .before .before .before .before .before .before .before .before .before .before .before .before .before .before .before .pre in
     omega (arith, pre .0, pre .1)
 
--- src/sight.rt:227:9
 slice-aggregate-list-steps : tie.Need-slice-aggregate-list-steps
 slice-aggregate-list-steps c = search needs
 
--- src/sight.rt:228:9
 slice-aggregate-list-steps-2 : tie.Need-slice-aggregate-list-steps-2
 slice-aggregate-list-steps-2 c = search needs
 
--- src/sight.rt:234:9
 slice-aggregate-list-steps-3 : tie.Need-slice-aggregate-list-steps-3
 slice-aggregate-list-steps-3 c = search needs
 
--- src/sight.rt:235:9
 slice-aggregate-list-steps-4 : tie.Need-slice-aggregate-list-steps-4
 slice-aggregate-list-steps-4 c = search needs
 
--- src/sight.rt:225:5
 list-steps-requires : tie.Need-list-steps-requires
-list-steps-requires c κs = let link-all = (c .before .before .before .before .before .before .before .before .link-all) in
-    let pre = (c .before .before .before .before .before .before .before .before .before .before .before .before .before .before .before .before .before .before .before .before .before .before .before .before .before .pre) in
-    let at-most = (c .before .before .before .before .before .before .before .before .before .before .before .at-most) in
+list-steps-requires c κs =
+    let link-all = c .before .before .before .before .before .before .before .before .link-all in
+    let pre = c .before .before .before .before .before .before .before .before .before .before .before .before .before .before .before .before .before .before .before .before .before .before .before .before .before .pre in
+    let at-most = c .before .before .before .before .before .before .before .before .before .before .before .at-most in
     (link-all .ensures, (pre .0, at-most .ensures .0, pre .4))
 
--- src/sight.rt:239:17
 slice-aggregate-list-delays : tie.Need-slice-aggregate-list-delays
 slice-aggregate-list-delays c = search needs
 
--- src/sight.rt:239:43
 slice-aggregate-list-delays-2 : tie.Need-slice-aggregate-list-delays-2
 slice-aggregate-list-delays-2 c = search needs
 
--- src/sight.rt:239:51
 slice-aggregate-list-delays-3 : tie.Need-slice-aggregate-list-delays-3
 slice-aggregate-list-delays-3 c = search needs
 
--- src/sight.rt:239:5
 list-delays-requires : tie.Need-list-delays-requires
-list-delays-requires c κs = let link-all = (c .before .before .before .before .before .before .before .before .before .before .before .before .before .before .before .link-all) in
-    let pre = (c .before .before .before .before .before .before .before .before .before .before .before .before .before .before .before .before .before .before .before .before .before .before .before .before .before .before .before .before .before .before .before .before .pre) in
+list-delays-requires c κs =
+    let link-all = c .before .before .before .before .before .before .before .before .before .before .before .before .before .before .before .link-all in
+    let pre = c .before .before .before .before .before .before .before .before .before .before .before .before .before .before .before .before .before .before .before .before .before .before .before .before .before .before .before .before .before .before .before .before .pre in
     (link-all .ensures, (pre .0, pre .3))
 
--- src/sight.rt:200:1
 same-length : tie.Need-same-length
 same-length c = search needs
 
--- src/sight.rt:200:1
 same-length-2 : tie.Need-same-length-2
 same-length-2 c = search needs
 
--- src/sight.rt:200:1
 returns : tie.Need-returns
-returns c = let args = (c .before .before .before .before .before .before .before .before .before .before .before .before .before .before .before .before .before .before .before .before .before .before .before .before .before .before .before .before .before .before .before .before .before .before .before .args) in
-    let list-places = (c .before .before .before .before .before .before .before .before .before .before .before .before .before .before .before .before .before .before .before .before .before .before .before .before .before .before .before .before .before .list-places) in
+returns c =
+    let args = c .before .before .before .before .before .before .before .before .before .before .before .before .before .before .before .before .before .before .before .before .before .before .before .before .before .before .before .before .before .before .before .before .before .before .before .args in
+    let list-places = c .before .before .before .before .before .before .before .before .before .before .before .before .before .before .before .before .before .before .before .before .before .before .before .before .before .before .before .before .before .list-places in
+    let at-most = c .before .before .before .before .before .before .before .before .before .before .before .before .before .before .before .before .before .before .before .before .before .at-most in
+    let list-limits = c .before .before .before .before .before .before .before .before .before .before .before .before .before .before .before .before .before .before .before .before .before .before .before .before .before .list-limits in
+    let bounds-of = c .before .before .before .before .before .before .before .before .before .before .before .before .before .before .before .before .before .before .before .before .before .before .bounds-of in
+    let read-entry = c .before .before .before .before .before .before .before .before .before .before .before .before .before .before .before .read-entry in
+    let list-delays = c .before .before .list-delays in
+    let list-steps = c .before .before .before .before .before .before .before .before .before .list-steps in
+    let list-edges = c .before .before .before .before .before .before .before .before .before .before .before .before .before .before .before .before .before .before .before .before .before .before .before .before .before .before .before .list-edges in
+    let shared-slice-known = c .before .before .before .before .before .before .before .before .before .before .before .before .before .before .before .before .before .before .before .before .before .before .before .before .before .before .before .before .before .before .before .before .before .before .shared-slice-known in
     λ m reads.
     let sound = sound-read args.bytes.now args.shape m reads in
     let count = counts-read args.bytes.now args.shape m reads .edges in
-    let edges : (c .before .before .before .before .before .before .before .before .before .before .before .before .before .before .before .before .before .before .before .before .before .at-most) .result ≡ length (m .edges) = (c .before .before .before .before .before .before .before .before .before .before .before .before .before .before .before .before .before .before .before .before .before .at-most) .ensures .1 (omega (arith, sound .few-edges, count)) ∙ count in
-    let placed : Placed m list-places.last.1.1.0 = placed-filled m sound (replicate 128 0) list-places.last.1.1.0 (length-replicate {A = ℕ} 128 0) (list-places.ensures.1 m reads) in
-    let limited = (c .before .before .before .before .before .before .before .before .before .before .before .before .before .before .before .before .before .before .before .before .before .before .before .before .before .list-limits) .ensures m reads refl in
-    let same = (c .before .before .before .before .before .before .before .before .before .before .before .before .before .before .before .before .before .before .before .before .before .before .bounds-of) .ensures m reads placed in
-    sighted m args.entries.now args.n args.x ((c .before .before .before .before .before .before .before .before .before .before .before .before .before .before .before .read-entry) .result) ((c .before .before .list-delays) .result) args.delays.now
-    ((c .before .before .list-delays) .last .1 .1 .1 .1 .1 .1 .1 .0) ((c .before .before .before .before .before .before .before .before .before .list-steps) .last .1 .1 .1 .1 .1 .1 .1 .1 .1 .1 .1 .0)
-    ((c .before .before .before .before .before .before .before .before .before .before .before .before .before .before .before .read-entry) .ensures) ((c .before .before .list-delays) .ensures m limited same)
-    (λ e h. (c .before .before .before .before .before .before .before .before .before .list-steps) .ensures m (reads .answer) limited placed ((c .before .before .before .before .before .before .before .before .before .before .before .before .before .before .before .before .before .before .before .before .before .before .before .before .before .before .before .list-edges) .ensures .1 m reads)
-    (λ j less. edge-fits args.bytes.now m (λ i. omega (arith, (c .before .before .before .before .before .before .before .before .before .before .before .before .before .before .before .before .before .before .before .before .before .before .before .before .before .before .before .before .before .before .before .before .before .before .shared-slice-known) .given i)) (reads .answer) j less) same edges e
+    let edges : at-most .result ≡ length (m .edges) = at-most .ensures .1 (omega (arith, sound .few-edges, count)) ∙ count in
+    let placed : Placed m list-places.last.1.1.0 = placed-filled m sound (replicate 128 0) list-places.last.1.1.0
+    (length-replicate {A = ℕ} 128 0) (list-places.ensures.1 m reads) in
+    let limited = list-limits .ensures m reads refl in
+    let same = bounds-of .ensures m reads placed in
+    sighted m args.entries.now args.n args.x (read-entry .result) (list-delays .result) args.delays.now
+    (list-delays .last .1 .1 .1 .1 .1 .1 .1 .0) (list-steps .last .1 .1 .1 .1 .1 .1 .1 .1 .1 .1 .1 .0)
+    (read-entry .ensures) (list-delays .ensures m limited same)
+    (λ e h. list-steps .ensures m (reads .answer) limited placed (list-edges .ensures .1 m reads)
+    (λ j less. edge-fits args.bytes.now m (λ i. omega (arith, shared-slice-known .given i)) (reads .answer) j less) same
+    edges e
     (omega (arith, h, edges)))
 
 pub see-steps-spec : {M : Type 1} → statement M

@@ -7,14 +7,13 @@ use Rattle.table.specs.Reading.{accepted}
 use Rattle.regions.specs.Entries.{maxEntries}
 use Rattle.regions.specs.Call.{roomFor, fromAnswer}
 use Rattle.states.specs.StateCall.{asked}
-use Rattle.states.specs.Laws.StateCall.{place-refused, place-few, place-regions}
+use Rattle.states.specs.Laws.StateCall.{explored, place-refused, place-few, place-regions}
 use borrow.Author.Needs.{needs}
 use Rattle.states.proofs.states.place_read.Statement.{statement}
 use Rattle.states.proofs.states.place_read.Tie as tie
-use Rattle.states.proofs.states.place_read.Reads as reads
 
-graph-of-requires : tie.Need-graph-of-requires
-graph-of-requires c κs = search needs
+explore-table-requires : tie.Need-explore-table-requires
+explore-table-requires c κs = search needs
 
 enum-known-graph : tie.Need-enum-known-graph
 enum-known-graph c = (c .match) .keys1
@@ -30,10 +29,11 @@ same-length c = search needs
 
 returns : tie.Need-returns
 returns c =
-    let graph-of = c .before .before .before .before .before .graph-of in
+    let explore-table = c .before .before .before .before .before .explore-table in
     let args = c .before .before .before .before .before .before .before .before .before .args in
     let graph = c .before .graph in
-    λ m reads. let done = graph-of.ensures m reads in (
+    λ m reads. let done = explored args.bytes.now args.entries.now explore-table.last.1.0
+    explore-table.result m (roomFor (length args.entries.now)) (reads .answer) explore-table.ensures.0 explore-table.ensures.1 in (
       place-refused m (asked args.location args.v0 args.v1
           args.v2 args.v3 args.d) (fromAnswer (roomFor (length args.entries.now)) (accepted m)) _ _ (sym
           graph.given.1 ∙ done .0),
@@ -45,14 +45,15 @@ same-length-2 c = search needs
 
 returns-2 : tie.Need-returns-2
 returns-2 c =
-    let graph-of = c .before .before .before .before .before .before .before .graph-of in
+    let explore-table = c .before .before .before .before .before .before .before .explore-table in
     let args = c .before .before .before .before .before .before .before .before .before .before .before .args in
     let graph2 = c .before .before .before .graph2 in
-    λ m reads. let done = graph-of.ensures m reads in let cap = roomFor (length args.entries.now) in let room : cap
+    λ m reads. let done = explored args.bytes.now args.entries.now explore-table.last.1.0
+    explore-table.result m (roomFor (length args.entries.now)) (reads .answer) explore-table.ensures.0 explore-table.ensures.1 in let cap = roomFor (length args.entries.now) in let room : cap
     ≤ maxEntries = omega arith in let answer = sym graph2.given.1 ∙ done .0 in let few = place-few args.bytes.now
-    args.entries.now graph-of.last.1.1.0 m cap (reads .answer) room _ answer (done .1) in (
+    args.entries.now explore-table.last.1.0 m cap (reads .answer) room _ answer (done .1) in (
       place-regions
-          args.bytes.now args.entries.now graph-of.last.1.1.0 m cap (reads .answer) room _ answer (done .1) (asked
+          args.bytes.now args.entries.now explore-table.last.1.0 m cap (reads .answer) room _ answer (done .1) (asked
           args.location args.v0 args.v1 args.v2 args.v3 args.d) (c .place-among .result) ((c .place-among)
           .ensures m reads few),
       done .1,
@@ -62,7 +63,7 @@ pub place-read-spec : {M : Type 1} → statement M
 place-read-spec =
     tie.close
     (tie.spec
-    graph-of-requires
+    explore-table-requires
     enum-known-graph
     enum-known-graph-2
     place-among-requires
