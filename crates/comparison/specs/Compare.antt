@@ -6,7 +6,7 @@ use mathlib.Core.List.{List}
 use lib.Dec.{eqb}
 use lib.ListN.{getD}
 use Rattle.bisimulation.specs.Finite.{related, sum, allBelow, someBelow, anyOf, allOf}
-use Rattle.comparison.specs.Held.{mostItems, chain, isSet, actionAt, wholeAt, countAt, targetAt, branchesFrom}
+use Rattle.comparison.specs.Held.{mostItems, chain, isOpen, actionAt, wholeAt, countAt, targetAt, branchesFrom}
 
 -- ---- Delays
 
@@ -52,14 +52,14 @@ edgesAlike list resets spots rows x e y f =
 
 -- Edge f answers at y to edge e at x; some edge does; edge e needs no answer or has one; all edges do.
 unfoldable pub answers : (list flags resets spots rows : List ℕ) → (x e y f : ℕ) → Bool
-answers list flags resets spots rows x e y f = isSet flags y f && edgesAlike list resets spots rows x e y f
+answers list flags resets spots rows x e y f = isOpen flags y f && edgesAlike list resets spots rows x e y f
 
 unfoldable pub someAnswers : (k : ℕ) → (list flags resets spots rows : List ℕ) → (x e y : ℕ) → Bool
 someAnswers k list flags resets spots rows x e y = someBelow k (λ f. answers list flags resets spots rows x e y f)
 
 unfoldable pub edgeAnswered : (k : ℕ) → (list flags resets spots rows : List ℕ) → (x y e : ℕ) → Bool
 edgeAnswered k list flags resets spots rows x y e =
-    cond (isSet flags x e) (someAnswers k list flags resets spots rows x e y) true
+    cond (isOpen flags x e) (someAnswers k list flags resets spots rows x e y) true
 
 unfoldable pub edgesAnswered : (k : ℕ) → (list flags resets spots rows : List ℕ) → (x y : ℕ) → Bool
 edgesAnswered k list flags resets spots rows x y = allBelow k (λ e. edgeAnswered k list flags resets spots rows x y e)

@@ -1,7 +1,7 @@
--- A finite structure in slices, as the code of the rounds goes by it. For each item: its label, and what follows it by delay; for
--- each item and edge, the number after the last available edge up to there. Of each edge, one row: action, denominator, count of branches, and for
--- each branch its weight, its mask and its location. The target of a branch is found in two steps: what the clocks of the item
--- become under the mask, and the item with those clocks at the location.
+-- A finite structure in slices, as the code of this crate and of the rounds goes by it. For each item: its label, and what follows it by
+-- delay; for each item and edge, the number after the last available edge up to there. Of each edge, one row: action, denominator, count
+-- of branches, and for each branch its weight, its mask and its location. The target of a branch is found in two steps: what the clocks
+-- of the item become under the mask, and the item with those clocks at the location.
 use Prim.Native.Nat.{ℕ, zero, suc, _+_, _*_, _-_, _≤_, _<_}
 use mathlib.Core.Path.{_≡_}
 use mathlib.Core.Bool.{Bool, true, cond, _&&_}
@@ -11,7 +11,8 @@ use lib.ListN.{getD}
 use Rattle.bisimulation.specs.Structures.{Branch}
 use Rattle.bisimulation.specs.Finite.{Finite}
 
--- How many numbers each takes: flags of an item, masks of an item, locations of some clocks, the row of an edge.
+-- How many numbers each takes: flags of an item, masks of an item, locations of some clocks, the row of an edge. These four stand in
+-- regions too (Shown), which this crate knows nothing of; partition joins the two (`shown-held` of Laws.Shown).
 abbrev pub flagRoom : ℕ
 flagRoom = 128
 
@@ -44,14 +45,15 @@ Onward n nexts =
 
 -- ---- Available edges: `flags` holds at each edge the number after the last one up to it that is available, and 0 where none is
 
--- The number after the last of the numbers below e that pass, and 0 where none does.
+-- The number after the last of the numbers below e that pass, and 0 where none does. The same as `openBelow` of regions (Shown), and
+-- partition shows that the two agree (`same-open` of Laws.Shown).
 unfoldable pub openBelow : (ℕ → Bool) → ℕ → ℕ
 openBelow p zero = 0
 openBelow p (suc e) = cond (p e) (suc e) (openBelow p e)
 
--- Is edge e available at item x?
-abbrev pub isSet : List ℕ → (x e : ℕ) → Bool
-isSet flags x e = eqb (getD flags (flagRoom * x + e) 0) (suc e)
+-- Is edge e available at item x? It is where the flag holds the number after e itself.
+abbrev pub isOpen : List ℕ → (x e : ℕ) → Bool
+isOpen flags x e = eqb (getD flags (flagRoom * x + e) 0) (suc e)
 
 -- What the flags tell of the edges below e at item x: nothing, which is 0, where the number that stands there is past e. The same for
 -- all numbers: 0 for edge 0 too, and past the items and edges that there may be.
@@ -63,7 +65,7 @@ abbrev pub openEdge : List ℕ → (x e : ℕ) → ℕ
 openEdge flags x e = cond (ltb x mostItems && leb e mostEdges) (cond (eqb e 0) 0 (toldAt flags x e)) 0
 
 abbrev pub Opened : (n k : ℕ) → (flags : List ℕ) → Type 0
-Opened n k flags = (x e : ℕ) → x < n → e < k → getD flags (flagRoom * x + e) 0 ≡ openBelow (isSet flags x) (suc e)
+Opened n k flags = (x e : ℕ) → x < n → e < k → getD flags (flagRoom * x + e) 0 ≡ openBelow (isOpen flags x) (suc e)
 
 -- ---- Edges
 
@@ -114,7 +116,7 @@ pub record Held (F : Finite) (n k : ℕ) (labels nexts flags resets spots rows :
   pub delays : (x : ℕ) → x < n → F .delays x ≡ chain n nexts n x
   pub onward : Onward n nexts
   pub opened : Opened n k flags
-  pub available : (x e : ℕ) → x < n → e < k → F .available x e ≡ isSet flags x e
+  pub available : (x e : ℕ) → x < n → e < k → F .available x e ≡ isOpen flags x e
   pub action : (x e : ℕ) → x < n → e < k → F .action x e ≡ actionAt rows e
   pub whole : (x e : ℕ) → x < n → e < k → F .whole x e ≡ wholeAt rows e
   pub branches : (x e : ℕ) → x < n → e < k → F .available x e ≡ true → F .branches x e ≡ branchesFrom resets spots rows x e 0 (countAt rows e)

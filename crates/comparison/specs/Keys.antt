@@ -10,7 +10,7 @@ use lib.ListN.{getD, set}
 use Rattle.bisimulation.specs.Structures.{Closed}
 use Rattle.bisimulation.specs.Finite.{Finite, structure, related, someBelow, anyOf}
 use Rattle.comparison.specs.Held.{mostItems, chain, actionAt, wholeAt, countAt, targetAt}
-use Rattle.comparison.specs.Held.{Held, isSet}
+use Rattle.comparison.specs.Held.{Held, isOpen}
 use Rattle.comparison.specs.Compare.{Below, weighed, answers}
 
 unfoldable pub sumBelow : (m : ℕ) → (ℕ → ℕ) → ℕ
@@ -86,8 +86,8 @@ codeOf list resets spots rows x e = joined (actionAt rows e) (landed list resets
 -- Edge e is available at x, and no lower one there has its code.
 unfoldable pub isNew : (list flags resets spots rows : List ℕ) → (x e : ℕ) → Bool
 isNew list flags resets spots rows x e =
-    isSet flags x e
-    && not (someBelow e (λ f. isSet flags x f && eqb (codeOf list resets spots rows x f) (codeOf list resets spots rows x e)))
+    isOpen flags x e
+    && not (someBelow e (λ f. isOpen flags x f && eqb (codeOf list resets spots rows x f) (codeOf list resets spots rows x e)))
 
 -- Each code of an edge that is available at x counts once.
 unfoldable pub edgeKey : (k : ℕ) → (list flags resets spots rows : List ℕ) → (x : ℕ) → ℕ
@@ -105,10 +105,17 @@ abbrev pub Known : (n k : ℕ) → (names keys nexts flags resets spots rows : L
 Known n k names keys nexts flags resets spots rows =
     (x : ℕ) → x < n → (getD keys x 0 ≡ 0) ⊎ (getD keys x 0 ≡ keyOf n k names nexts flags resets spots rows x)
 
+-- Asking for the key of x, or for those of x and y, changes no key of another item and none that is known.
+abbrev pub AskedFor : (x : ℕ) → (keys keys′ : List ℕ) → Type 0
+AskedFor x keys keys′ = (z : ℕ) → (getD keys′ z 0 ≡ getD keys z 0) ⊎ ((z ≡ x) × (getD keys z 0 ≡ 0))
+
+abbrev pub BothAsked : (x y : ℕ) → (keys keys′ : List ℕ) → Type 0
+BothAsked x y keys keys′ = (z : ℕ) → (getD keys′ z 0 ≡ getD keys z 0) ⊎ (((z ≡ x) ⊎ (z ≡ y)) × (getD keys z 0 ≡ 0))
+
 -- The codes of the edges below e that are available at x are kept.
 abbrev pub Coded : (e x : ℕ) → (list flags resets spots rows codes : List ℕ) → Type 0
 Coded e x list flags resets spots rows codes =
-    (f : ℕ) → f < e → isSet flags x f ≡ true → getD codes f 0 ≡ codeOf list resets spots rows x f
+    (f : ℕ) → f < e → isOpen flags x f ≡ true → getD codes f 0 ≡ codeOf list resets spots rows x f
 
 -- Edges at y that answer to edge e at x have this code; edges at y that answer to one that is available at x have its code. In a closed
 -- structure this is so (`answers-tell` in Laws/Codes).
@@ -118,7 +125,7 @@ ToldBy k list flags resets spots rows x e y code =
 
 abbrev pub Told : (k : ℕ) → (list flags resets spots rows : List ℕ) → (x y : ℕ) → Type 0
 Told k list flags resets spots rows x y =
-    (e : ℕ) → e < k → isSet flags x e ≡ true → ToldBy k list flags resets spots rows x e y (codeOf list resets spots rows x e)
+    (e : ℕ) → e < k → isOpen flags x e ≡ true → ToldBy k list flags resets spots rows x e y (codeOf list resets spots rows x e)
 
 -- ---- Comparing by keys
 

@@ -1,6 +1,6 @@
 -- Items that are plainly alike: their delays pass through the same blocks in the same order, and their available edges, one by one from
--- the last down, have the same action, denominator and weights and lead to related items. That is enough for the next round to relate them (`nextIn`); it is not
--- needed, and only speed depends on how often it holds.
+-- the last down, have the same action, denominator and weights and lead to related items. That is enough for the next round to relate
+-- them (`nextIn`); it is not needed, and only speed depends on how often it holds.
 use Prim.Native.Nat.{ℕ, _<_}
 use mathlib.Core.Path.{_≡_}
 use mathlib.Core.Bool.{true}
@@ -9,7 +9,8 @@ use Rattle.bisimulation.specs.Finite.{related}
 use Rattle.comparison.specs.Held.{actionAt, wholeAt, countAt, weightAt}
 use Rattle.comparison.specs.Compare.{delaysAnswered, edgesAlike}
 
--- Item z stands in for x, as the last item of a run of equal numbers along a delay from x does: what answers z answers x, and what z answers x answers.
+-- Item z stands in for x, as the last item of a run of equal numbers along a delay from x does: what answers to z answers to x, and what
+-- z answers to x answers to.
 pub record RunTo (n : ℕ) (list nexts : List ℕ) (x z : ℕ) : Type 0 where
   pub inside : z < n
   pub same : related list x z ≡ true

@@ -229,9 +229,11 @@ fn some_answers(
 ) -> bool
     requires { ⌜ (k ≤ mostEdges) × (x < mostItems) × (e < mostEdges) × (y < mostItems) ⌝ }
     ensures { λ r. ⌜ ((n : ℕ) → Opened n k (now (flags .entry)) → y < n
-        → Coded k y (now (list .entry)) (now (flags .entry)) (now (resets .entry)) (now (spots .entry)) (now (rows .entry)) (now (codes .entry))
+        → Coded k y (now (list .entry)) (now (flags .entry)) (now (resets .entry)) (now (spots .entry))
+        (now (rows .entry)) (now (codes .entry))
         → ToldBy k (now (list .entry)) (now (flags .entry)) (now (resets .entry)) (now (spots .entry)) (now (rows .entry)) x e y code
-        → r ≡ someAnswers k (now (list .entry)) (now (flags .entry)) (now (resets .entry)) (now (spots .entry)) (now (rows .entry)) x e y) ⌝ }
+        → r ≡ someAnswers k (now (list .entry)) (now (flags .entry)) (now (resets .entry)) (now (spots .entry))
+        (now (rows .entry)) x e y) ⌝ }
 {
     let mut f = open_below(y, k, flags);
     while 0 < f {
@@ -260,10 +262,13 @@ fn edges_match(
 ) -> bool
     requires { ⌜ (k ≤ mostEdges) × (x < mostItems) × (y < mostItems) ⌝ }
     ensures { λ r. ⌜ ((n : ℕ) → Opened n k (now (flags .entry)) → x < n → y < n
-        → Coded k x (now (list .entry)) (now (flags .entry)) (now (resets .entry)) (now (spots .entry)) (now (rows .entry)) (now (ones .entry))
-        → Coded k y (now (list .entry)) (now (flags .entry)) (now (resets .entry)) (now (spots .entry)) (now (rows .entry)) (now (others .entry))
+        → Coded k x (now (list .entry)) (now (flags .entry)) (now (resets .entry)) (now (spots .entry))
+        (now (rows .entry)) (now (ones .entry))
+        → Coded k y (now (list .entry)) (now (flags .entry)) (now (resets .entry)) (now (spots .entry))
+        (now (rows .entry)) (now (others .entry))
         → Told k (now (list .entry)) (now (flags .entry)) (now (resets .entry)) (now (spots .entry)) (now (rows .entry)) x y
-        → r ≡ edgesAnswered k (now (list .entry)) (now (flags .entry)) (now (resets .entry)) (now (spots .entry)) (now (rows .entry)) x y) ⌝ }
+        → r ≡ edgesAnswered k (now (list .entry)) (now (flags .entry)) (now (resets .entry)) (now (spots .entry))
+        (now (rows .entry)) x y) ⌝ }
 {
     let mut e = open_below(x, k, flags);
     while 0 < e {

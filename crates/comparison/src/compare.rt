@@ -1,11 +1,12 @@
-// Comparing two items under a block list: the parts of the two conditions of document 01, over the graph in slices.
+// Comparing two items under a block list: the parts of the two conditions of document 01, over a structure in slices.
 ghost use Prim.Native.Nat.{ℕ, _<_, _≤_};
 ghost use mathlib.Core.Path.{_≡_};
-ghost use mathlib.Core.Bool.{true, cond};
+ghost use mathlib.Core.Bool.{true, false, cond};
 ghost use lib.ListN.{length, getD, set};
 ghost use Rattle.bisimulation.specs.Finite.{related};
 ghost use Rattle.comparison.specs.Held.{mostItems, mostEdges, weightAt, targetAt, isInside, targetOf};
-ghost use Rattle.comparison.specs.Compare.{Below, reachesNumber, allMarked, delaysAnswered, weighed, balanced, balancedOver, edgesAlike};
+ghost use Rattle.comparison.specs.Compare.{Below, reachesNumber, allMarked, delaysAnswered};
+ghost use Rattle.comparison.specs.Compare.{weighed, balanced, balancedOver, edgesAlike};
 use crate::slices::at16;
 use crate::slices::at64;
 use crate::slices::index_at;
@@ -129,7 +130,8 @@ fn weigh_one(
     rows: &[u16],
 ) -> u64
     requires { ⌜ (x < mostItems) × (e < mostEdges) × (i < 65536) ⌝ }
-    ensures { λ r. ⌜ (r ≡ cond (related (now (list .entry)) (targetAt (now (resets .entry)) (now (spots .entry)) (now (rows .entry)) x e i) c)
+    ensures { λ r. ⌜ (r ≡ cond (related (now (list .entry))
+        (targetAt (now (resets .entry)) (now (spots .entry)) (now (rows .entry)) x e i) c)
         (weightAt (now (rows .entry)) e i) 0) × (r < 65536) ⌝ }
 {
     let target = target_at(x, e, i, resets, spots, rows);
@@ -238,6 +240,7 @@ pub(crate) fn edges_alike(
 pub(crate) fn are_items(n: usize, k: usize, x: usize, y: usize) -> bool
     ensures { λ r. ⌜ (r ≡ true → (k ≤ mostEdges) × (x < mostItems) × (y < mostItems)) ⌝ }
     ensures { λ r. ⌜ (n ≤ mostItems → k ≤ mostEdges → x < n → y < n → r ≡ true) ⌝ }
+    ensures { λ r. ⌜ (n ≤ x → r ≡ false) × (n ≤ y → r ≡ false) ⌝ }
 {
     if 4096 < n {
         return false;

@@ -9,7 +9,7 @@ ghost use lib.ListN.{length, getD, set};
 ghost use Rattle.bisimulation.specs.Finite.{someBelow};
 ghost use Rattle.comparison.specs.Held.{mostItems, mostEdges, Opened};
 ghost use Rattle.comparison.specs.Keys.{scatter, delayRoom, delayMark, delayKey, edgeKey, keyOf, Known, Coded};
-ghost use Rattle.comparison.specs.Keys.{Forgotten, keysAfter};
+ghost use Rattle.comparison.specs.Keys.{AskedFor, Forgotten, keysAfter};
 ghost use Rattle.comparison.specs.Laws.KeyLoops.{Clear, hasCode};
 use crate::codes::list_codes;
 use crate::codes::scatter_of;
@@ -186,12 +186,13 @@ pub(crate) fn known_key(
     requires { ⌜ (k ≤ mostEdges) × (x < mostItems) ⌝ }
     ensures { λ _. ⌜ length (now (keys .exit)) ≡ length (now (keys .entry)) ⌝ }
     ensures { λ r. ⌜ (Opened n k (now (flags .entry)) → x < n
-        → Known n k (now (names .entry)) (now (keys .entry)) (now (nexts .entry)) (now (flags .entry)) (now (resets .entry)) (now (spots .entry))
-        (now (rows .entry))
+        → Known n k (now (names .entry)) (now (keys .entry)) (now (nexts .entry)) (now (flags .entry))
+        (now (resets .entry)) (now (spots .entry)) (now (rows .entry))
         → (r ≡ keyOf n k (now (names .entry)) (now (nexts .entry)) (now (flags .entry)) (now (resets .entry)) (now (spots .entry))
         (now (rows .entry)) x)
-        × Known n k (now (names .entry)) (now (keys .exit)) (now (nexts .entry)) (now (flags .entry)) (now (resets .entry)) (now (spots .entry))
-        (now (rows .entry))) ⌝ }
+        × Known n k (now (names .entry)) (now (keys .exit)) (now (nexts .entry)) (now (flags .entry))
+        (now (resets .entry)) (now (spots .entry)) (now (rows .entry))) ⌝ }
+    ensures { λ _. ⌜ AskedFor x (now (keys .entry)) (now (keys .exit)) ⌝ }
 {
     let old = at64(keys, x);
     if old != 0 {

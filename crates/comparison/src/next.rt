@@ -1,13 +1,13 @@
 // The test of the next round: the two conditions of document 01 both ways, under a block list of this round.
-ghost use Prim.Native.Nat.{ℕ, _<_};
+ghost use Prim.Native.Nat.{ℕ, _<_, _≤_};
 ghost use mathlib.Core.Path.{_≡_};
-ghost use mathlib.Core.Bool.{true, _&&_};
+ghost use mathlib.Core.Bool.{true, false, _&&_};
 ghost use lib.ListN.{length};
 ghost use Rattle.bisimulation.specs.Structures.{Closed};
 ghost use Rattle.bisimulation.specs.Finite.{Finite, structure, related, next};
 ghost use Rattle.comparison.specs.Held.{Held, Onward};
 ghost use Rattle.comparison.specs.Compare.{Below, delaysAnswered};
-ghost use Rattle.comparison.specs.Keys.{Keyed};
+ghost use Rattle.comparison.specs.Keys.{Keyed, BothAsked};
 use crate::codes::edges_agree;
 use crate::compare::are_items;
 use crate::compare::delays_match;
@@ -21,7 +21,8 @@ use crate::twins::runs_alike;
 fn delays_agree(n: usize, x: usize, y: usize, list: &[u64], nexts: &[u16]) -> bool
     ensures { λ r. ⌜ (Below n (now (list .entry)) → Onward n (now (nexts .entry)) → x < n → y < n
         → related (now (list .entry)) x y ≡ true
-        → r ≡ (delaysAnswered n (now (list .entry)) (now (nexts .entry)) x y && delaysAnswered n (now (list .entry)) (now (nexts .entry)) y x)) ⌝ }
+        → r ≡ (delaysAnswered n (now (list .entry)) (now (nexts .entry)) x y
+        && delaysAnswered n (now (list .entry)) (now (nexts .entry)) y x)) ⌝ }
 {
     if runs_alike(n, x, y, list, nexts) {
         return true;
@@ -32,8 +33,8 @@ fn delays_agree(n: usize, x: usize, y: usize, list: &[u64], nexts: &[u16]) -> bo
     delays_match(n, y, x, list, nexts)
 }
 
-// Is item y related to item x in the next round? The list says how items are related in this one. Where the slices hold no closed
-// structure the answer is a choice of the code.
+// Is item y related to item x in the next round? The list says how items are related in this one. Numbers that are not below n are
+// never related. For others, where the slices hold no closed structure, the answer is a choice of the code.
 pub fn is_next(
     n: usize,
     k: usize,
@@ -50,6 +51,7 @@ pub fn is_next(
     ensures { λ r. ⌜ ((F : Finite) → Held F n k (now (labels .entry)) (now (nexts .entry)) (now (flags .entry)) (now (resets .entry))
         (now (spots .entry)) (now (rows .entry)) → Closed (structure F) → Below n (now (list .entry))
         → x < n → y < n → r ≡ next F (now (list .entry)) x y) ⌝ }
+    ensures { λ r. ⌜ (n ≤ x → r ≡ false) × (n ≤ y → r ≡ false) ⌝ }
 {
     if !are_items(n, k, x, y) {
         return false;
@@ -64,7 +66,8 @@ pub fn is_next(
 }
 
 // Is item y related to item x in the next round? Where the key of y is not known, the two may be plainly alike; else different keys say
-// that it is not. Which keys become known, and the answer where nothing is held, are choices of the code.
+// that it is not. Only the keys of x and y may become known, and a key that is known stays. Which of the two become known, and both the
+// key and the answer where nothing is held, are choices of the code.
 pub fn is_keyed_next(
     n: usize,
     k: usize,
@@ -85,6 +88,7 @@ pub fn is_keyed_next(
         → x < n → y < n → (r ≡ next F (now (names .entry)) x y)
         × Keyed F n k (now (names .entry)) (now (keys .exit)) (now (labels .entry)) (now (nexts .entry))
         (now (flags .entry)) (now (resets .entry)) (now (spots .entry)) (now (rows .entry))) ⌝ }
+    ensures { λ _. ⌜ BothAsked x y (now (keys .entry)) (now (keys .exit)) ⌝ }
 {
     if !are_items(n, k, x, y) {
         return false;

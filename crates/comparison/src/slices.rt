@@ -3,7 +3,7 @@ ghost use Prim.Native.Nat.{ℕ, _<_, _≤_};
 ghost use mathlib.Core.Path.{_≡_};
 ghost use lib.ListN.{getD};
 ghost use lib.Dec.{eqb};
-ghost use Rattle.comparison.specs.Held.{mostItems, mostEdges, openBelow, isSet, Opened, toldAt, openEdge};
+ghost use Rattle.comparison.specs.Held.{mostItems, mostEdges, openBelow, isOpen, Opened, toldAt, openEdge};
 
 // A number of two bytes.
 pub fn at16(list: &[u16], i: usize) -> usize
@@ -87,7 +87,7 @@ pub(crate) fn open_below(x: usize, e: usize, flags: &[u8]) -> usize
     requires { ⌜ (x < mostItems) × (e ≤ mostEdges) ⌝ }
     ensures { λ r. ⌜ r ≤ e ⌝ }
     ensures { λ r. ⌜ ((n k : ℕ) → Opened n k (now (flags .entry)) → x < n → e ≤ k
-        → r ≡ openBelow (isSet (now (flags .entry)) x) e) ⌝ }
+        → r ≡ openBelow (isOpen (now (flags .entry)) x) e) ⌝ }
 {
     if e == 0 {
         return 0;
@@ -95,7 +95,8 @@ pub(crate) fn open_below(x: usize, e: usize, flags: &[u8]) -> usize
     told_at(x, e, flags)
 }
 
-// The same for all numbers: 0 past the items and edges that there may be.
+// The same for all numbers and all flags (`openEdge`): 0 past the items and edges that there may be, and where the number that stands
+// there is past e.
 pub fn open_edge(x: usize, e: usize, flags: &[u8]) -> usize
     ensures { λ r. ⌜ r ≡ openEdge (now (flags .entry)) x e ⌝ }
 {

@@ -93,7 +93,8 @@ pub record Gives (text buffer : List ℕ) (answer : Part) (buffer′ : List ℕ)
   pub enough : length text ≤ mostBytes
 
 -- What the part call promises: its answer, what the buffer then holds, and how long a buffer is enough.
-pub record Parted (table entries list : List ℕ) (regions blocks rounds part : ℕ) (buffer : List ℕ) (answer : Part) (buffer′ : List ℕ) : Type 0 where
+pub record Parted (table entries list : List ℕ) (regions blocks rounds part : ℕ)
+    (buffer : List ℕ) (answer : Part) (buffer′ : List ℕ) : Type 0 where
   pub answer-is : answer ≡ partOf table entries list regions blocks rounds part (length buffer)
   pub buffer-is : buffer′ ≡ bufferAfter (textOf table entries list regions blocks rounds part) buffer
   pub enough : length (textOf table entries list regions blocks rounds part) ≤ mostBytes

@@ -33,7 +33,8 @@ fn wide(x: u16) -> usize
 
 // The lowest region of a block.
 pub(crate) fn lowest_of(list: &[u64], b: u64) -> usize
-    ensures { λ r. ⌜ (r ≡ lowestOf (now (list .entry)) b) × (r ≤ length (now (list .entry))) × (0 < length (now (list .entry)) → r < length (now (list .entry))) ⌝ }
+    ensures { λ r. ⌜ (r ≡ lowestOf (now (list .entry)) b) × (r ≤ length (now (list .entry)))
+        × (0 < length (now (list .entry)) → r < length (now (list .entry))) ⌝ }
 {
     let mut x = 0;
     while x < list.len() {

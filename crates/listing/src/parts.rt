@@ -6,7 +6,8 @@ ghost use lib.ListN.{length, getD, take, drop};
 ghost use Rattle.partition.specs.Passed.{Model, readTable, accepted, entryBytes, maxEntries, listed};
 ghost use Rattle.partition.specs.Instances.{graph};
 ghost use Rattle.listing.specs.Text.{upTo};
-ghost use Rattle.listing.specs.Printed.{firstLine, regionLine, blockLine, delayLineOf, otherBlocks, refusalLine, regionRecord, blockRecord, blockLines, sizeBelow};
+ghost use Rattle.listing.specs.Printed.{firstLine, regionLine, blockLine, delayLineOf, otherBlocks, refusalLine};
+ghost use Rattle.listing.specs.Printed.{regionRecord, blockRecord, blockLines, sizeBelow};
 ghost use Rattle.listing.specs.Slices.{stepTextAt};
 ghost use Rattle.listing.specs.Parts.{linePart, partText, isBorne, fitted, bufferAfter, Gives, Parted};
 use crate::blocks::block_at;
@@ -120,7 +121,8 @@ fn block_text(
 ) -> Part
     requires { ⌜ (blocks ≤ maxEntries) × (b < blocks) × (edges ≤ 128) ⌝ }
     requires { ⌜ ((e : ℕ) → e < edges → getD (now rows) (32 * e) 0 ≡ 1 → getD (now rows) (32 * e + 3) 0 ≤ 8) ⌝ }
-    ensures { λ r. ⌜ Gives (blockLine (record { number = b; label = label; size = sizeBelow (now (list .entry)) b (length (now (list .entry))); delays = []; steps = [] })
+    ensures { λ r. ⌜ Gives (blockLine
+        (record { number = b; label = label; size = sizeBelow (now (list .entry)) b (length (now (list .entry))); delays = []; steps = [] })
         ++ (delayLineOf b (otherBlocks (now (list .entry)) blocks b (now (regions .entry)))
         ++ upTo (stepTextAt (now (list .entry)) (now (rows .entry)) blocks b) edges))
         (now (buffer .entry)) r (now (buffer .exit)) ⌝ }
@@ -141,9 +143,11 @@ fn block_part(
     b: u64,
     buffer: &mut [u8],
 ) -> Part
-    requires { ⌜ (b < blocks) × (blocks ≤ length (now list)) × (length (now list) ≤ maxEntries) × (entryBytes * length (now list) ≤ length (now entries)) ⌝ }
+    requires { ⌜ (b < blocks) × (blocks ≤ length (now list)) × (length (now list) ≤ maxEntries)
+        × (entryBytes * length (now list) ≤ length (now entries)) ⌝ }
     ensures { λ r. ⌜ ((m : Model) → readTable (now (bytes .entry)) ≡ accepted m
-        → Gives (blockLines (blockRecord (graph m (listed (now (entries .entry)) (length (now (list .entry))))) (now (list .entry)) blocks b))
+        → Gives (blockLines (blockRecord (graph m (listed (now (entries .entry)) (length (now (list .entry)))))
+        (now (list .entry)) blocks b))
         (now (buffer .entry)) r (now (buffer .exit))) ⌝ }
 {
     let low = lowest_of(list, b);
@@ -183,7 +187,8 @@ fn line_part(
     x: u64,
     buffer: &mut [u8],
 ) -> Part
-    requires { ⌜ (clocks ≤ 4) × (blocks ≤ length (now list)) × (length (now list) ≤ maxEntries) × (entryBytes * length (now list) ≤ length (now entries)) ⌝ }
+    requires { ⌜ (clocks ≤ 4) × (blocks ≤ length (now list)) × (length (now list) ≤ maxEntries)
+        × (entryBytes * length (now list) ≤ length (now entries)) ⌝ }
     ensures { λ r. ⌜ ((m : Model) → readTable (now (bytes .entry)) ≡ accepted m → clocks ≡ m .clocks
         → Gives (linePart m (listed (now (entries .entry)) (length (now (list .entry)))) (now (list .entry)) blocks x)
         (now (buffer .entry)) r (now (buffer .exit))) ⌝ }
@@ -210,7 +215,8 @@ fn part_of(
     part: u64,
     buffer: &mut [u8],
 ) -> Part
-    requires { ⌜ (clocks ≤ 4) × (blocks ≤ length (now list)) × (length (now list) ≤ maxEntries) × (entryBytes * length (now list) ≤ length (now entries)) ⌝ }
+    requires { ⌜ (clocks ≤ 4) × (blocks ≤ length (now list)) × (length (now list) ≤ maxEntries)
+        × (entryBytes * length (now list) ≤ length (now entries)) ⌝ }
     ensures { λ r. ⌜ ((m : Model) → readTable (now (bytes .entry)) ≡ accepted m → clocks ≡ m .clocks
         → Gives (partText m (listed (now (entries .entry)) (length (now (list .entry)))) (now (list .entry)) blocks rounds part)
         (now (buffer .entry)) r (now (buffer .exit))) ⌝ }
@@ -255,7 +261,8 @@ fn part_read(
 ) -> Part
     requires { ⌜ clocks ≤ 4 ⌝ }
     ensures { λ r. ⌜ ((m : Model) → readTable (now (bytes .entry)) ≡ accepted m → clocks ≡ m .clocks
-        → Parted (now (bytes .entry)) (now (entries .entry)) (now (list .entry)) regions blocks rounds part (now (buffer .entry)) r (now (buffer .exit))) ⌝ }
+        → Parted (now (bytes .entry)) (now (entries .entry)) (now (list .entry)) regions blocks rounds part
+        (now (buffer .entry)) r (now (buffer .exit))) ⌝ }
 {
     if !is_borne(regions, blocks, entries.len(), list.len()) {
         return Part::End;

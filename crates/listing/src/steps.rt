@@ -3,7 +3,8 @@ ghost use Prim.Native.Nat.{ℕ, _+_, _*_, _≤_, _<_};
 ghost use mathlib.Core.Path.{_≡_};
 ghost use lib.ListN.{length, getD};
 ghost use Rattle.listing.specs.Text.{each, field, upTo};
-ghost use Rattle.listing.specs.Printed.{otherBlocks, delayLineOf, tenThousandths, weightInto, shareField, sharesOf, targetsOf, stepLine};
+ghost use Rattle.listing.specs.Printed.{otherBlocks, delayLineOf, tenThousandths, weightInto};
+ghost use Rattle.listing.specs.Printed.{shareField, sharesOf, targetsOf, stepLine};
 ghost use Rattle.listing.specs.Slices.{branchesFrom, stepAt, stepTextAt};
 ghost use Rattle.listing.specs.Writing.{Adds};
 use crate::blocks::block_at;
@@ -31,7 +32,8 @@ fn put_others(
     text: &mut [u8],
 ) -> usize
     requires { ⌜ own < count ⌝ }
-    ensures { λ r. ⌜ Adds (now (text .entry)) at (now (text .exit)) r (each field (otherBlocks (now (list .entry)) count own (now (regions .entry)))) ⌝ }
+    ensures { λ r. ⌜ Adds (now (text .entry)) at (now (text .exit)) r
+        (each field (otherBlocks (now (list .entry)) count own (now (regions .entry)))) ⌝ }
 {
     let mut now = at;
     let mut c = next_other(list, regions, own, 0, count);
@@ -127,7 +129,8 @@ fn put_shares(
     requires { ⌜ (from < 65536) × (length (now targets) < 65536) × (denominator < 65536) ⌝ }
     requires { ⌜ now targets ≡ targetsOf (branchesFrom (now rows) from (length (now targets))) ⌝ }
     ensures { λ r. ⌜ Adds (now (text .entry)) at (now (text .exit)) r
-        (each shareField (sharesOf (now (list .entry)) count denominator (branchesFrom (now (rows .entry)) from (length (now (targets .entry)))))) ⌝ }
+        (each shareField (sharesOf (now (list .entry)) count denominator
+        (branchesFrom (now (rows .entry)) from (length (now (targets .entry)))))) ⌝ }
 {
     let k = targets.len();
     let mut now = at;

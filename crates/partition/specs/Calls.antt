@@ -38,6 +38,7 @@ blocksOf first second m found =
     cond (isShort (length found) first second) (B.Refused 16 0)
     (B.Blocks (length found) (blockCount (graph m found) (rounds (graph m found))) (rounds (graph m found)))
 
+-- The partition call's answer: "N, the count of blocks and the count of rounds", or a refusal.
 unfoldable pub reduceOf : (table : List ℕ) (cap : ℕ) (first second : List ℕ) → Reduction
 reduceOf table cap first second = afterGraph B.Refused (blocksOf first second) cap (readTable table)
 
@@ -62,6 +63,7 @@ sharedOf first second r s m found =
     cond (isShort (length found) first second) (P.Refused 16 0)
     (cond (isAskedPast (length found) r s) (P.Refused 19 0) (P.Shared (related (lastBlocks (graph m found)) r s)))
 
+-- The pair call's answer: "whether the two regions share a block", or a refusal.
 unfoldable pub pairOf : (table : List ℕ) (cap : ℕ) (first second : List ℕ) (r s : ℕ) → Pairing
 pairOf table cap first second r s = afterGraph P.Refused (sharedOf first second r s) cap (readTable table)
 
@@ -79,5 +81,6 @@ judgedOf proposal m found =
     cond (not (eqb (length proposal) (length found))) (J.Refused 17 0)
     (cond (accepts (graph m found) proposal) J.Accepted (J.Refused 18 0))
 
+-- The judging call's answer: "acceptance", or a refusal.
 unfoldable pub judgeOf : (table : List ℕ) (cap : ℕ) (proposal : List ℕ) → Judgement
 judgeOf table cap proposal = afterGraph J.Refused (judgedOf proposal) cap (readTable table)

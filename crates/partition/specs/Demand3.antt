@@ -1,8 +1,8 @@
 -- Demand 3, over the definitions: "Let a and b be any two states of any accepted model, their clock values any fractions,
 -- both lying in regions of its graph." The block numbers of the two regions "differ exactly when no probabilistic
 -- time-abstracting bisimulation over all states of the model relates a and b". What a reader needs to know stands in
---   States (of regions)               states with fractions as clock values, and how they move
---   Graph, Placing (of regions)       regions, what they lead to, what is reached; the region of a state
+--   States, Placing (of states)       states with fractions as clock values, and how they move; the region of a state
+--   Graph (of regions)                regions, what they lead to, what is reached
 --   Call (of regions)                 `outcomeOf`: what the graph call comes to
 --   Bisimulations (of bisimulation)   bisimulations over any structure, and the rounds
 --   Finite (of bisimulation)          `lastBlocks`: the block numbers of the last round; `accepts`: judging a proposal

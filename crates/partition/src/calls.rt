@@ -80,8 +80,10 @@ fn reduce_shown(
         → Held (graph m found) n k (now (labels .entry)) (now (nexts .entry)) (now (flags .entry)) (now (resets .entry))
         (now (spots .entry)) (now (rows .entry)) → Closed (structure (graph m found))
         → (r ≡ blocksOf (now (first .entry)) (now (second .entry)) m found)
-        × (now (first .exit) ≡ cond (isShort (length found) (now (first .entry)) (now (second .entry))) (now (first .entry)) (numberedIn (now (first .entry)) m found))
-        × (now (second .exit) ≡ cond (isShort (length found) (now (first .entry)) (now (second .entry))) (now (second .entry)) (numberedIn (now (second .entry)) m found))) ⌝ }
+        × (now (first .exit) ≡ cond (isShort (length found) (now (first .entry)) (now (second .entry)))
+        (now (first .entry)) (numberedIn (now (first .entry)) m found))
+        × (now (second .exit) ≡ cond (isShort (length found) (now (first .entry)) (now (second .entry)))
+        (now (second .entry)) (numberedIn (now (second .entry)) m found))) ⌝ }
 {
     if is_short(n, first.len(), second.len()) {
         return Reduction::Refused {

@@ -6,11 +6,11 @@ use mathlib.Core.Bool.{Bool, true}
 use mathlib.Core.List.{List, List·Memᴰ}
 use lib.ListN.{getD}
 use Rattle.comparison.specs.Held.{maskRoom, mostItems, chain, countAt, maskAt, targetAt}
-use Rattle.comparison.specs.Held.{isSet}
+use Rattle.comparison.specs.Held.{isOpen}
 
 pub record Calm (n k : ℕ) (changed nexts flags resets spots rows : List ℕ) (x : ℕ) : Type 0 where
   pub delays : (u : ℕ) → List·Memᴰ u (chain n nexts n x) → getD changed u 0 ≡ 0
-  pub lands : (e i : ℕ) → e < k → isSet flags x e ≡ true → i < countAt rows e
+  pub lands : (e i : ℕ) → e < k → isOpen flags x e ≡ true → i < countAt rows e
       → getD changed (targetAt resets spots rows x e i) 0 ≡ 0
 
 -- Items that are not marked as stirred are calm.
@@ -39,7 +39,7 @@ abbrev pub EdgeClassed : (n : ℕ) → (resets spots rows : List ℕ) → (x e :
 EdgeClassed n resets spots rows x e = (i : ℕ) → i < countAt rows e → BranchClassed n resets spots rows x e i
 
 abbrev pub ItemClassed : (n k : ℕ) → (flags resets spots rows : List ℕ) → (x : ℕ) → Type 0
-ItemClassed n k flags resets spots rows x = (e : ℕ) → e < k → isSet flags x e ≡ true → EdgeClassed n resets spots rows x e
+ItemClassed n k flags resets spots rows x = (e : ℕ) → e < k → isOpen flags x e ≡ true → EdgeClassed n resets spots rows x e
 
 abbrev pub Classed : (n k : ℕ) → (flags resets spots rows : List ℕ) → Type 0
 Classed n k flags resets spots rows = (x : ℕ) → x < n → ItemClassed n k flags resets spots rows x

@@ -85,10 +85,14 @@ pub record Sorted (d : ℕ → ℕ → Bool) (n : ℕ) (marks mid : List ℕ) : 
   pub step : Step d n mid
   pub joins : (x : ℕ) → x < n → getD marks x 0 % 2 ≡ 1 → lead d x ≡ getD mid x 0
 
--- An item may get its lead from a kin, an earlier item of its block. All links lead to items below i: link z + 1 is item z, and 0 is
--- none.
+-- An item may get its lead, or its mark, from a kin, an earlier item of its block. All links lead to items below i: link z + 1 is item
+-- z, and 0 is none.
 abbrev pub Kins : (i : ℕ) → (kins : List ℕ) → Type 0
 Kins i kins = (b z : ℕ) → getD kins b 0 ≡ suc z → z < i
+
+-- Item x has a kin at a link: an earlier item that is related to it in the next round. Link 0 says nothing.
+abbrev pub KinOf : (d : ℕ → ℕ → Bool) → (x link : ℕ) → Type 0
+KinOf d x link = (z : ℕ) → link ≡ suc z → (z < x) × (d z x ≡ true)
 
 -- A lead that was found in this way, or x itself, which says nothing.
 abbrev pub LedByKin : (d : ℕ → ℕ → Bool) → (x l : ℕ) → Type 0

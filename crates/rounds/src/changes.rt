@@ -1,6 +1,6 @@
-// What a change of names reaches: the regions that must be compared again. Each region that leads to one
-// whose name changed is stirred, and some others are. Along delays this is found from the last region of each chain back; along edges by clocks: a branch leads to a
-// region with the clocks that the region's own become under the branch's mask, so the clocks of changed regions are marked.
+// What a change of names reaches: the items that must be compared again. Each item that leads to one whose name changed is stirred, and
+// some others are. Along delays this is found from the last item of each chain back. Along edges it is found by clocks: a branch leads to
+// an item with the clocks that the item's own become under the branch's mask, so the clocks of changed items are marked.
 ghost use Prim.Native.Nat.{ℕ, suc, _+_, _<_, _≤_};
 ghost use mathlib.Core.Path.{_≡_};
 ghost use mathlib.Core.Bool.{true, false};
@@ -19,7 +19,7 @@ use comparison::target_of;
 
 // ---- An order in which what follows by delay comes first. Only speed depends on it: what is found by it is verified.
 
-// Is region x not placed yet, and what follows it placed, if anything follows?
+// Is item x not placed yet, and what follows it placed, if anything follows?
 fn is_ready(n: usize, x: usize, nexts: &[u16], placed: &[u8]) -> bool {
     if is_set(placed, x) {
         return false;
@@ -31,7 +31,7 @@ fn is_ready(n: usize, x: usize, nexts: &[u16], placed: &[u8]) -> bool {
     is_set(placed, next)
 }
 
-// Region x is placed where it is ready. The answer is the count of those placed.
+// Item x is placed where it is ready. The answer is the count of those placed.
 fn place_one(
     n: usize,
     x: usize,
@@ -52,7 +52,7 @@ fn place_one(
     count + 1
 }
 
-// A pass over all regions, from the last one down.
+// A pass over all items, from the last one down.
 fn place_ready(n: usize, start: usize, nexts: &[u16], placed: &mut [u8], order: &mut [u16]) -> usize
     requires { ⌜ (n ≤ mostItems) × (start ≤ mostItems) ⌝ }
     ensures { λ _. ⌜ (length (now (placed .exit)) ≡ length (now (placed .entry)))
@@ -83,7 +83,7 @@ fn place_all(n: usize, nexts: &[u16], placed: &mut [u8], order: &mut [u16])
     }
 }
 
-// Regions that are on no chain which ends are left out.
+// Items that are on no chain which ends are left out.
 pub(crate) fn list_order(n: usize, nexts: &[u16], order: &mut [u16])
     requires { ⌜ n ≤ mostItems ⌝ }
     ensures { λ _. ⌜ length (now (order .exit)) ≡ length (now (order .entry)) ⌝ }
@@ -92,9 +92,9 @@ pub(crate) fn list_order(n: usize, nexts: &[u16], order: &mut [u16])
     place_all(n, nexts, &mut placed, order);
 }
 
-// ---- Still regions: neither they nor what follows them by delay has changed
+// ---- Still items: neither they nor what follows them by delay has changed
 
-// The flag of region x, by that of what follows it.
+// The flag of item x, by that of what follows it.
 fn still_flag(n: usize, x: usize, changed: &[u8], nexts: &[u16], still: &[u8]) -> u8 {
     if !is_clear(changed, x) {
         return 0;
@@ -121,7 +121,7 @@ fn mark_still(n: usize, changed: &[u8], nexts: &[u16], order: &[u16], still: &mu
     }
 }
 
-// Is region x not marked as still, or neither it changed nor what follows it unmarked?
+// Is item x not marked as still, or neither it changed nor what follows it unmarked?
 fn is_still_at(n: usize, x: usize, changed: &[u8], nexts: &[u16], still: &[u8]) -> bool
     ensures { λ r. ⌜ (r ≡ true → StillAt n (now (changed .entry)) (now (nexts .entry)) (now (still .entry)) x) ⌝ }
 {
@@ -213,7 +213,8 @@ fn is_item_classed(
     rows: &[u16],
 ) -> bool
     requires { ⌜ (n ≤ mostItems) × (k ≤ mostEdges) × (x < mostItems) ⌝ }
-    ensures { λ r. ⌜ (r ≡ true → Opened n k (now (flags .entry)) → x < n → ItemClassed n k (now (flags .entry)) (now (resets .entry)) (now (spots .entry)) (now (rows .entry)) x) ⌝ }
+    ensures { λ r. ⌜ (r ≡ true → Opened n k (now (flags .entry)) → x < n
+        → ItemClassed n k (now (flags .entry)) (now (resets .entry)) (now (spots .entry)) (now (rows .entry)) x) ⌝ }
 {
     let mut e = open_edge(x, k, flags);
     while 0 < e {
@@ -234,7 +235,8 @@ pub(crate) fn is_classed(
     rows: &[u16],
 ) -> bool
     requires { ⌜ (n ≤ mostItems) × (k ≤ mostEdges) ⌝ }
-    ensures { λ r. ⌜ (r ≡ true → Opened n k (now (flags .entry)) → Classed n k (now (flags .entry)) (now (resets .entry)) (now (spots .entry)) (now (rows .entry))) ⌝ }
+    ensures { λ r. ⌜ (r ≡ true → Opened n k (now (flags .entry))
+        → Classed n k (now (flags .entry)) (now (resets .entry)) (now (spots .entry)) (now (rows .entry))) ⌝ }
 {
     let mut x = 0;
     while x < n {
@@ -246,7 +248,7 @@ pub(crate) fn is_classed(
     true
 }
 
-// ---- Marks: the clocks of regions that changed, and the masks in use
+// ---- Marks: the clocks of items that changed, and the masks in use
 
 fn mark_class(x: usize, changed: &[u8], resets: &[u16], marks: &mut [u8])
     requires { ⌜ (x < mostItems) × (length (now marks) ≡ mostItems) ⌝ }
@@ -295,7 +297,7 @@ fn mark_masks(k: usize, rows: &[u16], used: &mut [u8])
     }
 }
 
-// ---- Stirred regions
+// ---- Stirred items
 
 // Are clocks marked that those of x become under this mask, where it is in use?
 fn is_touched_by(x: usize, mask: usize, used: &[u8], resets: &[u16], marks: &[u8]) -> bool
@@ -323,7 +325,7 @@ fn is_touched(x: usize, used: &[u8], resets: &[u16], marks: &[u8]) -> bool
     false
 }
 
-// 0 where region x is still and untouched, and else 1.
+// 0 where item x is still and untouched, and else 1.
 fn stirred_flag(x: usize, used: &[u8], resets: &[u16], still: &[u8], marks: &[u8]) -> u8
     requires { ⌜ x < mostItems ⌝ }
     ensures { λ r. ⌜ (r ≡ 0 → (getD (now (still .entry)) x 0 ≡ 1)
@@ -391,8 +393,8 @@ fn stir_all(n: usize, stirred: &mut [u8])
     }
 }
 
-// Marks the regions that are stirred: all of them where targets are not as their clocks say, or where the marks of still regions fail
-// their test. A region that the order leaves out is stirred.
+// Marks the items that are stirred: all of them where targets are not as their clocks say, or where the marks of still items fail
+// their test. An item that the order leaves out is stirred.
 pub(crate) fn stir(
     n: usize,
     k: usize,

@@ -1,7 +1,7 @@
-// Judging a proposal: each region against the first one with its number.
+// Judging a proposal: each item against the first one with its number.
 ghost use Prim.Native.Nat.{_+_, _<_, _≤_};
 ghost use mathlib.Core.Path.{_≡_};
-ghost use mathlib.Core.Bool.{true};
+ghost use mathlib.Core.Bool.{true, false};
 ghost use lib.ListN.{length};
 ghost use Rattle.bisimulation.specs.Structures.{Closed};
 ghost use Rattle.bisimulation.specs.Finite.{Finite, structure, related, lead, accepts};
@@ -18,7 +18,7 @@ use comparison::index_at;
 use comparison::is_next;
 use comparison::is_twin;
 
-// ---- Each region's lead in the proposal: the first region with its number. First regions are found by an index over numbers.
+// ---- Each item's lead in the proposal: the first item with its number. First items are found by an index over numbers.
 
 fn bucket_at(x: usize, proposal: &[u64]) -> usize
     ensures { λ r. ⌜ r ≡ bucketAt (now (proposal .entry)) x ⌝ }
@@ -26,7 +26,7 @@ fn bucket_at(x: usize, proposal: &[u64]) -> usize
     index_at(proposal, x) % 4093
 }
 
-// The first region with the number of region x, among those below x; x itself where there is none.
+// The first item with the number of item x, among those below x; x itself where there is none.
 fn first_alike(x: usize, proposal: &[u64], heads: &[u16], links: &[u16]) -> usize
     requires { ⌜ Indexed (now proposal) (now heads) (now links) x ⌝ }
     ensures { λ r. ⌜ r ≡ lead (related (now (proposal .entry))) x ⌝ }
@@ -42,7 +42,7 @@ fn first_alike(x: usize, proposal: &[u64], heads: &[u16], links: &[u16]) -> usiz
     x
 }
 
-// Region x leads: it is the new head of its bucket.
+// Item x leads: it is the new head of its bucket.
 fn put_first(x: usize, proposal: &[u64], heads: &mut [u16], links: &mut [u16])
     requires { ⌜ (x < mostItems) × (Indexed (now proposal) (now heads) (now links) x) × (lead (related (now proposal)) x ≡ x) ⌝ }
     ensures { λ _. ⌜ Indexed (now (proposal .entry)) (now (heads .exit)) (now (links .exit)) (x + 1) ⌝ }
@@ -52,7 +52,7 @@ fn put_first(x: usize, proposal: &[u64], heads: &mut [u16], links: &mut [u16])
     put_link(bucket, x + 1, heads);
 }
 
-// The lead of region x, which goes into the index where it leads.
+// The lead of item x, which goes into the index where it leads.
 fn next_first(x: usize, proposal: &[u64], heads: &mut [u16], links: &mut [u16]) -> usize
     requires { ⌜ (x < mostItems) × (Indexed (now proposal) (now heads) (now links) x) ⌝ }
     ensures { λ r. ⌜ (r ≡ lead (related (now (proposal .entry))) x)
@@ -65,7 +65,7 @@ fn next_first(x: usize, proposal: &[u64], heads: &mut [u16], links: &mut [u16]) 
     first
 }
 
-// A pass over all regions, with an index of none at first.
+// A pass over all items, with an index of none at first.
 fn fill_firsts(n: usize, proposal: &[u64], heads: &mut [u16], links: &mut [u16], firsts: &mut [u64])
     requires { ⌜ (n ≤ mostItems) × (n ≤ length (now firsts)) × (Indexed (now proposal) (now heads) (now links) 0) ⌝ }
     ensures { λ _. ⌜ length (now (firsts .exit)) ≡ length (now (firsts .entry)) ⌝ }
@@ -91,7 +91,7 @@ fn list_firsts(n: usize, proposal: &[u64], firsts: &mut [u64])
 
 // ---- Judging by leads
 
-// Equal labels, and both conditions both ways, of two regions with the same number.
+// Equal labels, and both conditions both ways, of two items with the same number.
 fn is_alike(
     n: usize,
     k: usize,
@@ -118,7 +118,7 @@ fn is_alike(
     is_next(n, k, x, y, list, labels, nexts, flags, resets, spots, rows)
 }
 
-// Is a partition a bisimulation, given by each region's lead?
+// Is a partition a bisimulation, given by each item's lead?
 fn judge_firsts(
     n: usize,
     k: usize,
@@ -157,8 +157,8 @@ fn judge_firsts(
     true
 }
 
-// Is the proposal a bisimulation? Judged by each region's lead in it, which is below n, while a proposal's numbers may be any. Where the
-// slices hold no closed structure the answer is a choice of the code.
+// Is the proposal a bisimulation? Judged by each item's lead in it, which is below n, while a proposal's numbers may be any. More than
+// 4,096 items are never a bisimulation to it. For fewer, where the slices hold no closed structure, the answer is a choice of the code.
 pub fn judge(
     n: usize,
     k: usize,
@@ -172,6 +172,7 @@ pub fn judge(
 ) -> bool
     ensures { λ r. ⌜ ((F : Finite) → Held F n k (now (labels .entry)) (now (nexts .entry)) (now (flags .entry)) (now (resets .entry))
         (now (spots .entry)) (now (rows .entry)) → Closed (structure F) → r ≡ accepts F (now (proposal .entry))) ⌝ }
+    ensures { λ r. ⌜ (4096 < n → r ≡ false) ⌝ }
 {
     if 4096 < n {
         return false;

@@ -1,7 +1,8 @@
-// The rounds over a finite structure in slices, its blocks and their numbers, and judging a proposal.
+// The partition layer, in between: the rounds over a finite structure in slices, its blocks and their numbers, and judging a proposal.
 mod changes;
 mod joins;
 mod judging;
+mod kins;
 mod names;
 mod numbering;
 mod rounds;

@@ -1,5 +1,5 @@
-// Names of blocks that change as little as they may from round to round. A leader is a region that is its own rep. Leaders have tags of
-// their own, and a region's name is the tag of its leader. Of the parts of a block the largest keeps the tag; the others get numbers of
+// Names of blocks that change as little as they may from round to round. A leader is an item that is its own rep. Leaders have tags of
+// their own, and an item's name is the tag of its leader. Of the parts of a block the largest keeps the tag; the others get numbers of
 // new leaders, which no block had. Which part is the largest counts for speed alone: nothing is proved of sizes.
 ghost use Prim.Native.Nat.{ℕ, _+_, _<_, _≤_};
 ghost use mathlib.Core.Path.{_≡_};
@@ -52,7 +52,7 @@ pub(crate) fn first_names(n: usize, reps: &[u64], tags: &mut [u16], names: &mut 
     name_by_reps(n, reps, names);
 }
 
-// ---- Sizes: how many regions each leader leads, up to 65,535
+// ---- Sizes: how many items each leader leads, up to 65,535
 
 fn count_one(i: usize, sizes: &mut [u16])
     ensures { λ _. ⌜ length (now (sizes .exit)) ≡ length (now (sizes .entry)) ⌝ }
@@ -83,7 +83,7 @@ fn holder_of(lead: usize, holders: &[u16]) -> usize
     if link == 0 { lead } else { link - 1 }
 }
 
-// Does leader x lead more regions than a lower one that holds the tag?
+// Does leader x lead more items than a lower one that holds the tag?
 fn outgrows(x: usize, holder: usize, new: &[u64], sizes: &[u16]) -> bool
     ensures { λ r. ⌜ (r ≡ true → (holder < x) × (getD (now (new .entry)) holder 0 ≡ holder)) ⌝ }
 {
@@ -105,7 +105,7 @@ fn swap_tags(x: usize, y: usize, tags: &mut [u16])
     put_link(y, one, tags);
 }
 
-// Leader x takes over the tag of its old block where it leads more regions than the one that holds it.
+// Leader x takes over the tag of its old block where it leads more items than the one that holds it.
 fn take_tag(
     x: usize,
     lead: usize,
@@ -128,7 +128,7 @@ fn take_tag(
     }
 }
 
-// Region x is tagged where it leads now and did not before.
+// Item x is tagged where it leads now and did not before.
 fn tag_leader(
     x: usize,
     old: &[u64],
@@ -188,7 +188,7 @@ fn retag(n: usize, old: &[u64], new: &[u64], sizes: &[u16], tags: &mut [u16])
 
 // ---- Names of the next round
 
-// The flag of a region: 0 where its name is the old one.
+// The flag of an item: 0 where its name is the old one.
 fn flag_of(old: usize, new: usize) -> u8
     ensures { λ r. ⌜ (r ≡ 0 → new ≡ old) ⌝ }
 {

@@ -1,4 +1,4 @@
-// The rounds, by rep maps: a list holds for each region the lowest one that is related to it.
+// The rounds, by rep maps: a list holds for each item the lowest one that is related to it.
 ghost use Prim.Native.Nat.{ℕ, suc, _+_, _≤_, _<_};
 ghost use mathlib.Core.Path.{_≡_};
 ghost use mathlib.Core.Bool.{true};
@@ -20,6 +20,9 @@ use crate::changes::list_order;
 use crate::changes::stir;
 use crate::joins::fill_marks;
 use crate::joins::find_anchors;
+use crate::kins::find_kin;
+use crate::kins::put_kin;
+use crate::kins::sign_of;
 use crate::names::first_names;
 use crate::names::name_round;
 use crate::numbering::number_blocks;
@@ -27,11 +30,9 @@ use crate::stores::count_lead;
 use crate::stores::put_index;
 use crate::stores::put_link;
 use comparison::at16;
-use comparison::at64;
 use comparison::forget_keys;
 use comparison::index_at;
 use comparison::is_keyed_next;
-use comparison::is_twin;
 
 // The counts of a partition: its blocks, and the rounds that it took.
 pub struct Counted {
@@ -47,7 +48,7 @@ pub(crate) struct Search {
 
 // ---- Round 0: equal labels
 
-// The lead that a link tells: region i itself where there is none.
+// The lead that a link tells: item i itself where there is none.
 fn lead_by(link: usize, i: usize) -> usize
     requires { ⌜ (link < 65536) × (i < 4096) ⌝ }
     ensures { λ r. ⌜ (r ≡ leadBy link i) × (r + 1 < 65536) ⌝ }
@@ -55,7 +56,7 @@ fn lead_by(link: usize, i: usize) -> usize
     if link == 0 { i } else { link - 1 }
 }
 
-// Each region's lead is the first one with its label, which `seen` knows by the label. In later rounds marks are the labels.
+// Each item's lead is the first one with its label, which `seen` knows by the label. In later rounds marks are the labels.
 fn lead_labels(n: usize, labels: &[u16], seen: &mut [u16], list: &mut [u64]) -> usize
     requires { ⌜ (n ≤ length (now list)) × (n ≤ 4096) ⌝ }
     requires { ⌜ (length (now seen) ≡ labelRoom) × Seen (now labels) (now seen) 0 ⌝ }
@@ -87,7 +88,7 @@ pub(crate) fn first_round(n: usize, labels: &[u16], list: &mut [u64]) -> usize
 
 // ---- A round from the one before
 
-// Looks for the lead of region x among the leaders split off from its block of `mid`, from the lead there on along the links.
+// Looks for the lead of item x among the leaders split off from its block of `mid`, from the lead there on along the links.
 fn find_lead(
     n: usize,
     k: usize,
@@ -140,12 +141,7 @@ fn find_lead(
     }
 }
 
-// How many kins are tried for a region. Regions of one block may have their edges in different orders, and a kin stands for one
-// order: so many orders can come by turns before a key is computed again. Only the speed depends on it.
-const KIN_COUNT: usize = 8;
-
-// The lead of region x by a kin. The first kin is the region before the link, and the one after a kin is the region before its link
-// in `older`. The lead is that of the first kin that is plainly alike to x. Else it is x, which says nothing.
+// The lead of item x by a kin: that of the kin. Without one it is x, which says nothing.
 fn kin_lead(
     n: usize,
     k: usize,
@@ -166,36 +162,27 @@ fn kin_lead(
         → EquivalenceBelow n (next F (now (names .entry))) → x < n → Reps (next F (now (names .entry))) x (now (new .entry))
         → Kins x (now (older .entry)) → ((z : ℕ) → link ≡ suc z → z < x) → LedByKin (next F (now (names .entry))) x r) ⌝ }
 {
-    let mut at = link;
-    let mut left = KIN_COUNT;
-    while 0 < left {
-        if at == 0 {
-            return x;
-        }
-        if is_twin(n, k, at - 1, x, names, nexts, flags, resets, spots, rows) {
-            return index_at(new, at - 1);
-        }
-        at = at16(older, at - 1);
-        left = left - 1;
+    let kin = find_kin(
+        n,
+        k,
+        x,
+        link,
+        names,
+        labels,
+        nexts,
+        flags,
+        resets,
+        spots,
+        rows,
+        older,
+    );
+    if kin == 0 {
+        return x;
     }
-    x
+    index_at(new, kin - 1)
 }
 
-// Region x becomes the first kin for its block of `mid`, where its key had to be computed: it was not plainly alike to those that
-// were tried. The one that was first comes after it.
-fn put_kin(x: usize, start: usize, keys: &[u64], older: &mut [u16], kins: &mut [u16])
-    requires { ⌜ x < 4096 ⌝ }
-    ensures { λ _. ⌜ (length (now (older .exit)) ≡ length (now (older .entry))) × (length (now (kins .exit)) ≡ length (now (kins .entry))) ⌝ }
-    ensures { λ _. ⌜ (Kins x (now (older .entry)) → Kins x (now (kins .entry))
-        → Kins (x + 1) (now (older .exit)) × Kins (x + 1) (now (kins .exit))) ⌝ }
-{
-    if at64(keys, x) != 0 {
-        put_link(x, at16(kins, start), older);
-        put_link(start, x + 1, kins);
-    }
-}
-
-// The lead of region x by a search. A new leader is linked after the last one of its block of `mid`.
+// The lead of item x by a search. A new leader is linked after the last one of its block of `mid`.
 fn search_lead(
     n: usize,
     k: usize,
@@ -213,11 +200,13 @@ fn search_lead(
     links: &mut [u16],
 ) -> usize
     requires { ⌜ (x < n) × (n ≤ 4096) × (n ≤ length (now links)) ⌝ }
-    ensures { λ _. ⌜ (length (now (keys .exit)) ≡ length (now (keys .entry))) × (length (now (links .exit)) ≡ length (now (links .entry))) ⌝ }
-    ensures { λ r. ⌜ ((F : Finite) (before : List ℕ) → Keyed F n k (now (names .entry)) (now (keys .entry)) (now (labels .entry)) (now (nexts .entry))
-        (now (flags .entry)) (now (resets .entry)) (now (spots .entry)) (now (rows .entry))
+    ensures { λ _. ⌜ (length (now (keys .exit)) ≡ length (now (keys .entry)))
+        × (length (now (links .exit)) ≡ length (now (links .entry))) ⌝ }
+    ensures { λ r. ⌜ ((F : Finite) (before : List ℕ) → Keyed F n k (now (names .entry)) (now (keys .entry)) (now (labels .entry))
+        (now (nexts .entry)) (now (flags .entry)) (now (resets .entry)) (now (spots .entry)) (now (rows .entry))
         → Step (next F (now (names .entry))) n (now (mid .entry))
-        → Chains (next F (now (names .entry))) (related (now (mid .entry))) before x → now (links .entry) ≡ set before x 0 → n ≤ length before
+        → Chains (next F (now (names .entry))) (related (now (mid .entry))) before x
+        → now (links .entry) ≡ set before x 0 → n ≤ length before
         → start ≡ getD (now (mid .entry)) x 0 → start < x
         → (r ≡ lead (next F (now (names .entry))) x)
         × Chains (next F (now (names .entry))) (related (now (mid .entry))) (now (links .exit)) (x + 1)
@@ -248,8 +237,8 @@ fn search_lead(
     x
 }
 
-// The lead of region x in the next round: that of `mid` where x joins an anchor, that of a kin where x is plainly alike to it, and
-// else what a search finds.
+// The lead of item x in the next round: that of `mid` where x joins an anchor; that of the lead in `mid`, or of a kin, where x is plainly
+// alike to it; and else what a search finds.
 fn next_lead(
     n: usize,
     k: usize,
@@ -292,7 +281,26 @@ fn next_lead(
     if at16(marks, x) % 2 == 1 {
         return start;
     }
-    let kin = at16(kins, start);
+    let near = kin_lead(
+        n,
+        k,
+        x,
+        start + 1,
+        names,
+        labels,
+        nexts,
+        flags,
+        resets,
+        spots,
+        rows,
+        older,
+        new,
+    );
+    if near < x {
+        return near;
+    }
+    let sign = sign_of(k, x, names, flags, resets, spots, rows);
+    let kin = at16(kins, sign);
     let lead = kin_lead(
         n,
         k,
@@ -327,7 +335,7 @@ fn next_lead(
         keys,
         links,
     );
-    put_kin(x, start, keys, older, kins);
+    put_kin(x, sign, keys, older, kins);
     searched
 }
 
@@ -349,7 +357,8 @@ fn next_round(
     new: &mut [u64],
 ) -> usize
     requires { ⌜ (length (now new) ≡ n) × (n ≤ 4096) × (n ≤ length (now links)) ⌝ }
-    ensures { λ count. ⌜ (length (now (keys .exit)) ≡ length (now (keys .entry))) × (length (now (links .exit)) ≡ length (now (links .entry)))
+    ensures { λ count. ⌜ (length (now (keys .exit)) ≡ length (now (keys .entry)))
+        × (length (now (links .exit)) ≡ length (now (links .entry)))
         × (length (now (new .exit)) ≡ n) × (count ≤ n) ⌝ }
     ensures { λ count. ⌜ ((F : Finite) → Keyed F n k (now (names .entry)) (now (keys .entry)) (now (labels .entry)) (now (nexts .entry))
         (now (flags .entry)) (now (resets .entry)) (now (spots .entry)) (now (rows .entry))
@@ -469,7 +478,7 @@ fn copy(n: usize, from: &[u64], to: &mut [u64])
     }
 }
 
-// Names after a round, and which regions the change of names stirs.
+// Names after a round, and which items the change of names stirs.
 fn follow_round(
     n: usize,
     k: usize,
@@ -679,9 +688,11 @@ pub fn number_lists(
     ensures { λ r. ⌜ ((F : Finite) → Held F n k (now (labels .entry)) (now (nexts .entry)) (now (flags .entry)) (now (resets .entry))
         (now (spots .entry)) (now (rows .entry)) → Closed (structure F)
         → n ≤ length (now (first .entry)) → n ≤ length (now (second .entry))
-        → (now (first .exit) ≡ lastBlocks F ++ drop n (now (first .entry))) × (now (second .exit) ≡ lastBlocks F ++ drop n (now (second .entry)))
+        → (now (first .exit) ≡ lastBlocks F ++ drop n (now (first .entry)))
+        × (now (second .exit) ≡ lastBlocks F ++ drop n (now (second .entry)))
         × (r .blocks ≡ blockCount F (rounds F)) × (r .rounds ≡ rounds F)) ⌝ }
-    ensures { λ r. ⌜ (drop n (now (first .exit)) ≡ drop n (now (first .entry))) × (drop n (now (second .exit)) ≡ drop n (now (second .entry)))
+    ensures { λ r. ⌜ (drop n (now (first .exit)) ≡ drop n (now (first .entry)))
+        × (drop n (now (second .exit)) ≡ drop n (now (second .entry)))
         × (NoRoom n (now (first .entry)) (now (second .entry)) → (now (first .exit) ≡ now (first .entry))
         × (now (second .exit) ≡ now (second .entry)) × (r .blocks ≡ 0) × (r .rounds ≡ 0)) ⌝ }
 {

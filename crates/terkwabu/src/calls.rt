@@ -55,13 +55,16 @@ pub extern "C" fn terkwabu_reduce(
     first: &mut [u64],
     second: &mut [u64],
 ) -> Answer
-    ensures { λ r. ⌜ r ≡ ofReduction (reduceOf (now (table .entry)) (roomFor (length (now (entries .entry)))) (now (first .entry)) (now (second .entry))) ⌝ }
+    ensures { λ r. ⌜ r ≡ ofReduction (reduceOf (now (table .entry)) (roomFor (length (now (entries .entry))))
+        (now (first .entry)) (now (second .entry))) ⌝ }
     ensures { λ r. ⌜ now (entries .exit)
         ≡ entriesAfter (now (entries .entry)) (outcomeOf (now (table .entry)) (roomFor (length (now (entries .entry))))) ⌝ }
     ensures { λ r. ⌜ now (first .exit)
-        ≡ listAfter (now (table .entry)) (roomFor (length (now (entries .entry)))) (now (first .entry)) (now (second .entry)) (now (first .entry)) ⌝ }
+        ≡ listAfter (now (table .entry)) (roomFor (length (now (entries .entry))))
+        (now (first .entry)) (now (second .entry)) (now (first .entry)) ⌝ }
     ensures { λ r. ⌜ now (second .exit)
-        ≡ listAfter (now (table .entry)) (roomFor (length (now (entries .entry)))) (now (first .entry)) (now (second .entry)) (now (second .entry)) ⌝ }
+        ≡ listAfter (now (table .entry)) (roomFor (length (now (entries .entry))))
+        (now (first .entry)) (now (second .entry)) (now (second .entry)) ⌝ }
 {
     of_reduction(partition::reduce_table(table, entries, first, second))
 }
@@ -76,13 +79,16 @@ pub extern "C" fn terkwabu_pair(
     r: u64,
     s: u64,
 ) -> Answer
-    ensures { λ a. ⌜ a ≡ ofPairing (pairOf (now (table .entry)) (roomFor (length (now (entries .entry)))) (now (first .entry)) (now (second .entry)) r s) ⌝ }
+    ensures { λ a. ⌜ a ≡ ofPairing (pairOf (now (table .entry)) (roomFor (length (now (entries .entry))))
+        (now (first .entry)) (now (second .entry)) r s) ⌝ }
     ensures { λ a. ⌜ now (entries .exit)
         ≡ entriesAfter (now (entries .entry)) (outcomeOf (now (table .entry)) (roomFor (length (now (entries .entry))))) ⌝ }
     ensures { λ a. ⌜ now (first .exit)
-        ≡ pairListAfter (now (table .entry)) (roomFor (length (now (entries .entry)))) (now (first .entry)) (now (second .entry)) (now (first .entry)) r s ⌝ }
+        ≡ pairListAfter (now (table .entry)) (roomFor (length (now (entries .entry))))
+        (now (first .entry)) (now (second .entry)) (now (first .entry)) r s ⌝ }
     ensures { λ a. ⌜ now (second .exit)
-        ≡ pairListAfter (now (table .entry)) (roomFor (length (now (entries .entry)))) (now (first .entry)) (now (second .entry)) (now (second .entry)) r s ⌝ }
+        ≡ pairListAfter (now (table .entry)) (roomFor (length (now (entries .entry))))
+        (now (first .entry)) (now (second .entry)) (now (second .entry)) r s ⌝ }
 {
     of_pairing(partition::pair_table(table, entries, first, second, r, s))
 }
@@ -113,8 +119,10 @@ pub extern "C" fn terkwabu_part(
     ensures { λ r. ⌜ r ≡ ofPart (partOf (now (table .entry)) (now (entries .entry)) (now (list .entry)) regions blocks rounds part
         (length (now (buffer .entry)))) ⌝ }
     ensures { λ r. ⌜ now (buffer .exit)
-        ≡ bufferAfter (textOf (now (table .entry)) (now (entries .entry)) (now (list .entry)) regions blocks rounds part) (now (buffer .entry)) ⌝ }
-    ensures { λ r. ⌜ length (textOf (now (table .entry)) (now (entries .entry)) (now (list .entry)) regions blocks rounds part) ≤ mostBytes ⌝ }
+        ≡ bufferAfter (textOf (now (table .entry)) (now (entries .entry)) (now (list .entry)) regions blocks rounds part)
+        (now (buffer .entry)) ⌝ }
+    ensures { λ r. ⌜ length (textOf (now (table .entry)) (now (entries .entry)) (now (list .entry)) regions blocks rounds part)
+        ≤ mostBytes ⌝ }
 {
     of_part(listing::write_part(table, entries, list, regions, blocks, rounds, part, buffer))
 }

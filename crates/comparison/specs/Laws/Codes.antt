@@ -8,7 +8,7 @@ use lib.ListN.{getD}
 use Rattle.bisimulation.specs.Structures.{Closed}
 use Rattle.bisimulation.specs.Finite.{Finite, structure, related}
 use Rattle.bisimulation.specs.Laws.Tests.{fails, and-iff, below-some}
-use Rattle.comparison.specs.Held.{Held, isSet}
+use Rattle.comparison.specs.Held.{Held, isOpen}
 use Rattle.comparison.specs.Compare.{delaysAnswered, edgesAlike, answers, someAnswers, edgeAnswered, edgesAnswered, answered, nextIn}
 use Rattle.comparison.specs.Keys.{Coded, ToldBy, Told}
 use Rattle.comparison.specs.Laws.Compare.{answers-fails, answered-free, answered-on, all-fails}
@@ -20,7 +20,7 @@ pub answers-tell : (F : Finite) (n k : ℕ) (list labels nexts flags resets spot
     → Told k list flags resets spots rows x y
 unfolding answers
 answers-tell F n k list labels nexts flags resets spots rows held closed x y hx hy e he ready f hf answer =
-    let (there, alike) = and-iff (isSet flags y f) (edgesAlike list resets spots rows x e y f) .0 answer in
+    let (there, alike) = and-iff (isOpen flags y f) (edgesAlike list resets spots rows x e y f) .0 answer in
     sym (code-same list resets spots rows x e y f alike
     (whole-positive F n k list labels nexts flags resets spots rows held closed x e hx he ready)
     (whole-positive F n k list labels nexts flags resets spots rows held closed y f hy hf there))
@@ -37,14 +37,14 @@ HasAnswer k list flags resets spots rows x y e = someAnswers k list flags resets
 module _ (k : ℕ) (list flags resets spots rows : List ℕ) where
   -- An edge at y of another code is no answer.
   pub other-code : (x e y code : ℕ) (codes : List ℕ) → Coded k y list flags resets spots rows codes
-      → ToldBy k list flags resets spots rows x e y code → (f : ℕ) → f < k → isSet flags y f ≡ true → ¬ (getD codes f 0 ≡ code)
+      → ToldBy k list flags resets spots rows x e y code → (f : ℕ) → f < k → isOpen flags y f ≡ true → ¬ (getD codes f 0 ≡ code)
       → NoAnswer list flags resets spots rows x e y f
   other-code x e y code codes coded told f h ready other =
       fails (answers list flags resets spots rows x e y f) (λ t. other (coded f h ready ∙ told f h t))
 
   -- The code that is kept of an edge at x is that of its answers.
   pub told-at : (x y e code : ℕ) (codes : List ℕ) → Told k list flags resets spots rows x y
-      → Coded k x list flags resets spots rows codes → e < k → isSet flags x e ≡ true → code ≡ getD codes e 0
+      → Coded k x list flags resets spots rows codes → e < k → isOpen flags x e ≡ true → code ≡ getD codes e 0
       → ToldBy k list flags resets spots rows x e y code
   told-at x y e code codes told coded h ready kept f hf t = told e h ready f hf t ∙ sym (kept ∙ coded e h ready)
 
@@ -54,14 +54,14 @@ module _ (k : ℕ) (list flags resets spots rows : List ℕ) where
   one-answers x e y f h t = below-some k (λ f. answers list flags resets spots rows x e y f) f h t
 
   pub none-answers : (x e y : ℕ)
-      → ((f : ℕ) → f < k → isSet flags y f ≡ true → NoAnswer list flags resets spots rows x e y f)
+      → ((f : ℕ) → f < k → isOpen flags y f ≡ true → NoAnswer list flags resets spots rows x e y f)
       → someAnswers k list flags resets spots rows x e y ≡ false
   unfolding someAnswers
   none-answers x e y none =
-      none-open (isSet flags y) (λ f. answers list flags resets spots rows x e y f) k
+      none-open (isOpen flags y) (λ f. answers list flags resets spots rows x e y f) k
       (λ f closed. answers-fails list flags resets spots rows x e y f closed) none
 
-  pub one-unanswered : (x y e : ℕ) → e < k → isSet flags x e ≡ true → someAnswers k list flags resets spots rows x e y ≡ false
+  pub one-unanswered : (x y e : ℕ) → e < k → isOpen flags x e ≡ true → someAnswers k list flags resets spots rows x e y ≡ false
       → edgesAnswered k list flags resets spots rows x y ≡ false
   unfolding edgesAnswered
   one-unanswered x y e h ready none =
@@ -69,11 +69,11 @@ module _ (k : ℕ) (list flags resets spots rows : List ℕ) where
       (answered-on list flags resets spots rows k x y e ready ∙ none)
 
   pub all-answered : (x y : ℕ)
-      → ((e : ℕ) → e < k → isSet flags x e ≡ true → HasAnswer k list flags resets spots rows x y e)
+      → ((e : ℕ) → e < k → isOpen flags x e ≡ true → HasAnswer k list flags resets spots rows x y e)
       → edgesAnswered k list flags resets spots rows x y ≡ true
   unfolding edgesAnswered
   all-answered x y all =
-      each-open (isSet flags x) (λ e. edgeAnswered k list flags resets spots rows x y e) k
+      each-open (isOpen flags x) (λ e. edgeAnswered k list flags resets spots rows x y e) k
       (λ e closed. answered-free list flags resets spots rows k x y e closed)
       (λ e h ready. answered-on list flags resets spots rows k x y e ready ∙ all e h ready)
 

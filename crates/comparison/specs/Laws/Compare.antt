@@ -18,7 +18,7 @@ use Rattle.bisimulation.specs.Laws.Tests.{both, clash, fails, same-test, and-if
 use Rattle.comparison.specs.Held.{mostEdges, isInside, targetOf}
 use Rattle.comparison.specs.Held.{Held, mostItems, chain, actionAt, wholeAt, countAt, weightAt, targetAt, branchesFrom}
 use Rattle.comparison.specs.Compare.{Below, reachesRelated, reachesNumber, allMarked, delaysAnswered, weighed, balanced, balancedOver, edgesAlike}
-use Rattle.comparison.specs.Held.{isSet}
+use Rattle.comparison.specs.Held.{isOpen}
 use Rattle.comparison.specs.Compare.{answers, someAnswers, edgeAnswered, edgesAnswered, answered, nextIn}
 
 -- ---- Tests, one after the other
@@ -39,20 +39,20 @@ module _ (list resets spots rows : List ℕ) (x e y f : ℕ) where
   alike-on h t = rw (eq-eqb (actionAt rows e) (actionAt rows f) h, t) refl
 
 module _ (list flags resets spots rows : List ℕ) where
-  pub answers-fails : (x e y f : ℕ) → isSet flags y f ≡ false → answers list flags resets spots rows x e y f ≡ false
+  pub answers-fails : (x e y f : ℕ) → isOpen flags y f ≡ false → answers list flags resets spots rows x e y f ≡ false
   unfolding answers
   answers-fails x e y f t = rw t refl
 
-  pub answers-on : (x e y f : ℕ) → isSet flags y f ≡ true
+  pub answers-on : (x e y f : ℕ) → isOpen flags y f ≡ true
       → answers list flags resets spots rows x e y f ≡ edgesAlike list resets spots rows x e y f
   unfolding answers
   answers-on x e y f t = rw t refl
 
-  pub answered-free : (k x y e : ℕ) → isSet flags x e ≡ false → edgeAnswered k list flags resets spots rows x y e ≡ true
+  pub answered-free : (k x y e : ℕ) → isOpen flags x e ≡ false → edgeAnswered k list flags resets spots rows x y e ≡ true
   unfolding edgeAnswered
   answered-free k x y e t = rw t refl
 
-  pub answered-on : (k x y e : ℕ) → isSet flags x e ≡ true
+  pub answered-on : (k x y e : ℕ) → isOpen flags x e ≡ true
       → edgeAnswered k list flags resets spots rows x y e ≡ someAnswers k list flags resets spots rows x e y
   unfolding edgeAnswered
   answered-on k x y e t = rw t refl

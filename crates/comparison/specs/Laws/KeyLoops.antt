@@ -13,9 +13,9 @@ use lib.Seq.{getD-set-same, getD-set-other, set-out}
 use borrow.Author.Tests.{eq-eqb, ne-eqb, lt-ltb, eqb-true, ltb-true, ltb-false}
 use Rattle.bisimulation.specs.Finite.{someBelow, anyOf}
 use Rattle.bisimulation.specs.Laws.Tests.{both, fails, same?, and-iff}
-use Rattle.comparison.specs.Held.{mostItems, chain, openBelow, isSet}
+use Rattle.comparison.specs.Held.{mostItems, chain, openBelow, isOpen}
 use Rattle.comparison.specs.Keys.{sumBelow, scatter, delayRoom, delayMark, isReached, delayKey, codeOf, isNew, keyOf}
-use Rattle.comparison.specs.Keys.{Known, Coded}
+use Rattle.comparison.specs.Keys.{Known, AskedFor, BothAsked, Coded}
 use Rattle.comparison.specs.Keys.{ForgottenAt, Forgotten, keysAfter}
 use Rattle.comparison.specs.Laws.Compare.{some-agree, any-here, any-none, any-last}
 use Rattle.comparison.specs.Laws.Keys.{sum-agree, sum-flip, sum-most, codeBound, code-small}
@@ -237,7 +237,7 @@ module _ (n : ℕ) (list nexts : List ℕ) (x : ℕ) where
 
 -- Whether edge f is available at x, and kept with this code; what edge e adds at x.
 abbrev pub hasCode : (flags codes : List ℕ) → (x code f : ℕ) → Bool
-hasCode flags codes x code f = isSet flags x f && eqb (getD codes f 0) code
+hasCode flags codes x code f = isOpen flags x f && eqb (getD codes f 0) code
 
 abbrev pub addedBy : (list flags resets spots rows : List ℕ) → (x e : ℕ) → ℕ
 addedBy list flags resets spots rows x e = cond (isNew list flags resets spots rows x e) (codeOf list resets spots rows x e) 0
@@ -247,20 +247,20 @@ abbrev pub NoCode : (flags codes : List ℕ) → (x code f : ℕ) → Type 0
 NoCode flags codes x code f = hasCode flags codes x code f ≡ false
 
 module _ (flags codes : List ℕ) (x code : ℕ) where
-  pub code-hit : (f : ℕ) → isSet flags x f ≡ true → getD codes f 0 ≡ code → hasCode flags codes x code f ≡ true
+  pub code-hit : (f : ℕ) → isOpen flags x f ≡ true → getD codes f 0 ≡ code → hasCode flags codes x code f ≡ true
   code-hit f ready same =
-      and-iff (isSet flags x f) (eqb (getD codes f 0) code) .1 (ready, eq-eqb (getD codes f 0) code same)
+      and-iff (isOpen flags x f) (eqb (getD codes f 0) code) .1 (ready, eq-eqb (getD codes f 0) code same)
 
   pub code-miss : (f : ℕ) → ¬ (getD codes f 0 ≡ code) → NoCode flags codes x code f
   code-miss f other =
       fails (hasCode flags codes x code f)
-      (λ t. other (eqb-true (getD codes f 0) code (and-iff (isSet flags x f) (eqb (getD codes f 0) code) .0 t .1)))
+      (λ t. other (eqb-true (getD codes f 0) code (and-iff (isOpen flags x f) (eqb (getD codes f 0) code) .0 t .1)))
 
-  pub code-none : (e : ℕ) → ((f : ℕ) → f < e → isSet flags x f ≡ true → NoCode flags codes x code f)
+  pub code-none : (e : ℕ) → ((f : ℕ) → f < e → isOpen flags x f ≡ true → NoCode flags codes x code f)
       → someBelow e (hasCode flags codes x code) ≡ false
   code-none e none =
-      none-open (isSet flags x) (hasCode flags codes x code) e
-      (λ f closed. and-no (isSet flags x f) (eqb (getD codes f 0) code) closed) none
+      none-open (isOpen flags x) (hasCode flags codes x code) e
+      (λ f closed. and-no (isOpen flags x f) (eqb (getD codes f 0) code) closed) none
 
 -- What an edge adds by the codes that are kept: its code where that is new, and else nothing.
 abbrev pub keptAdds : (flags codes : List ℕ) → (x e : ℕ) → ℕ
@@ -285,11 +285,11 @@ abbrev pub KeptAt : (x : ℕ) → (list resets spots rows codes : List ℕ) → 
 KeptAt x list resets spots rows codes f = getD codes f 0 ≡ codeOf list resets spots rows x f
 
 pub kept-on : (k x e e′ code : ℕ) (list flags resets spots rows codes : List ℕ) → 0 < e → e ≤ length codes
-    → Down (isSet flags x) (KeptAt x list resets spots rows codes) k e → code ≡ codeOf list resets spots rows x (e - 1)
-    → e′ ≡ openBelow (isSet flags x) (e - 1)
-    → Down (isSet flags x) (KeptAt x list resets spots rows (set codes (e - 1) code)) k e′
+    → Down (isOpen flags x) (KeptAt x list resets spots rows codes) k e → code ≡ codeOf list resets spots rows x (e - 1)
+    → e′ ≡ openBelow (isOpen flags x) (e - 1)
+    → Down (isOpen flags x) (KeptAt x list resets spots rows (set codes (e - 1) code)) k e′
 kept-on k x e e′ code list flags resets spots rows codes h inside down same told =
-    down-on (isSet flags x) (KeptAt x list resets spots rows (set codes (e - 1) code)) k e e′ h
+    down-on (isOpen flags x) (KeptAt x list resets spots rows (set codes (e - 1) code)) k e e′ h
     (record {
       at = down .at;
       past =
@@ -299,14 +299,14 @@ kept-on k x e e′ code list flags resets spots rows codes h inside down same to
     (getD-set-same codes (e - 1) code 0 (omega arith) ∙ same) told
 
 -- What edges add where their codes are kept.
-pub adds-none : (list flags resets spots rows : List ℕ) (x e : ℕ) → isSet flags x e ≡ false
+pub adds-none : (list flags resets spots rows : List ℕ) (x e : ℕ) → isOpen flags x e ≡ false
     → addedBy list flags resets spots rows x e ≡ 0
 unfolding isNew
 adds-none list flags resets spots rows x e closed =
-    cond-no (isNew list flags resets spots rows x e) (codeOf list resets spots rows x e) 0 (and-no (isSet flags x e) _ closed)
+    cond-no (isNew list flags resets spots rows x e) (codeOf list resets spots rows x e) 0 (and-no (isOpen flags x e) _ closed)
 
 module _ (k x : ℕ) (list flags resets spots rows codes : List ℕ) (coded : Coded k x list flags resets spots rows codes)
-    (e : ℕ) (below : e < k) (ready : isSet flags x e ≡ true) where
+    (e : ℕ) (below : e < k) (ready : isOpen flags x e ≡ true) where
   pub coded-small : getD codes e 0 < codeBound
   coded-small = subst (λ (m : ℕ). m < codeBound) (sym (coded e below ready)) (code-small list resets spots rows x e)
 
@@ -314,13 +314,13 @@ module _ (k x : ℕ) (list flags resets spots rows codes : List ℕ) (coded : Co
   unfolding isNew
   new-test =
       ap not (some-agree e (hasCode flags codes x (getD codes e 0))
-      (λ f. isSet flags x f && eqb (codeOf list resets spots rows x f) (codeOf list resets spots rows x e))
-      (λ f h. at f h (both (isSet flags x f))))
-      ∙ sym (and-yes (isSet flags x e) _ ready)
+      (λ f. isOpen flags x f && eqb (codeOf list resets spots rows x f) (codeOf list resets spots rows x e))
+      (λ f h. at f h (both (isOpen flags x f))))
+      ∙ sym (and-yes (isOpen flags x e) _ ready)
     where
-      at : (f : ℕ) → f < e → (isSet flags x f ≡ true) ⊎ (isSet flags x f ≡ false)
+      at : (f : ℕ) → f < e → (isOpen flags x f ≡ true) ⊎ (isOpen flags x f ≡ false)
           → hasCode flags codes x (getD codes e 0) f
-          ≡ (isSet flags x f && eqb (codeOf list resets spots rows x f) (codeOf list resets spots rows x e))
+          ≡ (isOpen flags x f && eqb (codeOf list resets spots rows x f) (codeOf list resets spots rows x e))
       at f h (inl t) = rw (coded f (omega arith) t, coded e below ready) refl
       at f h (inr n) = rw n refl
 
@@ -351,6 +351,25 @@ module _ (n k : ℕ) (names keys nexts flags resets spots rows : List ℕ) (know
             ]
         | inr o ↦ rw (getD-set-other keys x y key 0 o) (known y h)
       ]
+
+-- Asking for a key stores it where none is known; asking for two, one after the other.
+pub asked-put : (x key : ℕ) (keys : List ℕ) → getD keys x 0 ≡ 0 → AskedFor x keys (set keys x key)
+asked-put x key keys none z =
+    elim (same? z x) [
+      | inl s ↦ inr (s, ap (λ (i : ℕ). getD keys i 0) s ∙ none)
+      | inr o ↦ inl (getD-set-other keys x z key 0 o)
+    ]
+
+pub asked-both : (x y : ℕ) (keys one two : List ℕ) → AskedFor x keys one → AskedFor y one two → BothAsked x y keys two
+asked-both x y keys one two first second z =
+    elim (first z) [
+      | inl kept ↦
+          elim (second z) [
+            | inl same ↦ inl (same ∙ kept)
+            | inr new ↦ inr (inr (new .0), sym kept ∙ new .1)
+          ]
+      | inr new ↦ inr (inl (new .0), new .1)
+    ]
 
 module _ (keys₀ keys stirred : List ℕ) (x : ℕ) (keys′ : List ℕ) (after : keys′ ≡ keysAfter keys stirred x) where
   pub forgotten-length : length keys′ ≡ length keys

@@ -15,7 +15,7 @@ use Rattle.bisimulation.specs.Laws.Tests.{both, clash, fails, same?, same-test,
 use Rattle.bisimulation.specs.Laws.Tests.{all-below, some-below, below-some, all-of, any-of, of-any}
 use Rattle.comparison.specs.Held.{Held, mostItems, chain, actionAt, wholeAt, countAt, targetAt, branchesFrom}
 use Rattle.comparison.specs.Compare.{reachesRelated, delaysAnswered, weighed, balanced, balancedOver, edgesAlike}
-use Rattle.comparison.specs.Held.{isSet}
+use Rattle.comparison.specs.Held.{isOpen}
 use Rattle.comparison.specs.Compare.{answers, someAnswers, edgeAnswered, edgesAnswered, answered}
 use Rattle.comparison.specs.Keys.{sumBelow, scatter, delayRoom, delayMark, isReached, delayKey, joined, codeOf}
 use Rattle.comparison.specs.Keys.{shareOf, mixed, isFirstInto, blockCode, landedBy, landed}
@@ -140,41 +140,41 @@ or-old false false h = refl
 -- The numbers below k, each with a code; those that pass p count, and a code adds what g gives for it.
 module _ (p : ℕ → Bool) (code : ℕ → ℕ) (g : ℕ → ℕ) where
   -- A number below k that counts has code v.
-  abbrev hasCode : (k v : ℕ) → Bool
-  hasCode k v = someBelow k (λ e. p e && eqb (code e) v)
+  abbrev someHasCode : (k v : ℕ) → Bool
+  someHasCode k v = someBelow k (λ e. p e && eqb (code e) v)
 
   -- Number k counts, and no lower one that counts has its code.
   abbrev isFirst : (k : ℕ) → Bool
-  isFirst k = p k && not (hasCode k (code k))
+  isFirst k = p k && not (someHasCode k (code k))
 
   -- Number k adds code v only if it counts and v is its code.
-  code-had : (k v : ℕ) → (p k ≡ true → code k ≡ v → hasCode k v ≡ true) → hasCode (suc k) v ≡ hasCode k v
+  code-had : (k v : ℕ) → (p k ≡ true → code k ≡ v → someHasCode k v ≡ true) → someHasCode (suc k) v ≡ someHasCode k v
   code-had k v had =
-      or-old (hasCode k v) (p k && eqb (code k) v)
+      or-old (someHasCode k v) (p k && eqb (code k) v)
       (λ t. let (counts, e) = and-iff (p k) (eqb (code k) v) .0 t in had counts (eqb-true (code k) v e))
 
   -- A first one adds to the sum over all codes below m; another adds nothing.
   first-adds : (k m : ℕ) → code k < m → isFirst k ≡ true
-      → sumBelow m (λ v. cond (hasCode (suc k) v) (g v) 0) ≡ sumBelow m (λ v. cond (hasCode k v) (g v) 0) + g (code k)
+      → sumBelow m (λ v. cond (someHasCode (suc k) v) (g v) 0) ≡ sumBelow m (λ v. cond (someHasCode k v) (g v) 0) + g (code k)
   first-adds k m small first =
-      let (counts, none) = and-iff (p k) (not (hasCode k (code k))) .0 first in
-      sum-flip m (λ v. hasCode k v) (λ v. hasCode (suc k) v) g (code k) small (not-true (hasCode k (code k)) none)
+      let (counts, none) = and-iff (p k) (not (someHasCode k (code k))) .0 first in
+      sum-flip m (λ v. someHasCode k v) (λ v. someHasCode (suc k) v) g (code k) small (not-true (someHasCode k (code k)) none)
       (below-some (suc k) (λ e. p e && eqb (code e) (code k)) k (omega arith)
       (and-iff (p k) (eqb (code k) (code k)) .1 (counts, eq-eqb (code k) (code k) refl)))
       (λ v apart. code-had k v (λ _ e. absurd (apart (sym e))))
 
   other-adds-none : (k m : ℕ) → isFirst k ≡ false
-      → sumBelow m (λ v. cond (hasCode (suc k) v) (g v) 0) ≡ sumBelow m (λ v. cond (hasCode k v) (g v) 0)
+      → sumBelow m (λ v. cond (someHasCode (suc k) v) (g v) 0) ≡ sumBelow m (λ v. cond (someHasCode k v) (g v) 0)
   other-adds-none k m other =
-      sum-agree m (λ v. cond (hasCode (suc k) v) (g v) 0) (λ v. cond (hasCode k v) (g v) 0) (λ v _.
-      ap (λ (b : Bool). cond b (g v) 0) (code-had k v (λ counts e. subst (λ (u : ℕ). hasCode k u ≡ true) e (had counts))))
+      sum-agree m (λ v. cond (someHasCode (suc k) v) (g v) 0) (λ v. cond (someHasCode k v) (g v) 0) (λ v _.
+      ap (λ (b : Bool). cond b (g v) 0) (code-had k v (λ counts e. subst (λ (u : ℕ). someHasCode k u ≡ true) e (had counts))))
     where
-      had : p k ≡ true → hasCode k (code k) ≡ true
-      had counts = not-false (hasCode k (code k)) (sym (ap (λ (b : Bool). b && not (hasCode k (code k))) counts) ∙ other)
+      had : p k ≡ true → someHasCode k (code k) ≡ true
+      had counts = not-false (someHasCode k (code k)) (sym (ap (λ (b : Bool). b && not (someHasCode k (code k))) counts) ∙ other)
 
   -- So the sum over first ones is the sum over all codes.
   codes-once : (k m : ℕ) → ((e : ℕ) → e < k → code e < m)
-      → sumBelow k (λ e. cond (isFirst e) (g (code e)) 0) ≡ sumBelow m (λ v. cond (hasCode k v) (g v) 0)
+      → sumBelow k (λ e. cond (isFirst e) (g (code e)) 0) ≡ sumBelow m (λ v. cond (someHasCode k v) (g v) 0)
   unfolding sumBelow
   codes-once zero m small = sym (sum-none m (λ v. cond false (g v) 0) (λ v. refl))
   codes-once (suc k) m small =
@@ -233,7 +233,7 @@ module _ (list resets spots rows : List ℕ) where
 
   -- A branch leads to a block with number v.
   abbrev isLed : (x e v : ℕ) → Bool
-  isLed x e v = hasCode (λ _. true) (numberOf x e) (blockAdds x e) (countAt rows e) v
+  isLed x e v = someHasCode (λ _. true) (numberOf x e) (blockAdds x e) (countAt rows e) v
 
   led-adds : (x e v : ℕ) → cond (isLed x e v) (blockAdds x e v) 0 ≡ blockAdds x e v
   led-adds x e v = go (both (isLed x e v))
@@ -301,27 +301,27 @@ code-small list resets spots rows x e = mod-lt _ (omega arith)
 module _ (n k : ℕ) (list flags resets spots rows : List ℕ) where
   -- An edge that is available at x has code v.
   abbrev hasEdge : (x v : ℕ) → Bool
-  hasEdge x v = hasCode (λ e. isSet flags x e) (λ e. codeOf list resets spots rows x e) (λ v. v) k v
+  hasEdge x v = someHasCode (λ e. isOpen flags x e) (λ e. codeOf list resets spots rows x e) (λ v. v) k v
 
   edges-once : (x : ℕ) → edgeKey k list flags resets spots rows x ≡ sumBelow codeBound (λ v. cond (hasEdge x v) v 0)
   unfolding edgeKey isNew
   edges-once x =
-      codes-once (λ e. isSet flags x e) (λ e. codeOf list resets spots rows x e) (λ v. v) k codeBound
+      codes-once (λ e. isOpen flags x e) (λ e. codeOf list resets spots rows x e) (λ v. v) k codeBound
       (λ e _. code-small list resets spots rows x e)
 
-  module _ (positive : (x e : ℕ) → x < n → e < k → isSet flags x e ≡ true → 0 < wholeAt rows e) where
+  module _ (positive : (x e : ℕ) → x < n → e < k → isOpen flags x e ≡ true → 0 < wholeAt rows e) where
     code-found : (x y v : ℕ) → x < n → y < n → edgesAnswered k list flags resets spots rows x y ≡ true
         → hasEdge x v ≡ true → hasEdge y v ≡ true
     unfolding edgesAnswered edgeAnswered someAnswers answers
     code-found x y v hx hy all t =
-        let (e, he, u) = some-below k (λ e. isSet flags x e && eqb (codeOf list resets spots rows x e) v) t in
-        let (ax, code) = and-iff (isSet flags x e) (eqb (codeOf list resets spots rows x e) v) .0 u in
+        let (e, he, u) = some-below k (λ e. isOpen flags x e && eqb (codeOf list resets spots rows x e) v) t in
+        let (ax, code) = and-iff (isOpen flags x e) (eqb (codeOf list resets spots rows x e) v) .0 u in
         let (f, hf, a) = some-below k (λ f. answers list flags resets spots rows x e y f)
-        (cond-iff (isSet flags x e) (someAnswers k list flags resets spots rows x e y) .0
+        (cond-iff (isOpen flags x e) (someAnswers k list flags resets spots rows x e y) .0
         (all-below k (λ e. edgeAnswered k list flags resets spots rows x y e) .0 all e he) ax) in
-        let (ay, same) = and-iff (isSet flags y f) (edgesAlike list resets spots rows x e y f) .0 a in
-        below-some k (λ f. isSet flags y f && eqb (codeOf list resets spots rows y f) v) f hf
-        (and-iff (isSet flags y f) (eqb (codeOf list resets spots rows y f) v) .1 (
+        let (ay, same) = and-iff (isOpen flags y f) (edgesAlike list resets spots rows x e y f) .0 a in
+        below-some k (λ f. isOpen flags y f && eqb (codeOf list resets spots rows y f) v) f hf
+        (and-iff (isOpen flags y f) (eqb (codeOf list resets spots rows y f) v) .1 (
           ay,
           ap (λ (c : ℕ). eqb c v)
               (sym (code-same list resets spots rows x e y f same (positive x e hx he ax) (positive y f hy hf ay))) ∙ code,
@@ -341,7 +341,7 @@ module _ (n k : ℕ) (list flags resets spots rows : List ℕ) where
 
 module _ (F : Finite) (n k : ℕ) (list labels nexts flags resets spots rows : List ℕ)
     (held : Held F n k labels nexts flags resets spots rows) (closed : Closed (structure F)) where
-  pub whole-positive : (x e : ℕ) → x < n → e < k → isSet flags x e ≡ true → 0 < wholeAt rows e
+  pub whole-positive : (x e : ℕ) → x < n → e < k → isOpen flags x e ≡ true → 0 < wholeAt rows e
   whole-positive x e hx he t =
       subst (λ (w : ℕ). 0 < w) (held .whole x e hx he)
       (closed .positive {x = x} {e = e} (subst (λ (m : ℕ). x < m) (held .size) hx)

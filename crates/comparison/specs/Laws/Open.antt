@@ -1,26 +1,17 @@
--- Going over the available edges of an item from the last down: a test over all edges is a test over those that are available, where
--- the others make no difference.
+-- Going over the available edges of an item from the last down: what the flags tell, and a sum over all edges, which is a sum over those
+-- that are available where the others add nothing.
 use Prim.Native.Nat.{ℕ, zero, suc, _+_, _*_, _-_, _≤_, _<_}
 use native.Mathlib.Omega.{arith}
 use mathlib.Core.Path.{_≡_, refl, sym, _∙_, ap, ap₂}
-use mathlib.Core.Bool.{Bool, true, false, cond, _&&_, _||_}
+use mathlib.Core.Bool.{Bool, true, false, cond, _&&_}
 use mathlib.Core.Logic.{_⊎_, inl, inr}
 use mathlib.Core.List.{List}
 use lib.Dec.{eqb, leb, ltb}
 use lib.ListN.{getD}
 use borrow.Author.Tests.{eq-eqb, eqb-true, lt-ltb, le-leb, leb-true}
-use Rattle.bisimulation.specs.Finite.{allBelow, someBelow}
 use Rattle.bisimulation.specs.Laws.Tests.{both, clash, and-iff}
-use Rattle.comparison.specs.Held.{flagRoom, mostItems, mostEdges, openBelow, isSet, Opened, toldAt, openEdge}
+use Rattle.comparison.specs.Held.{flagRoom, mostItems, mostEdges, openBelow, isOpen, Opened, toldAt, openEdge}
 use Rattle.comparison.specs.Keys.{sumBelow}
-
-and-true : (b : Bool) → (b && true) ≡ b
-and-true true = refl
-and-true false = refl
-
-or-false : (b : Bool) → (b || false) ≡ b
-or-false true = refl
-or-false false = refl
 
 module _ (p : ℕ → Bool) where
   -- One number more: it is told where it passes, and else what is told without it.
@@ -53,23 +44,7 @@ module _ (p : ℕ → Bool) where
         | inr f ↦ open-at e g (sym (open-no e f) ∙ h)
       ]
 
-  -- Tests and sums over the numbers below e, where those that do not pass make no difference.
-  pub all-open : (q : ℕ → Bool) → ((g : ℕ) → p g ≡ false → q g ≡ true) → (e : ℕ) → allBelow e q ≡ allBelow (openBelow p e) q
-  all-open q free zero = rw open-none refl
-  all-open q free (suc e) =
-      elim (both (p e)) [
-        | inl t ↦ rw (open-yes e t) refl
-        | inr f ↦ rw (open-no e f) (ap (λ (b : Bool). allBelow e q && b) (free e f) ∙ and-true (allBelow e q) ∙ all-open q free e)
-      ]
-
-  pub some-open : (q : ℕ → Bool) → ((g : ℕ) → p g ≡ false → q g ≡ false) → (e : ℕ) → someBelow e q ≡ someBelow (openBelow p e) q
-  some-open q free zero = rw open-none refl
-  some-open q free (suc e) =
-      elim (both (p e)) [
-        | inl t ↦ rw (open-yes e t) refl
-        | inr f ↦ rw (open-no e f) (ap (λ (b : Bool). someBelow e q || b) (free e f) ∙ or-false (someBelow e q) ∙ some-open q free e)
-      ]
-
+  -- A sum over the numbers below e, where those that do not pass add nothing.
   pub sum-open : (f : ℕ → ℕ) → ((g : ℕ) → p g ≡ false → f g ≡ 0) → (e : ℕ) → sumBelow e f ≡ sumBelow (openBelow p e) f
   unfolding sumBelow
   sum-open f free zero = rw open-none refl
@@ -88,7 +63,7 @@ open-agree p q (suc e) same =
 
 -- What is held at the edge before e is the number after the last available one below e.
 pub open-held : (n k : ℕ) (flags : List ℕ) (x e last : ℕ) → Opened n k flags → x < n → ¬ (e ≡ 0) → e ≤ k
-    → last ≡ getD flags (flagRoom * x + (e - 1)) 0 → last ≡ openBelow (isSet flags x) e
+    → last ≡ getD flags (flagRoom * x + (e - 1)) 0 → last ≡ openBelow (isOpen flags x) e
 open-held n k flags x zero last opened hx he hk same = absurd (he refl)
 open-held n k flags x (suc e) last opened hx he hk same =
     let less : suc e - 1 ≡ e = omega arith in
@@ -106,11 +81,11 @@ told-most flags x e = go (both (leb v e))
     go (inr f) = rw f (omega arith)
 
 pub told-open : (n k : ℕ) (flags : List ℕ) (x e : ℕ) → Opened n k flags → x < n → ¬ (e ≡ 0) → e ≤ k
-    → toldAt flags x e ≡ openBelow (isSet flags x) e
+    → toldAt flags x e ≡ openBelow (isOpen flags x) e
 told-open n k flags x e opened hx he hk =
     let v : ℕ = getD flags (flagRoom * x + (e - 1)) 0 in
-    let same : v ≡ openBelow (isSet flags x) e = open-held n k flags x e v opened hx he hk refl in
-    let most : v ≤ e = omega (arith, same, open-most (isSet flags x) e) in
+    let same : v ≡ openBelow (isOpen flags x) e = open-held n k flags x e v opened hx he hk refl in
+    let most : v ≤ e = omega (arith, same, open-most (isOpen flags x) e) in
     ap (λ (b : Bool). cond b v 0) (le-leb v e most) ∙ same
 
 -- The same for all numbers.
@@ -123,17 +98,17 @@ edge-most flags x e = go (ltb x mostItems && leb e mostEdges) (eqb e 0)
     go false c = omega arith
 
 pub edge-open : (n k : ℕ) (flags : List ℕ) (x e : ℕ) → Opened n k flags → x < mostItems → e ≤ mostEdges → x < n → e ≤ k
-    → openEdge flags x e ≡ openBelow (isSet flags x) e
+    → openEdge flags x e ≡ openBelow (isOpen flags x) e
 edge-open n k flags x e opened few few-edges hx hk =
     ap (λ (b : Bool). cond b (cond (eqb e 0) 0 (toldAt flags x e)) 0)
     (and-iff (ltb x mostItems) (leb e mostEdges) .1 (lt-ltb x mostItems few, le-leb e mostEdges few-edges))
     ∙ go (both (eqb e 0))
   where
-    go : (eqb e 0 ≡ true) ⊎ (eqb e 0 ≡ false) → cond (eqb e 0) 0 (toldAt flags x e) ≡ openBelow (isSet flags x) e
+    go : (eqb e 0 ≡ true) ⊎ (eqb e 0 ≡ false) → cond (eqb e 0) 0 (toldAt flags x e) ≡ openBelow (isOpen flags x) e
     go (inl z) =
         ap (λ (b : Bool). cond b 0 (toldAt flags x e)) z
-        ∙ sym (open-none (isSet flags x))
-        ∙ ap (openBelow (isSet flags x)) (sym (eqb-true e 0 z))
+        ∙ sym (open-none (isOpen flags x))
+        ∙ ap (openBelow (isOpen flags x)) (sym (eqb-true e 0 z))
     go (inr o) =
         ap (λ (b : Bool). cond b 0 (toldAt flags x e)) o
         ∙ told-open n k flags x e opened hx (λ s. clash (eq-eqb e 0 s) o) hk

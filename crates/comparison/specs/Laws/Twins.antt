@@ -9,13 +9,14 @@ use lib.Dec.{eqb, ltb}
 use lib.ListN.{getD}
 use borrow.Author.Tests.{eq-eqb, eqb-true, ltb-true}
 use Rattle.bisimulation.specs.Finite.{related, sum, allBelow}
-use Rattle.bisimulation.specs.Laws.Tests.{and-iff, all-below, below-some, all-of, any-of, of-any}
-use Rattle.comparison.specs.Held.{rowRoom, chain, Onward, openBelow, isSet, actionAt, wholeAt, countAt, weightAt, targetAt, branchesFrom}
+use Rattle.bisimulation.specs.Laws.Tests.{and-iff, all-below, all-of, any-of, of-any}
+use Rattle.comparison.specs.Held.{rowRoom, chain, Onward, openBelow, isOpen, actionAt, wholeAt, countAt, weightAt, targetAt, branchesFrom}
 use Rattle.comparison.specs.Compare.{reachesRelated, delaysAnswered, weighed, balanced, balancedOver, edgesAlike}
-use Rattle.comparison.specs.Compare.{answers, someAnswers, edgeAnswered, edgesAnswered, nextIn}
+use Rattle.comparison.specs.Compare.{edgesAnswered, nextIn}
 use Rattle.comparison.specs.Twins.{RunTo, DelaysAgree, BothAlike, SameRow}
-use Rattle.comparison.specs.Laws.Compare.{answers-on, answered-free, answered-on, matched-on, next-on}
-use Rattle.comparison.specs.Laws.Open.{open-at, all-open}
+use Rattle.comparison.specs.Laws.Compare.{answers-on, matched-on, next-on}
+use Rattle.comparison.specs.Laws.Down.{Down, down-first, down-on, down-over}
+use Rattle.comparison.specs.Laws.Codes.{HasAnswer, one-answers, all-answered}
 
 -- ---- Related items have the same number
 
@@ -281,71 +282,39 @@ module _ (list resets spots rows : List ℕ) where
 -- ---- All available edges, from the last down
 
 module _ (k : ℕ) (list flags resets spots rows : List ℕ) where
-  -- Those of x from e on are answered at y: the others are all that is left, and the last of them is available.
-  pub record Down (x y e : ℕ) : Type 0 where
-    pub last : (g : ℕ) → e ≡ suc g → isSet flags x g ≡ true
-    pub rest : allBelow e (λ g. edgeAnswered k list flags resets spots rows x y g) ≡ true
-        → edgesAnswered k list flags resets spots rows x y ≡ true
-
-  -- Where all edges from g on are answered: down to the last available one below.
-  down-open : (x y e g : ℕ) → e ≡ openBelow (isSet flags x) g
-      → (allBelow g (λ h. edgeAnswered k list flags resets spots rows x y h) ≡ true
-      → edgesAnswered k list flags resets spots rows x y ≡ true)
-      → Down x y e
-  down-open x y e g same rest =
-      record {
-        last = λ h p. open-at (isSet flags x) g h (sym same ∙ p);
-        rest =
-            λ t. rest (all-open (isSet flags x) (λ h. edgeAnswered k list flags resets spots rows x y h)
-            (λ h. answered-free list flags resets spots rows k x y h) g
-            ∙ ap (λ (m : ℕ). allBelow m (λ h. edgeAnswered k list flags resets spots rows x y h)) (sym same) ∙ t);
-      }
-
-  down-start : (x y e : ℕ) → e ≡ openBelow (isSet flags x) k → Down x y e
-  unfolding edgesAnswered
-  down-start x y e same = down-open x y e k same (λ t. t)
-
-  down-set : (x y e : ℕ) → Down x y e → 0 < e → isSet flags x (e - 1) ≡ true
-  down-set x y e kept h = kept .last (e - 1) (omega arith)
-
-  -- One step: the last edge of x is alike to one that is available at y.
-  down-on : (x y e f e′ : ℕ) → Down x y e → 0 < e → f < k → isSet flags y f ≡ true
-      → edgesAlike list resets spots rows x (e - 1) y f ≡ true → e′ ≡ openBelow (isSet flags x) (e - 1) → Down x y e′
-  unfolding someAnswers
-  down-on x y zero f e′ kept h hf set alike same = absurd (omega arith)
-  down-on x y (suc g) f e′ kept h hf set alike same =
-      let less : suc g - 1 ≡ g = omega arith in
-      down-open x y e′ g (same ∙ ap (openBelow (isSet flags x)) less)
-      (λ t. kept .rest (and-iff (allBelow g (λ h. edgeAnswered k list flags resets spots rows x y h))
-      (edgeAnswered k list flags resets spots rows x y g) .1 (
-        t,
-        answered-on list flags resets spots rows k x y g (kept .last g refl)
-            ∙ below-some k (λ h. answers list flags resets spots rows x g y h) f hf
-            (answers-on list flags resets spots rows x g y f set
-            ∙ subst (λ (m : ℕ). edgesAlike list resets spots rows x m y f ≡ true) less alike),
-      )))
-
-  down-over : (x y e : ℕ) → Down x y e → e ≡ 0 → edgesAnswered k list flags resets spots rows x y ≡ true
-  down-over x y e kept same = kept .rest (ap (λ (m : ℕ). allBelow m (λ g. edgeAnswered k list flags resets spots rows x y g)) same)
-
-  -- Both ways: those of x from e on, and those of y from f on.
+  -- Both ways: those of x from e on have answers at y, and those of y from f on have answers at x.
   abbrev pub Downs : (x y e f : ℕ) → Type 0
-  Downs x y e f = Down x y e × Down y x f
+  Downs x y e f =
+      Down (isOpen flags x) (HasAnswer k list flags resets spots rows x y) k e
+      × Down (isOpen flags y) (HasAnswer k list flags resets spots rows y x) k f
 
-  pub downs-start : (x y e f : ℕ) → e ≡ openBelow (isSet flags x) k → f ≡ openBelow (isSet flags y) k → Downs x y e f
-  downs-start x y e f p q = (down-start x y e p, down-start y x f q)
+  pub downs-start : (x y e f : ℕ) → e ≡ openBelow (isOpen flags x) k → f ≡ openBelow (isOpen flags y) k → Downs x y e f
+  downs-start x y e f p q = (
+    down-first (isOpen flags x) (HasAnswer k list flags resets spots rows x y) k e p,
+    down-first (isOpen flags y) (HasAnswer k list flags resets spots rows y x) k f q,
+  )
 
+  -- One step: the last edge of x and the last one of y, both available, are alike.
   pub downs-on : (x y e f e′ f′ : ℕ) → Downs x y e f → 0 < e → e ≤ k → 0 < f → f ≤ k
-      → BothAlike list resets spots rows x (e - 1) y (f - 1) → e′ ≡ openBelow (isSet flags x) (e - 1)
-      → f′ ≡ openBelow (isSet flags y) (f - 1) → Downs x y e′ f′
+      → BothAlike list resets spots rows x (e - 1) y (f - 1) → e′ ≡ openBelow (isOpen flags x) (e - 1)
+      → f′ ≡ openBelow (isOpen flags y) (f - 1) → Downs x y e′ f′
   downs-on x y e f e′ f′ kept he ke hf kf alike p q = (
-    down-on x y e (f - 1) e′ (kept .0) he (omega arith) (down-set y x f (kept .1) hf) (alike .0) p,
-    down-on y x f (e - 1) f′ (kept .1) hf (omega arith) (down-set x y e (kept .0) he) (alike .1) q,
+    down-on (isOpen flags x) (HasAnswer k list flags resets spots rows x y) k e e′ he (kept .0)
+        (one-answers k list flags resets spots rows x (e - 1) y (f - 1) (omega arith)
+        (answers-on list flags resets spots rows x (e - 1) y (f - 1) (kept .1 .at hf) ∙ alike .0)) p,
+    down-on (isOpen flags y) (HasAnswer k list flags resets spots rows y x) k f f′ hf (kept .1)
+        (one-answers k list flags resets spots rows y (f - 1) x (e - 1) (omega arith)
+        (answers-on list flags resets spots rows y (f - 1) x (e - 1) (kept .0 .at he) ∙ alike .1)) q,
   )
 
   pub downs-over : (x y e f : ℕ) → Downs x y e f → e ≡ 0 → f ≡ 0
       → (edgesAnswered k list flags resets spots rows x y ≡ true) × (edgesAnswered k list flags resets spots rows y x ≡ true)
-  downs-over x y e f kept p q = (down-over x y e (kept .0) p, down-over y x f (kept .1) q)
+  downs-over x y e f kept p q = (
+    all-answered k list flags resets spots rows x y
+        (down-over (isOpen flags x) (HasAnswer k list flags resets spots rows x y) k e (omega (arith, p)) (kept .0)),
+    all-answered k list flags resets spots rows y x
+        (down-over (isOpen flags y) (HasAnswer k list flags resets spots rows y x) k f (omega (arith, q)) (kept .1)),
+  )
 
 -- ---- Both
 

@@ -20,7 +20,7 @@ use Rattle.regions.specs.Laws.Worklist.{member}
 use Rattle.bisimulation.specs.Structures.{Branch}
 use Rattle.bisimulation.specs.Laws.Tests.{both}
 use Rattle.partition.specs.Instances.{regionOf, delaysFrom, landsAt, graph}
-use Rattle.comparison.specs.Held.{Held, flagRoom, chain, Onward, openBelow, isSet, Opened, weightAt, targetAt, branchesFrom}
+use Rattle.comparison.specs.Held.{Held, flagRoom, chain, Onward, openBelow, isOpen, Opened, weightAt, targetAt, branchesFrom}
 use Rattle.comparison.specs.Laws.Open.{open-yes, open-no, open-most, open-agree}
 use Rattle.partition.specs.Laws.Delays.{from-map, delays-are}
 
@@ -108,14 +108,14 @@ module _ (m : Model) (found : List Region) (all : AllRegions m found) (labels ne
 
   module _ (flag : (x e : ℕ) → x < n → e < length (m .edges)
       → getD flags (flagRoom * x + e) 0 ≡ openBelow (λ f. available m (edgeOf m f) (regionOf m found x)) (suc e)) where
-    availables : (x e : ℕ) → x < n → e < length (m .edges) → available m (edgeOf m e) (regionOf m found x) ≡ isSet flags x e
+    availables : (x e : ℕ) → x < n → e < length (m .edges) → available m (edgeOf m e) (regionOf m found x) ≡ isOpen flags x e
     availables x e h k =
         flag-says (λ f. available m (edgeOf m f) (regionOf m found x)) e (getD flags (flagRoom * x + e) 0) (flag x e h k)
 
     opens : Opened n (length (m .edges)) flags
     opens x e h k =
         flag x e h k
-        ∙ open-agree (λ f. available m (edgeOf m f) (regionOf m found x)) (isSet flags x) (suc e)
+        ∙ open-agree (λ f. available m (edgeOf m f) (regionOf m found x)) (isOpen flags x) (suc e)
         (λ f b. availables x f h (omega arith))
 
   -- ---- Branches

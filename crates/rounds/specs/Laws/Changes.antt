@@ -15,7 +15,7 @@ use Rattle.bisimulation.specs.Finite.{Finite, structure, related, sum, anyOf, n
 use Rattle.bisimulation.specs.Laws.Tests.{both, same?}
 use Rattle.bisimulation.specs.Laws.Matches.{next-iff}
 use Rattle.bisimulation.specs.Laws.Blocks.{Successor, delayed, landed, Beyond, matched-kept, successor-item}
-use Rattle.comparison.specs.Held.{Held, maskRoom, mostItems, chain, isSet}
+use Rattle.comparison.specs.Held.{Held, maskRoom, mostItems, chain, isOpen}
 use Rattle.comparison.specs.Held.{actionAt, wholeAt, countAt, weightAt, maskAt, targetAt, branchesFrom}
 use Rattle.comparison.specs.Laws.Steps.{each-none, each-on, each-over}
 use Rattle.rounds.specs.Names.{Changed}
@@ -39,7 +39,7 @@ branch-one resets spots rows x e i (suc left) b (List·Memᴰ·tail m) =
 module _ (F : Finite) (n k : ℕ) (labels nexts flags resets spots rows : List ℕ)
     (held : Held F n k labels nexts flags resets spots rows) (closed : Closed (structure F)) where
   -- Available edges lead to items.
-  pub targets-below : (x e i : ℕ) → x < n → e < k → isSet flags x e ≡ true → i < countAt rows e → targetAt resets spots rows x e i < n
+  pub targets-below : (x e i : ℕ) → x < n → e < k → isOpen flags x e ≡ true → i < countAt rows e → targetAt resets spots rows x e i < n
   targets-below x e i hx he t hi =
       let available : F .available x e ≡ true = held .available x e hx he ∙ t in
       subst (λ (m : ℕ). targetAt resets spots rows x e i < m) (sym (held .size))

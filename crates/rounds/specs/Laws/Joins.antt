@@ -146,6 +146,16 @@ module _ (d : ℕ → ℕ → Bool) (n : ℕ) (old stirred anchors : List ℕ) (
         same-test (joinedBy d anchors old x) (joinedBy d anchors old y) (joined-together x y hx hy t)
         (joined-together y x hy hx (classes .symmetric x y hx hy t))
 
+    -- An item that is related to an earlier one in the next round joins where that one's mark is odd.
+    pub kin-joined : (marks : List ℕ) (z x v : ℕ) → z < x → x < n → d z x ≡ true → MarkedTo x d anchors old marks
+        → v ≡ getD marks z 0 → eqb (v % 2) 1 ≡ joinedBy d anchors old x
+    kin-joined marks z x v h hx t marked e =
+        odd (getD old z 0) (joinedBy d anchors old z) v (e ∙ marked z h) ∙ joined-same z x (omega (arith, h, hx)) hx t
+      where
+        odd : (b : ℕ) (j : Bool) (v : ℕ) → v ≡ joinMark b j → eqb (v % 2) 1 ≡ j
+        odd b true v e = eq-eqb (v % 2) 1 (omega (arith, e))
+        odd b false v e = ne-eqb (v % 2) 1 (λ o. omega (arith, e, o))
+
     joined-related : (x y : ℕ) → x < n → y < n → getD old x 0 ≡ getD old y 0
         → joinedBy d anchors old x ≡ true → joinedBy d anchors old y ≡ true → d x y ≡ true
     joined-related x y hx hy block i j = go (same? (getD anchors (getD old x 0) 0) 0)

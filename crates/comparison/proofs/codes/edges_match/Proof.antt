@@ -3,7 +3,7 @@ use Prim.Native.Nat.{ℕ, _-_, _≤_, _<_}
 use native.Mathlib.Omega.{arith}
 use mathlib.Core.Path.{sym, _∙_}
 use borrow.Author.Tests.{not-true, not-false}
-use Rattle.comparison.specs.Held.{isSet, Opened}
+use Rattle.comparison.specs.Held.{isOpen, Opened}
 use Rattle.comparison.specs.Keys.{Coded, Told}
 use Rattle.comparison.specs.Laws.Down.{Down, down-first, down-on, down-over}
 use Rattle.comparison.specs.Laws.Codes.{HasAnswer, told-at, one-unanswered, all-answered}
@@ -16,7 +16,7 @@ Inv-loop k x y list flags resets spots rows ones others e₀ e =
     (e ≤ k)
     × ((n : ℕ) → Opened n k flags → x < n → y < n → Coded k x list flags resets spots rows ones
     → Coded k y list flags resets spots rows others → Told k list flags resets spots rows x y
-    → Down (isSet flags x) (HasAnswer k list flags resets spots rows x y) k e)
+    → Down (isOpen flags x) (HasAnswer k list flags resets spots rows x y) k e)
 
 abbrev μ-loop : tie.MeasureT-loop
 μ-loop k x y list flags resets spots rows ones others e₀ e = e
@@ -30,7 +30,7 @@ loop-holds c =
     let first = c .open-below in (
       first.ensures.0,
       λ n opened hx hy one other told.
-          down-first (isSet args.flags.now args.x)
+          down-first (isOpen args.flags.now args.x)
           (HasAnswer args.k args.list.now args.flags.now args.resets.now args.spots.now args.rows.now args.x args.y) args.k first.result
           (first.ensures.1 n args.k opened hx (omega arith)),
     )
@@ -90,7 +90,7 @@ loop-again c =
       λ n opened hx hy one other told.
           let down = loop.inv.1 n opened hx hy one other told in
           let ready = down .at loop-test.taken in
-          down-on (isSet args.flags.now args.x)
+          down-on (isOpen args.flags.now args.x)
           (HasAnswer args.k args.list.now args.flags.now args.resets.now args.spots.now args.rows.now args.x args.y) args.k loop.e
           further.result loop-test.taken down
           (sym (found.ensures n opened hy other
@@ -106,7 +106,7 @@ returns-2 c =
     let loop = c .before .loop in
     λ n opened hx hy one other told.
     sym (all-answered args.k args.list.now args.flags.now args.resets.now args.spots.now args.rows.now args.x args.y
-    (down-over (isSet args.flags.now args.x)
+    (down-over (isOpen args.flags.now args.x)
     (HasAnswer args.k args.list.now args.flags.now args.resets.now args.spots.now args.rows.now args.x args.y) args.k loop.e
     (c .loop-test .left) (loop.inv.1 n opened hx hy one other told)))
 

@@ -3,7 +3,7 @@ use Prim.Native.Nat.{ℕ, _-_, _≤_, _<_}
 use native.Mathlib.Omega.{arith}
 use mathlib.Core.Path.{_≡_, sym, _∙_}
 use lib.ListN.{length, length-set}
-use Rattle.comparison.specs.Held.{mostEdges, isSet, Opened}
+use Rattle.comparison.specs.Held.{mostEdges, isOpen, Opened}
 use Rattle.comparison.specs.Laws.Down.{Down, down-first, down-over}
 use Rattle.comparison.specs.Laws.KeyLoops.{KeptAt, kept-on}
 use borrow.Author.Needs.{needs}
@@ -14,7 +14,7 @@ abbrev Inv-loop : tie.InvT-loop
 Inv-loop k x list flags resets spots rows codes₀ e₀ codes e =
     (e ≤ k)
     × (length codes ≡ mostEdges)
-    × ((n : ℕ) → Opened n k flags → x < n → Down (isSet flags x) (KeptAt x list resets spots rows codes) k e)
+    × ((n : ℕ) → Opened n k flags → x < n → Down (isOpen flags x) (KeptAt x list resets spots rows codes) k e)
 
 abbrev μ-loop : tie.MeasureT-loop
 μ-loop k x list flags resets spots rows codes₀ e₀ codes e = e
@@ -30,7 +30,7 @@ loop-holds c =
       first.ensures.0,
       pre.2,
       λ n opened hx.
-          down-first (isSet args.flags.now args.x)
+          down-first (isOpen args.flags.now args.x)
           (KeptAt args.x args.list.now args.resets.now args.spots.now args.rows.now args.codes.now) args.k first.result
           (first.ensures.1 n args.k opened hx (omega arith)),
     )
@@ -84,7 +84,7 @@ returns c =
     let loop = c .before .loop in (
       loop.inv.1,
       λ n opened hx.
-          down-over (isSet args.flags.now args.x) (KeptAt args.x args.list.now args.resets.now args.spots.now args.rows.now loop.codes)
+          down-over (isOpen args.flags.now args.x) (KeptAt args.x args.list.now args.resets.now args.spots.now args.rows.now loop.codes)
           args.k loop.e (c .loop-test .left) (loop.inv.2 n opened hx),
     )
 

@@ -3,7 +3,7 @@ use Prim.Native.Nat.{ℕ, _-_, _≤_, _<_}
 use native.Mathlib.Omega.{arith}
 use mathlib.Core.Path.{sym, _∙_}
 use mathlib.Core.Logic.{⊎-elim}
-use Rattle.comparison.specs.Held.{isSet, Opened}
+use Rattle.comparison.specs.Held.{isOpen, Opened}
 use Rattle.comparison.specs.Keys.{Coded, ToldBy}
 use Rattle.comparison.specs.Laws.Compare.{answers-on}
 use Rattle.comparison.specs.Laws.Down.{Down, down-first, down-on, down-over}
@@ -16,7 +16,7 @@ abbrev Inv-loop : tie.InvT-loop
 Inv-loop k x e y code list flags resets spots rows codes f₀ f =
     (f ≤ k)
     × ((n : ℕ) → Opened n k flags → y < n → Coded k y list flags resets spots rows codes
-    → ToldBy k list flags resets spots rows x e y code → Down (isSet flags y) (NoAnswer list flags resets spots rows x e y) k f)
+    → ToldBy k list flags resets spots rows x e y code → Down (isOpen flags y) (NoAnswer list flags resets spots rows x e y) k f)
 
 abbrev μ-loop : tie.MeasureT-loop
 μ-loop k x e y code list flags resets spots rows codes f₀ f = f
@@ -30,7 +30,7 @@ loop-holds c =
     let first = c .open-below in (
       first.ensures.0,
       λ n opened hy coded told.
-          down-first (isSet args.flags.now args.y)
+          down-first (isOpen args.flags.now args.y)
           (NoAnswer args.list.now args.flags.now args.resets.now args.spots.now args.rows.now args.x args.e args.y) args.k first.result
           (first.ensures.1 n args.k opened hy (omega arith)),
     )
@@ -84,7 +84,7 @@ loop-again c =
       λ n opened hy coded told.
           let down = loop.inv.1 n opened hy coded told in
           let ready = down .at loop-test.taken in
-          down-on (isSet args.flags.now args.y)
+          down-on (isOpen args.flags.now args.y)
           (NoAnswer args.list.now args.flags.now args.resets.now args.spots.now args.rows.now args.x args.e args.y) args.k loop.f
           further.result loop-test.taken down
           (⊎-elim
@@ -105,7 +105,7 @@ returns-2 c =
     let loop = c .before .loop in
     λ n opened hy coded told.
     sym (none-answers args.k args.list.now args.flags.now args.resets.now args.spots.now args.rows.now args.x args.e args.y
-    (down-over (isSet args.flags.now args.y)
+    (down-over (isOpen args.flags.now args.y)
     (NoAnswer args.list.now args.flags.now args.resets.now args.spots.now args.rows.now args.x args.e args.y) args.k loop.f
     (c .loop-test .left) (loop.inv.1 n opened hy coded told)))
 

@@ -4,7 +4,7 @@ use native.Mathlib.Omega.{arith}
 use mathlib.Core.Path.{sym, _∙_, ap}
 use mathlib.Core.Bool.{not}
 use Rattle.bisimulation.specs.Laws.Tests.{below-some}
-use Rattle.comparison.specs.Held.{isSet, Opened}
+use Rattle.comparison.specs.Held.{isOpen, Opened}
 use Rattle.comparison.specs.Laws.Down.{Down, down-first, down-on, down-over}
 use Rattle.comparison.specs.Laws.KeyLoops.{hasCode, NoCode, code-hit, code-miss, code-none}
 use borrow.Author.Needs.{needs}
@@ -13,7 +13,7 @@ use Rattle.comparison.proofs.keys.is_code_new.Tie as tie
 
 abbrev Inv-loop : tie.InvT-loop
 Inv-loop e x code codes flags f₀ f =
-    (f ≤ e) × ((n k : ℕ) → Opened n k flags → x < n → e ≤ k → Down (isSet flags x) (NoCode flags codes x code) e f)
+    (f ≤ e) × ((n k : ℕ) → Opened n k flags → x < n → e ≤ k → Down (isOpen flags x) (NoCode flags codes x code) e f)
 
 abbrev μ-loop : tie.MeasureT-loop
 μ-loop e x code codes flags f₀ f = f
@@ -27,7 +27,7 @@ loop-holds c =
     let first = c .open-below in (
       first.ensures.0,
       λ n k opened hx he.
-          down-first (isSet args.flags.now args.x) (NoCode args.flags.now args.codes.now args.x args.code) args.e first.result
+          down-first (isOpen args.flags.now args.x) (NoCode args.flags.now args.codes.now args.x args.code) args.e first.result
           (first.ensures.1 n k opened hx he),
     )
 
@@ -67,7 +67,7 @@ loop-again c =
     let further = c .open-below2 in (
       omega (arith, further.ensures.0, loop.inv.0),
       λ n k opened hx he.
-          down-on (isSet args.flags.now args.x) (NoCode args.flags.now args.codes.now args.x args.code) args.e loop.f further.result
+          down-on (isOpen args.flags.now args.x) (NoCode args.flags.now args.codes.now args.x args.code) args.e loop.f further.result
           loop-test.taken (loop.inv.1 n k opened hx he)
           (code-miss args.flags.now args.codes.now args.x args.code (loop.f - 1) (λ s. if1.left (at64.ensures ∙ s)))
           (further.ensures.1 n k opened hx (omega (arith, loop.inv.0, he))),
@@ -79,7 +79,7 @@ returns-2 c =
     let loop = c .before .loop in
     λ n k opened hx he.
     sym (ap not (code-none args.flags.now args.codes.now args.x args.code args.e
-    (down-over (isSet args.flags.now args.x) (NoCode args.flags.now args.codes.now args.x args.code) args.e loop.f (c .loop-test .left)
+    (down-over (isOpen args.flags.now args.x) (NoCode args.flags.now args.codes.now args.x args.code) args.e loop.f (c .loop-test .left)
     (loop.inv.1 n k opened hx he))))
 
 pub is-code-new-spec : {M : Type 1} → statement M

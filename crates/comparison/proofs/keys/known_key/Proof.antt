@@ -1,7 +1,8 @@
 -- `known_key` meets its contract. Assumes nothing.
-use mathlib.Core.Path.{refl, _∙_, ap}
+use mathlib.Core.Path.{refl, sym, _∙_, ap}
+use mathlib.Core.Logic.{inl}
 use lib.ListN.{length, length-set}
-use Rattle.comparison.specs.Laws.KeyLoops.{known-old, known-new}
+use Rattle.comparison.specs.Laws.KeyLoops.{known-old, known-new, asked-put}
 use borrow.Author.Needs.{needs}
 use Rattle.comparison.proofs.keys.known_key.Statement.{statement}
 use Rattle.comparison.proofs.keys.known_key.Tie as tie
@@ -18,11 +19,14 @@ returns c =
     let at64 = c .before .at64 in
     let if1 = c .if1 in (
       refl,
-      λ opened hx known. (
-        at64.ensures
-            ∙ known-old args.n args.k args.names.now args.keys.now args.nexts.now args.flags.now args.resets.now args.spots.now
-            args.rows.now known args.x hx (λ none. if1.taken (at64.ensures ∙ none)),
-        known,
+      (
+        λ opened hx known. (
+          at64.ensures
+              ∙ known-old args.n args.k args.names.now args.keys.now args.nexts.now args.flags.now args.resets.now args.spots.now
+              args.rows.now known args.x hx (λ none. if1.taken (at64.ensures ∙ none)),
+          known,
+        ),
+        λ z. inl refl,
       ),
     )
 
@@ -40,13 +44,18 @@ returns-2 c =
     let args = c .before .before .before .before .before .before .before .before .before .before .before
     .before .before .before .before .args in
     let key-of = c .before .before .before .before .key-of in
+    let at64 = c .before .before .before .before .before .before .at64 in
+    let if1 = c .before .before .before .before .before .if1 in
     let put-key = c .before .before .put-key in (
       ap length put-key.ensures ∙ length-set args.keys.now args.x key-of.result,
-      λ opened hx known. (
-        key-of.ensures opened hx,
-        rw put-key.ensures
-            (known-new args.n args.k args.names.now args.keys.now args.nexts.now args.flags.now args.resets.now args.spots.now
-            args.rows.now known args.x key-of.result (key-of.ensures opened hx)),
+      (
+        λ opened hx known. (
+          key-of.ensures opened hx,
+          rw put-key.ensures
+              (known-new args.n args.k args.names.now args.keys.now args.nexts.now args.flags.now args.resets.now args.spots.now
+              args.rows.now known args.x key-of.result (key-of.ensures opened hx)),
+        ),
+        rw put-key.ensures (asked-put args.x key-of.result args.keys.now (sym at64.ensures ∙ if1.left)),
       ),
     )
 

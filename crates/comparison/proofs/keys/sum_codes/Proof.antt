@@ -3,7 +3,7 @@ use Prim.Native.Nat.{ℕ, _+_, _*_, _-_, _≤_, _<_}
 use native.Mathlib.Omega.{arith}
 use mathlib.Core.Path.{_∙_}
 use mathlib.Core.List.{List}
-use Rattle.comparison.specs.Held.{isSet, Opened}
+use Rattle.comparison.specs.Held.{isOpen, Opened}
 use Rattle.comparison.specs.Keys.{edgeKey, Coded}
 use Rattle.comparison.specs.Laws.Down.{SumDown, sums-first, sums-on, sums-over}
 use Rattle.comparison.specs.Laws.KeyLoops.{addedBy, adds-none, coded-small, coded-adds}
@@ -16,7 +16,7 @@ Inv-loop k x codes flags total₀ e₀ total e =
     (e ≤ k)
     × (total + 1099511627688 * e ≤ 140737488344064)
     × ((n : ℕ) (list resets spots rows : List ℕ) → Opened n k flags → x < n → Coded k x list flags resets spots rows codes
-    → SumDown (isSet flags x) (addedBy list flags resets spots rows x) k e total)
+    → SumDown (isOpen flags x) (addedBy list flags resets spots rows x) k e total)
 
 abbrev μ-loop : tie.MeasureT-loop
 μ-loop k x codes flags total₀ e₀ total e = e
@@ -32,7 +32,7 @@ loop-holds c =
       first.ensures.0,
       omega (arith, first.ensures.0, pre.0),
       λ n list resets spots rows opened hx coded.
-          sums-first (isSet args.flags.now args.x) (addedBy list args.flags.now resets spots rows args.x)
+          sums-first (isOpen args.flags.now args.x) (addedBy list args.flags.now resets spots rows args.x)
           (adds-none list args.flags.now resets spots rows args.x) args.k first.result (first.ensures.1 n args.k opened hx (omega arith)),
     )
 
@@ -66,7 +66,7 @@ loop-again c =
       λ n list resets spots rows opened hx coded.
           let down = loop.inv.2 n list resets spots rows opened hx coded in
           let below : loop.e - 1 < args.k = omega (arith, loop.inv.0, loop-test.taken) in
-          sums-on (isSet args.flags.now args.x) (addedBy list args.flags.now resets spots rows args.x)
+          sums-on (isOpen args.flags.now args.x) (addedBy list args.flags.now resets spots rows args.x)
           (adds-none list args.flags.now resets spots rows args.x) args.k loop.e further.result loop.total added.result loop-test.taken down
           (added.ensures.1 n args.k opened hx below
           (coded-small args.k args.x list args.flags.now resets spots rows args.codes.now coded (loop.e - 1) below (down .at loop-test.taken))
@@ -81,7 +81,7 @@ returns c =
     let loop = c .before .loop in (
       omega (arith, loop.inv.1),
       λ n list resets spots rows opened hx coded.
-          sums-over (isSet args.flags.now args.x) (addedBy list args.flags.now resets spots rows args.x)
+          sums-over (isOpen args.flags.now args.x) (addedBy list args.flags.now resets spots rows args.x)
           (adds-none list args.flags.now resets spots rows args.x) args.k loop.e loop.total (c .loop-test .left)
           (loop.inv.2 n list resets spots rows opened hx coded),
     )

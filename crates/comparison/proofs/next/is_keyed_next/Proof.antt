@@ -1,7 +1,9 @@
 -- `is_keyed_next` meets its contract. Assumes nothing.
 use mathlib.Core.Path.{refl, sym, _∙_}
+use mathlib.Core.Logic.{inl}
 use borrow.Author.Tests.{not-true, not-false}
 use Rattle.bisimulation.specs.Laws.Tests.{clash}
+use Rattle.comparison.specs.Laws.KeyLoops.{asked-both}
 use Rattle.comparison.specs.Laws.Keyed.{keys-part, twins-meet, keyed-on}
 use borrow.Author.Needs.{needs}
 use Rattle.comparison.proofs.next.is_keyed_next.Statement.{statement}
@@ -15,8 +17,11 @@ returns c =
     let are-items = c .before .are-items in
     let if1 = c .if1 in (
       refl,
-      λ F keyed hx hy. absurd (clash (are-items.ensures.1 (keyed .held .few) (keyed .held .few-edges) hx hy)
-          (not-true are-items.result if1.taken)),
+      (
+        λ F keyed hx hy. absurd (clash (are-items.ensures.1.0 (keyed .held .few) (keyed .held .few-edges) hx hy)
+            (not-true are-items.result if1.taken)),
+        λ z. inl refl,
+      ),
     )
 
 at64-requires : tie.Need-at64-requires
@@ -35,10 +40,13 @@ returns-2 c =
     let is-twin = c .before .is-twin in
     let if3 = c .if3 in (
       refl,
-      λ F keyed hx hy. (
-        sym (twins-meet (keyed .held) (keyed .closed) args.names.now args.x args.y hx hy
-            (is-twin.ensures if3.taken (keyed .held .onward) (keyed .held .opened) hx hy)),
-        keyed,
+      (
+        λ F keyed hx hy. (
+          sym (twins-meet (keyed .held) (keyed .closed) args.names.now args.x args.y hx hy
+              (is-twin.ensures.0 if3.taken (keyed .held .onward) (keyed .held .opened) hx hy)),
+          keyed,
+        ),
+        λ z. inl refl,
       ),
     )
 
@@ -65,12 +73,16 @@ returns-3 c =
     .before .before .before .before .before .before .before .before .before .before .args in
     let if4 = c .if4 in (
       known-key2.ensures.0 ∙ known-key.ensures.0,
-      λ F keyed hx hy.
-          let (one, known) = known-key.ensures.1 (keyed .held .opened) hx (keyed .keyed) in
-          let (other, known′) = known-key2.ensures.1 (keyed .held .opened) hy known in (
-            sym (keys-part keyed args.x args.y known-key.result known-key2.result hx hy one other if4.taken),
-            keyed-on keyed (known-key2 .last .1 .1 .1 .1 .1 .1 .1 .1 .1 .0) known′,
-          ),
+      (
+        λ F keyed hx hy.
+            let (one, known) = known-key.ensures.1.0 (keyed .held .opened) hx (keyed .keyed) in
+            let (other, known′) = known-key2.ensures.1.0 (keyed .held .opened) hy known in (
+              sym (keys-part keyed args.x args.y known-key.result known-key2.result hx hy one other if4.taken),
+              keyed-on keyed (known-key2 .last .1 .1 .1 .1 .1 .1 .1 .1 .1 .0) known′,
+            ),
+        asked-both args.x args.y args.keys.now (known-key .last .1 .1 .1 .1 .1 .1 .1 .1 .1 .0) (known-key2 .last .1 .1 .1 .1 .1 .1 .1 .1 .1 .0)
+            known-key.ensures.1.1 known-key2.ensures.1.1,
+      ),
     )
 
 is-next-requires : tie.Need-is-next-requires
@@ -83,14 +95,20 @@ returns-4 : tie.Need-returns-4
 returns-4 c =
     let known-key2 = c .before .before .before .before .known-key2 in
     let known-key = c .before .before .before .before .before .before .before .before .known-key in
+    let args = c .before .before .before .before .before .before .before .before .before .before .before .before
+    .before .before .before .before .before .before .before .before .before .before .before .args in
     let is-next = c .is-next in (
       known-key2.ensures.0 ∙ known-key.ensures.0,
-      λ F keyed hx hy.
-          let (_, known) = known-key.ensures.1 (keyed .held .opened) hx (keyed .keyed) in
-          let (_, known′) = known-key2.ensures.1 (keyed .held .opened) hy known in (
-            is-next.ensures F (keyed .held) (keyed .closed) (keyed .below) hx hy,
-            keyed-on keyed (known-key2 .last .1 .1 .1 .1 .1 .1 .1 .1 .1 .0) known′,
-          ),
+      (
+        λ F keyed hx hy.
+            let (_, known) = known-key.ensures.1.0 (keyed .held .opened) hx (keyed .keyed) in
+            let (_, known′) = known-key2.ensures.1.0 (keyed .held .opened) hy known in (
+              is-next.ensures.0 F (keyed .held) (keyed .closed) (keyed .below) hx hy,
+              keyed-on keyed (known-key2 .last .1 .1 .1 .1 .1 .1 .1 .1 .1 .0) known′,
+            ),
+        asked-both args.x args.y args.keys.now (known-key .last .1 .1 .1 .1 .1 .1 .1 .1 .1 .0) (known-key2 .last .1 .1 .1 .1 .1 .1 .1 .1 .1 .0)
+            known-key.ensures.1.1 known-key2.ensures.1.1,
+      ),
     )
 
 pub is-keyed-next-spec : {M : Type 1} → statement M

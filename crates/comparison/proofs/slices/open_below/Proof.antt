@@ -1,7 +1,7 @@
 -- `open_below` meets its contract. Assumes nothing.
 use native.Mathlib.Omega.{arith}
 use mathlib.Core.Path.{sym, _∙_, ap}
-use Rattle.comparison.specs.Held.{isSet, openBelow}
+use Rattle.comparison.specs.Held.{isOpen, openBelow}
 use Rattle.comparison.specs.Laws.Open.{open-none, told-most, told-open}
 use borrow.Author.Needs.{needs}
 use Rattle.comparison.proofs.slices.open_below.Statement.{statement}
@@ -11,8 +11,8 @@ returns : tie.Need-returns
 returns c =
     let args = c .before .before .args in (
       omega arith,
-      λ n k _ _ _. sym (ap (openBelow (isSet args.flags.now args.x)) (c .if1 .taken)
-          ∙ open-none (isSet args.flags.now args.x)),
+      λ n k _ _ _. sym (ap (openBelow (isOpen args.flags.now args.x)) (c .if1 .taken)
+          ∙ open-none (isOpen args.flags.now args.x)),
     )
 
 told-at-requires : tie.Need-told-at-requires

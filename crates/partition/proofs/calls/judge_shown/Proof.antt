@@ -18,7 +18,7 @@ returns-2 c =
     let args = c .before .before .before .before .before .before .before .before .before .before .args in
     let if1 = c .before .before .if1 in
     let judge = c .before .judge in
-    λ m found long held closed. judged-well m found args.proposal.now (if1.left ∙ long) (sym (judge.ensures _ held
+    λ m found long held closed. judged-well m found args.proposal.now (if1.left ∙ long) (sym (judge.ensures.0 _ held
     closed) ∙ (c .if2 .taken))
 
 returns-3 : tie.Need-returns-3
@@ -26,7 +26,7 @@ returns-3 c =
     let args = c .before .before .before .before .before .before .before .before .before .before .args in
     let if1 = c .before .before .if1 in
     let judge = c .before .judge in
-    λ m found long held closed. eighteen m found args.proposal.now (if1.left ∙ long) (sym (judge.ensures _ held
+    λ m found long held closed. eighteen m found args.proposal.now (if1.left ∙ long) (sym (judge.ensures.0 _ held
     closed) ∙ (c .if2 .left))
 
 pub judge-shown-spec : {M : Type 1} → statement M

@@ -4,7 +4,7 @@ use native.Mathlib.Omega.{arith}
 use mathlib.Core.Path.{refl, _∙_}
 use borrow.Author.Tests.{not-false}
 use Rattle.bisimulation.specs.Laws.Tests.{clash}
-use Rattle.comparison.specs.Held.{isSet, Opened}
+use Rattle.comparison.specs.Held.{isOpen, Opened}
 use Rattle.rounds.specs.Changes.{EdgeClassed}
 use Rattle.comparison.specs.Laws.Open.{edge-most, edge-open}
 use Rattle.comparison.specs.Laws.Down.{Down, down-first, down-on, down-over}
@@ -14,7 +14,7 @@ use Rattle.rounds.proofs.changes.is_item_classed.Tie as tie
 
 abbrev Inv-loop : tie.InvT-loop
 Inv-loop n k x flags resets spots rows e₀ e =
-    (e ≤ k) × (Opened n k flags → x < n → Down (isSet flags x) (EdgeClassed n resets spots rows x) k e)
+    (e ≤ k) × (Opened n k flags → x < n → Down (isOpen flags x) (EdgeClassed n resets spots rows x) k e)
 
 abbrev μ-loop : tie.MeasureT-loop
 μ-loop n k x flags resets spots rows e₀ e = e
@@ -28,7 +28,7 @@ loop-holds c =
     let args = c .before .before .before .before .before .args in
     let pre = c .before .before .before .before .before .pre in (
       omega (arith, open-edge.ensures, edge-most args.flags.now args.x args.k),
-      λ opened inside. down-first (isSet args.flags.now args.x) (EdgeClassed args.n args.resets.now args.spots.now
+      λ opened inside. down-first (isOpen args.flags.now args.x) (EdgeClassed args.n args.resets.now args.spots.now
           args.rows.now args.x) args.k open-edge.result (open-edge.ensures ∙ edge-open args.n args.k args.flags.now args.x args.k opened pre.2 pre.1 inside (omega arith)),
     )
 
@@ -65,7 +65,7 @@ loop-again c =
     let is-edge-classed = c .before .before .is-edge-classed in
     let if1 = c .before .if1 in (
       omega (arith, open-edge2.ensures, edge-most args.flags.now args.x (loop.e - 1), loop.inv.0, loop-test.taken),
-      λ opened inside. down-on (isSet args.flags.now args.x) (EdgeClassed args.n args.resets.now args.spots.now args.rows.now
+      λ opened inside. down-on (isOpen args.flags.now args.x) (EdgeClassed args.n args.resets.now args.spots.now args.rows.now
           args.x) args.k loop.e open-edge2.result loop-test.taken (loop.inv.1 opened inside) (is-edge-classed.ensures
           (not-false is-edge-classed.result if1.left)) (open-edge2.ensures ∙ edge-open args.n args.k args.flags.now args.x (loop.e - 1) opened pre.2 (omega (arith, loop.inv.0, pre.1)) inside (omega (arith, loop.inv.0))),
     )
@@ -75,7 +75,7 @@ returns-2 c =
     let args = c .before .before .before .before .before .before .before .args in
     let loop = c .before .loop in
     let loop-test = c .loop-test in
-    λ _ opened inside. down-over (isSet args.flags.now args.x) (EdgeClassed args.n args.resets.now args.spots.now
+    λ _ opened inside. down-over (isOpen args.flags.now args.x) (EdgeClassed args.n args.resets.now args.spots.now
     args.rows.now args.x) args.k loop.e loop-test.left (loop.inv.1 opened inside)
 
 pub is-item-classed-spec : {M : Type 1} → statement M

@@ -32,7 +32,7 @@ returns-2 c =
     let at16 = c .before .before .before .before .at16 in
     let if1 = c .before .before .if1 in
     let at162 = c .before .before .before .at162 in
-    λ F held closed below hx hy r. sym (is-twin.ensures if2.taken (held .onward) (held .opened) hx hy) ∙ next-held F args.n
+    λ F held closed below hx hy r. sym (is-twin.ensures.0 if2.taken (held .onward) (held .opened) hx hy) ∙ next-held F args.n
     args.k args.list.now args.labels.now args.nexts.now args.flags.now args.resets.now args.spots.now args.rows.now held closed
     args.x args.y hx hy ∙ judged-next F args.list.now args.x args.y (sym (held .label args.x hx) ∙ sym at16.ensures.0 ∙
     if1.left ∙ at162.ensures.0 ∙ held .label args.y hy) r
@@ -47,7 +47,7 @@ returns-3 c =
     let at16 = c .before .before .before .before .before .at16 in
     let if1 = c .before .before .before .if1 in
     let at162 = c .before .before .before .before .at162 in
-    λ F held closed below hx hy r. is-next.ensures F held closed below hx hy ∙ judged-next F args.list.now args.x args.y (sym
+    λ F held closed below hx hy r. is-next.ensures.0 F held closed below hx hy ∙ judged-next F args.list.now args.x args.y (sym
     (held .label args.x hx) ∙ sym at16.ensures.0 ∙ if1.left ∙ at162.ensures.0 ∙ held .label args.y hy) r
 
 pub is-alike-spec : {M : Type 1} → statement M

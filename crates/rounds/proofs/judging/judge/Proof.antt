@@ -1,7 +1,7 @@
 -- `judge` meets its contract. Assumes nothing.
 use Prim.Native.Nat.{ℕ}
 use native.Mathlib.Omega.{arith}
-use mathlib.Core.Path.{_∙_}
+use mathlib.Core.Path.{refl, _∙_}
 use lib.ListN.{length-replicate}
 use Rattle.bisimulation.specs.Laws.Leads.{related-equivalence, reps-own, reps-agree}
 use Rattle.rounds.specs.Laws.Rounds.{accepts-agree}
@@ -10,7 +10,7 @@ use Rattle.rounds.proofs.judging.judge.Statement.{statement}
 use Rattle.rounds.proofs.judging.judge.Tie as tie
 
 returns : tie.Need-returns
-returns c = λ F held closed. absurd (omega (arith, held .few, (c .if1) .taken))
+returns c = (λ F held closed. absurd (omega (arith, held .few, (c .if1) .taken)), λ h. refl)
 
 slice-aggregate-list-firsts : tie.Need-slice-aggregate-list-firsts
 slice-aggregate-list-firsts c = search needs
@@ -31,9 +31,14 @@ returns-2 c =
     let list-firsts = c .before .before .before .list-firsts in
     let args = c .before .before .before .before .before .before .before .before .before .before .before .before .before
     .args in
-    λ F held closed. let reps = list-firsts.ensures.1 in let classes = related-equivalence args.n args.proposal.now in (c
-    .judge-firsts) .ensures F held closed (reps-own classes reps) ∙ accepts-agree F closed list-firsts.last.1.1.0
-    args.proposal.now (rw (← held .size) (reps-agree classes reps))
+    let if1 = c .before .before .before .before .before .if1 in (
+      λ F held closed.
+          let reps = list-firsts.ensures.1 in
+          let classes = related-equivalence args.n args.proposal.now in
+          c .judge-firsts .ensures F held closed (reps-own classes reps)
+          ∙ accepts-agree F closed list-firsts.last.1.1.0 args.proposal.now (rw (← held .size) (reps-agree classes reps)),
+      λ h. absurd (omega (arith, h, if1.left)),
+    )
 
 pub judge-spec : {M : Type 1} → statement M
 judge-spec =

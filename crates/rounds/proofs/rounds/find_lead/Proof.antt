@@ -52,7 +52,7 @@ returns c =
       is-keyed-next.ensures.0 ∙ loop.inv.0,
       λ F keyed step chains hx e h.
           let (w, known) = loop.inv.1 F keyed step chains hx e h in
-          let (told, known′) = is-keyed-next.ensures.1 F known (omega (arith, w .below)) hx in (
+          let (told, known′) = is-keyed-next.ensures.1.0 F known (omega (arith, w .below)) hx in (
             record {
               hits = λ _. (
                 walk-hit (next F args.names.now) args.n args.mid.now step args.x loop.y hx w (sym told ∙
@@ -86,7 +86,7 @@ returns-2 c =
       is-keyed-next.ensures.0 ∙ loop.inv.0,
       λ F keyed step chains hx e h.
           let (w, known) = loop.inv.1 F keyed step chains hx e h in
-          let (told, known′) = is-keyed-next.ensures.1 F known (omega (arith, w .below)) hx in (
+          let (told, known′) = is-keyed-next.ensures.1.0 F known (omega (arith, w .below)) hx in (
             record {
               hits = λ t. absurd (true≢false (sym t));
               misses = λ _. walk-end (next F args.names.now) args.n args.mid.now step args.links.now args.x hx chains
@@ -115,7 +115,7 @@ loop-again c =
       is-keyed-next.ensures.0 ∙ loop.inv.0,
       λ F keyed step chains hx e h.
           let (w, known) = loop.inv.1 F keyed step chains hx e h in
-          let (told, known′) = is-keyed-next.ensures.1 F known (omega (arith, w .below)) hx in (
+          let (told, known′) = is-keyed-next.ensures.1.0 F known (omega (arith, w .below)) hx in (
             walk-on (next F args.names.now) args.n args.mid.now step args.links.now args.x hx chains loop.y at16.result
                 w (sym told ∙ if1.left)
                 at16.ensures.0 if2.left,

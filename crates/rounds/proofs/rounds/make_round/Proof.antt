@@ -24,7 +24,9 @@ slice-aggregate-fill-marks-2 : tie.Need-slice-aggregate-fill-marks-2
 slice-aggregate-fill-marks-2 c = search needs
 
 fill-marks-requires : tie.Need-fill-marks-requires
-fill-marks-requires c κs = search needs
+fill-marks-requires c κs =
+    let pre = c .before .before .before .before .before .before .before .before .before .before .before .before .before .before .before .before .before .pre in
+    (omega (arith, pre .1, length-replicate {A = ℕ} 4096 0), pre .1)
 
 slice-aggregate-first-round : tie.Need-slice-aggregate-first-round
 slice-aggregate-first-round c = search needs
@@ -46,9 +48,7 @@ slice-aggregate-next-round-3 c = search needs
 
 next-round-requires : tie.Need-next-round-requires
 next-round-requires c κs =
-    let pre = c .before .before .before .before .before .before .before .before .before .before .before .before .before
-    .before .before .before .before .before .before .before .before .before .before .before .before .before .before
-    .before .before .before .pre in
+    let pre = c .before .before .before .before .before .before .before .before .before .before .before .before .before .before .before .before .before .before .before .before .before .before .before .before .before .before .before .before .before .before .pre in
     (pre.0, pre.1, omega (arith, pre.1, length-replicate {A = ℕ} 4096 0))
 
 same-length : tie.Need-same-length
@@ -60,19 +60,14 @@ same-length-2 c = search needs
 returns : tie.Need-returns
 returns c =
     let next-round = c .before .before .before .before .before .next-round in
-    let fill-marks = c .before .before .before .before .before .before .before .before .before .before .before .before
-    .before .before .before .before .before .before .fill-marks in
-    let find-anchors = c .before .before .before .before .before .before .before .before .before .before .before
-    .before .before .before .before .before .before .before .before .before .before .before .before .find-anchors in
-    let args = c .before .before .before .before .before .before .before .before .before .before .before .before
-    .before .before .before .before .before .before .before .before .before .before .before .before .before .before
-    .before .before .before .before .before .before .before .before .before .before .args in
-    let first-round = c .before .before .before .before .before .before .before .before .before .before .before .before
-    .first-round in (
+    let fill-marks = c .before .before .before .before .before .before .before .before .before .before .before .before .before .before .before .before .before .before .fill-marks in
+    let find-anchors = c .before .before .before .before .before .before .before .before .before .before .before .before .before .before .before .before .before .before .before .before .before .before .before .find-anchors in
+    let args = c .before .before .before .before .before .before .before .before .before .before .before .before .before .before .before .before .before .before .before .before .before .before .before .before .before .before .before .before .before .before .before .before .before .before .before .before .args in
+    let first-round = c .before .before .before .before .before .before .before .before .before .before .before .before .first-round in (
       (next-round.ensures.0.0 ∙ fill-marks.ensures.0.0, next-round.ensures.0.2, next-round.ensures.0.3),
       λ F keyed step settled.
           let anchored = find-anchors.ensures.1 (step .reps) in
-          let (marked, known) = fill-marks.ensures.1 F keyed settled anchored (step .reps) in
+          let (marked, known) = fill-marks.ensures.1 F keyed settled anchored step in
           next-round.ensures.1 F known (marks-sort (next F args.names.now) args.n args.old.now args.stirred.now
           (find-anchors .last .1 .1 .1 .0) anchored
           (step .classes) (step .finer) (fill-marks .last .1 .1 .1 .1 .1 .1 .1 .1 .1 .1 .1 .1 .1 .0) marked

@@ -4,8 +4,8 @@ use lib.ListN.{length, length-set}
 use Prim.Native.Nat.{_+_}
 use Rattle.rounds.specs.Laws.Rounds.{kins-kept, kins-put, older-put}
 use borrow.Author.Needs.{needs}
-use Rattle.rounds.proofs.rounds.put_kin.Statement.{statement}
-use Rattle.rounds.proofs.rounds.put_kin.Tie as tie
+use Rattle.rounds.proofs.kins.put_kin.Statement.{statement}
+use Rattle.rounds.proofs.kins.put_kin.Tie as tie
 
 at64-requires : tie.Need-at64-requires
 at64-requires c κs = search needs
@@ -35,7 +35,7 @@ same-length-2 c =
     let put-link2 = c .before .before .put-link2 in
     let args = c .before .before .before .before .before .before .before .before .before .before .before .before
     .before .before .before .args in
-    ap length put-link2.ensures ∙ length-set args.kins.now args.start (args.x + 1)
+    ap length put-link2.ensures ∙ length-set args.kins.now args.sign (args.x + 1)
 
 returns : tie.Need-returns
 returns c =
@@ -46,12 +46,12 @@ returns c =
     .before .before .before .args in (
       (
         ap length put-link.ensures ∙ length-set args.older.now args.x at16.result,
-        ap length put-link2.ensures ∙ length-set args.kins.now args.start (args.x + 1),
+        ap length put-link2.ensures ∙ length-set args.kins.now args.sign (args.x + 1),
       ),
       λ olds kins. (
-        older-put args.kins.now args.older.now (put-link .last .1 .1 .0) args.x args.start at16.result at16.ensures.0
+        older-put args.kins.now args.older.now (put-link .last .1 .1 .0) args.x args.sign at16.result at16.ensures.0
             put-link.ensures kins olds,
-        kins-put args.kins.now (put-link2 .last .1 .1 .0) args.x args.start put-link2.ensures kins,
+        kins-put args.kins.now (put-link2 .last .1 .1 .0) args.x args.sign put-link2.ensures kins,
       ),
     )
 

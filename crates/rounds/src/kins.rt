@@ -1,0 +1,124 @@
+// Kins: earlier items that stand for others. What was found of a kin holds of every item that is plainly alike to it, and is not worked
+// out again. Items of one block may have their edges in different orders, and a kin stands for one order: kins are found by a sign of it.
+ghost use Prim.Native.Nat.{ℕ, suc, _+_, _<_};
+ghost use mathlib.Core.Path.{_≡_};
+ghost use lib.ListN.{length};
+ghost use Rattle.bisimulation.specs.Structures.{Closed};
+ghost use Rattle.bisimulation.specs.Finite.{Finite, structure, next};
+ghost use Rattle.comparison.specs.Held.{Held};
+ghost use Rattle.rounds.specs.Rounds.{Kins, KinOf};
+use crate::stores::put_link;
+use comparison::at16;
+use comparison::at64;
+use comparison::index_at;
+use comparison::is_twin;
+use comparison::open_edge;
+use comparison::target_of;
+
+// How many kins of one sign are tried for an item. Only the speed depends on it.
+const KIN_COUNT: usize = 8;
+
+const SIGN_PRIME: usize = 4093;
+
+const SIGN_BASE: usize = 31;
+
+// Takes an edge of item x into a sign: its action, and the weight and the block of each of its branches.
+fn sign_edge(
+    x: usize,
+    e: usize,
+    names: &[u64],
+    resets: &[u16],
+    spots: &[u16],
+    rows: &[u16],
+    sign: usize,
+) -> usize
+    requires { ⌜ (e < 128) × (sign < 4096) ⌝ }
+    ensures { λ r. ⌜ r < 4096 ⌝ }
+{
+    let count = at16(rows, 32 * e + 2);
+    let mut now = (sign * SIGN_BASE + at16(rows, 32 * e)) % SIGN_PRIME;
+    let mut i = 0;
+    while i < count {
+        let block = index_at(names, target_of(x, e, i, resets, spots, rows)) % 4096;
+        let weight = at16(rows, 32 * e + 3 + 3 * i);
+        now = ((now * SIGN_BASE + block) * SIGN_BASE + weight) % SIGN_PRIME;
+        i = i + 1;
+    }
+    now
+}
+
+// The sign of item x: a number of its available edges, from the last down, under which its kins are found. Items that are plainly alike
+// have the same; others seldom do, but for those that differ in their delays or denominators alone. Nothing is said of it, and only the
+// speed depends on it.
+pub(crate) fn sign_of(
+    k: usize,
+    x: usize,
+    names: &[u64],
+    flags: &[u8],
+    resets: &[u16],
+    spots: &[u16],
+    rows: &[u16],
+) -> usize
+    ensures { λ r. ⌜ r < 4096 ⌝ }
+{
+    if 128 < k {
+        return 0;
+    }
+    let mut sign = 0;
+    let mut e = open_edge(x, k, flags);
+    while 0 < e {
+        sign = sign_edge(x, e - 1, names, resets, spots, rows, sign);
+        e = open_edge(x, e - 1, flags);
+    }
+    sign
+}
+
+// The link to a kin of item x, and 0 where none is found. The first one tried is the item before the link, and the one after a kin is the
+// item before its link in `older`.
+pub(crate) fn find_kin(
+    n: usize,
+    k: usize,
+    x: usize,
+    link: usize,
+    names: &[u64],
+    labels: &[u16],
+    nexts: &[u16],
+    flags: &[u8],
+    resets: &[u16],
+    spots: &[u16],
+    rows: &[u16],
+    older: &[u16],
+) -> usize
+    ensures { λ r. ⌜ ((F : Finite) → Held F n k (now (labels .entry)) (now (nexts .entry)) (now (flags .entry)) (now (resets .entry))
+        (now (spots .entry)) (now (rows .entry)) → Closed (structure F) → x < n → Kins x (now (older .entry))
+        → ((z : ℕ) → link ≡ suc z → z < x) → KinOf (next F (now (names .entry))) x r) ⌝ }
+{
+    let mut at = link;
+    let mut left = KIN_COUNT;
+    while 0 < left {
+        if at == 0 {
+            return 0;
+        }
+        if is_twin(n, k, at - 1, x, names, nexts, flags, resets, spots, rows) {
+            return at;
+        }
+        at = at16(older, at - 1);
+        left = left - 1;
+    }
+    0
+}
+
+// Item x becomes the first kin of its sign, where its key had to be computed: it was not plainly alike to those that were tried. The one
+// that was first comes after it.
+pub(crate) fn put_kin(x: usize, sign: usize, keys: &[u64], older: &mut [u16], kins: &mut [u16])
+    requires { ⌜ x < 4096 ⌝ }
+    ensures { λ _. ⌜ (length (now (older .exit)) ≡ length (now (older .entry)))
+        × (length (now (kins .exit)) ≡ length (now (kins .entry))) ⌝ }
+    ensures { λ _. ⌜ (Kins x (now (older .entry)) → Kins x (now (kins .entry))
+        → Kins (x + 1) (now (older .exit)) × Kins (x + 1) (now (kins .exit))) ⌝ }
+{
+    if at64(keys, x) != 0 {
+        put_link(x, at16(kins, sign), older);
+        put_link(sign, x + 1, kins);
+    }
+}
