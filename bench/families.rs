@@ -1,5 +1,6 @@
 //! The models that are measured, one function a family. Each has close to 4,096 regions, the most that a model may have.
 
+use crate::chance::Chance;
 use crate::table::{Branch, Guard, Model, AT_LEAST, AT_MOST, EQUAL, LESS, MORE};
 
 /// A family: its name and its table.
@@ -35,6 +36,10 @@ pub fn all() -> Vec<Family> {
         family("exchanged", exchanged(57, 7)),
         family("equal sums", equal_sums(50, 24)),
         family("equal sums, parted", equal_sums_parted([13, 11, 9], 80)),
+        family("many orders", many_orders(40)),
+        family("spare edge", spare_edge([13, 11, 9], 120)),
+        family("still anchor", still_anchor(30, 64)),
+        family("thresholds", thresholds(40, 3)),
     ]
 }
 
@@ -164,16 +169,6 @@ fn tags(tags: u8, sleep: u8, send: u8) -> Model {
         }
     }
     model
-}
-
-/// A source of chance: the steps of a linear congruence, of which the high bits are taken.
-struct Chance(u64);
-
-impl Chance {
-    fn below(&mut self, bound: u8) -> u8 {
-        self.0 = self.0.wrapping_mul(6_364_136_223_846_793_005).wrapping_add(1_442_695_040_888_963_407);
-        ((self.0 >> 33) % u64::from(bound)) as u8
-    }
 }
 
 /// A model by chance: each edge has up to two guard atoms and one to four branches, each location a bound on one clock. The
@@ -469,6 +464,16 @@ fn alternating(hubs: u8, edges: u16) -> Model {
     model
 }
 
+/// Two locations for branches that keep one clock and reset the others: where that clock comes to `value` they exchange their blocks. No
+/// time passes there; what tells them apart is an edge to `end`.
+fn add_exchange(model: &mut Model, first: u8, clock: u8, value: u8, end: u8) {
+    let at_zero = u8::from(clock == 0);
+    for (location, comparison) in [(first, AT_LEAST), (first + 1, LESS)] {
+        model.invariant(location, at_zero, AT_MOST, 0);
+        model.edge(location, 5, &[(clock, comparison, value)], &[(1, end, 7)]);
+    }
+}
+
 /// No edge stands there twice, but the same ones lead elsewhere. For each clock there are two locations that keep it and reset the others;
 /// where it comes to 2 they exchange their blocks. An edge has six branches to these locations and two to hubs, and with it stand those
 /// that have the weights of each pair exchanged: eight in all, `eights` times. So all regions have the same set of edges, in eight
@@ -492,12 +497,7 @@ fn exchanged(hubs: u8, eights: u16) -> Model {
     }
     free_clocks(&mut model, 0);
     for clock in 0..3 {
-        let [one, other] = [1 + 2 * clock, 2 + 2 * clock];
-        let at_zero = u8::from(clock == 0);
-        model.invariant(one, at_zero, AT_MOST, 0);
-        model.invariant(other, at_zero, AT_MOST, 0);
-        model.edge(one, 5, &[(clock, AT_LEAST, 2)], &[(1, 1, 7)]);
-        model.edge(other, 5, &[(clock, LESS, 2)], &[(1, 1, 7)]);
+        add_exchange(&mut model, 1 + 2 * clock, clock, 2, 1);
     }
     add_hubs(&mut model, 7, hubs, 7);
     model.edge(0, 3, &[], &[(1, 7, 7)]);
@@ -568,5 +568,93 @@ fn equal_sums_parted(periods: [u8; 3], edges: usize) -> Model {
     counter(&mut model, 0, &periods, |model, guards, mask| model.edge(0, 0, guards, &[(1, 0, mask)]));
     let full: Vec<Guard> = (1..).zip(periods).map(|(clock, period)| (clock, EQUAL, period)).collect();
     model.edge(0, 0, &full, &[(1, 0, 15)]);
+    model
+}
+
+/// As `exchanged`, with 32 orders in place of eight: seven pairs of locations exchange their blocks, at three values of clocks 1 and
+/// 2 and at one of clock 0, so that the same set of edges stands there in 32 orders, which take turns from region to region. An edge has
+/// two branches for each of four pairs, and with it stand those that have the weights of each pair exchanged: sixteen in all, four times.
+/// None of them leads to a hub; but masks make the hubs' clocks of all regions' clocks, so that all are stirred where a hub changes.
+fn many_orders(hubs: u8) -> Model {
+    let pairs = [(0, 2), (1, 1), (2, 1), (1, 2), (2, 2), (1, 4), (2, 4)];
+    let fours = [[0, 1, 2, 3], [3, 4, 5, 6], [5, 6, 0, 1], [2, 4, 6, 0]];
+    let first_of = |pair: usize| 1 + 2 * pair as u8;
+    let first_hub = first_of(pairs.len());
+    let mut labels = vec![0];
+    labels.extend(vec![2; 2 * pairs.len()]);
+    labels.extend(vec![1; hubs.into()]);
+    let mut model = Model::new(3, &labels);
+    for (number, four) in (0..).zip(fours) {
+        for exchange in 0..16 {
+            let mut branches = Vec::new();
+            for (part, pair) in (0..).zip(four) {
+                let [one, other] = [10 + 3 * number + 100 * part, 60 + 7 * number + 100 * part];
+                let [one, other] = if exchange >> part & 1 == 1 { [other, one] } else { [one, other] };
+                let keep = 7 - mask(&[pairs[pair].0]);
+                branches.extend([(one, first_of(pair), keep), (other, first_of(pair) + 1, keep)]);
+            }
+            model.edge(0, 0, &[], &branches);
+        }
+    }
+    free_clocks(&mut model, 0);
+    for (pair, (clock, value)) in pairs.into_iter().enumerate() {
+        add_exchange(&mut model, first_of(pair), clock, value, 1);
+    }
+    add_hubs(&mut model, first_hub, hubs, 7);
+    model.edge(0, 3, &[], &[(1, first_hub, 7)]);
+    model
+}
+
+/// The hub's edges in groups, one for each value of a clock. Where the clock is below it, a group's edges stand in one order; else in the
+/// reverse order, with branches in reverse order and weights doubled. So there are 180 orders, and regions next to each other often
+/// differ in one group alone.
+fn thresholds(hubs: u8, edges: u16) -> Model {
+    let values = [(0, 1..5), (1, 1..6), (2, 1..6)];
+    let groups: Vec<(u8, u8)> = values.into_iter().flat_map(|(clock, all)| all.map(move |value| (clock, value))).collect();
+    let all = to_hubs(hubs, edges * groups.len() as u16);
+    let guards: Vec<[[Guard; 1]; 2]> = groups.iter().map(|&(clock, value)| [[(clock, LESS, value)], [(clock, AT_LEAST, value)]]).collect();
+    let mut lists: Vec<(&[Guard], Vec<Vec<Branch>>)> = Vec::new();
+    for (group, [below, from]) in all.chunks(edges.into()).zip(&guards) {
+        let doubled = |branches: &Vec<Branch>| branches.iter().rev().map(|&(weight, target, mask)| (2 * weight, target, mask)).collect();
+        lists.push((below, group.to_vec()));
+        lists.push((from, group.iter().rev().map(doubled).collect()));
+    }
+    with_hubs(hubs, &lists)
+}
+
+/// Eight ends from location `first_end` on, and `edges` edges to them with equal shares, but no two with the same weights. The first one is
+/// available under a guard only. Regions with it and without it may be related, since the others answer to it, but are not plainly alike.
+fn add_alike_edges(model: &mut Model, source: u8, first_end: u8, edges: u16, guard: Guard, mask: u8) {
+    let ends = first_end..first_end + 8;
+    ends.clone().for_each(|end| add_end(model, end));
+    for edge in 1..=edges {
+        let guards: &[Guard] = if edge == 1 { &[guard] } else { &[] };
+        let branches: Vec<Branch> = ends.clone().map(|end| (edge, end, mask)).collect();
+        model.edge(source, 0, guards, &branches);
+    }
+}
+
+/// A counter of thousands of rounds with such edges. In each round the few regions that are stirred are compared with their block's anchor,
+/// one of the first regions; it has the edge that most of them lack.
+fn spare_edge(periods: [u8; 3], edges: u16) -> Model {
+    let mut model = Model::new(4, &[0, 1, 2, 3, 4, 5, 6, 7, 8]);
+    add_alike_edges(&mut model, 0, 1, edges, (2, AT_MOST, 1), 15);
+    counter(&mut model, 0, &periods, |model, guards, mask| model.edge(0, 0, guards, &[(1, 0, mask)]));
+    model
+}
+
+/// One region is never stirred, but related to thousands that are stirred in each round and lack an edge that it has: the anchor. The hubs
+/// have clock 3 above all constants, and so have all regions at location 1 but the anchor, where it is 5: no mask makes the hubs' clocks
+/// of its own. No edge of location 1 leads to a hub; but a mask makes the hubs' clocks of the others', so that they are stirred with them.
+fn still_anchor(hubs: u8, edges: u16) -> Model {
+    let [wait, main, first_end, first_hub] = [0, 1, 2, 10];
+    let mut labels = vec![1, 0, 2, 3, 4, 5, 6, 7, 8, 9];
+    labels.extend(vec![1; hubs.into()]);
+    let mut model = Model::new(4, &labels);
+    model.edge(wait, 0, &[(3, EQUAL, 5)], &[(1, main, 7)]);
+    model.edge(wait, 0, &[(3, MORE, 5)], &[(1, first_hub, 7)]);
+    free_clocks(&mut model, main);
+    add_alike_edges(&mut model, main, first_end, edges, (1, LESS, 1), 7);
+    add_hubs(&mut model, first_hub, hubs, 0);
     model
 }

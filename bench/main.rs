@@ -6,6 +6,7 @@
 //! the families are measured whose names have it in them. Where the two differ, in the answers or in lent memory, it says so and ends
 //! with 1.
 
+mod chance;
 mod families;
 #[path = "../tests/library.rs"]
 #[allow(dead_code)] // The pair call and the listing are not measured.
@@ -17,13 +18,13 @@ mod worker;
 use families::Family;
 use measure::{Both, Told};
 use std::process::ExitCode;
-use worker::{Call, Engine, REGIONS};
+use worker::{Call, REGIONS, WORKER};
 
 fn main() -> ExitCode {
     let words: Vec<String> = std::env::args().skip(1).collect();
     let words: Vec<&str> = words.iter().map(String::as_str).collect();
     let result = match words[..] {
-        ["worker", engine, call, family] => work(engine, call, family),
+        [WORKER, ref order @ ..] => worker::work(order).map(|()| ExitCode::SUCCESS),
         [] => run(20, ""),
         [seconds] => seconds.parse().map_or_else(|_| usage(), |seconds| run(seconds, "")),
         [seconds, word] => seconds.parse().map_or_else(|_| usage(), |seconds| run(seconds, word)),
@@ -39,27 +40,16 @@ fn usage() -> std::io::Result<ExitCode> {
     Err(std::io::Error::other("usage: bench [SECONDS [WORD]]"))
 }
 
-fn work(engine: &str, call: &str, family: &str) -> std::io::Result<ExitCode> {
-    let engine = Engine::ALL.into_iter().find(|one| one.name() == engine);
-    let call = Call::ALL.into_iter().find(|one| one.name() == call);
-    let family = family.parse().ok().and_then(|number: usize| families::all().into_iter().nth(number));
-    let (Some(engine), Some(call), Some(family)) = (engine, call, family) else {
-        return usage();
-    };
-    worker::work(engine, call, &family.table)?;
-    Ok(ExitCode::SUCCESS)
-}
-
 /// Measures all chosen families, the partition call first.
 fn run(seconds: u64, word: &str) -> std::io::Result<ExitCode> {
     let all = families::all();
-    let chosen = || all.iter().enumerate().filter(|(_, family)| family.name.contains(word));
+    let chosen = || all.iter().filter(|family| family.name.contains(word));
     let mut differences = 0;
     let mut partitions = Vec::new();
     println!("The partition call, times in ms\n");
     println!("{:22}{:>6}{:>8}{:>8}{:>12}{:>12}{:>9}", "model", "N", "blocks", "rounds", "ours", "reference", "ratio");
-    for (number, family) in chosen() {
-        let both = measure::both(Call::Reduce, number, &[], seconds)?;
+    for family in chosen() {
+        let both = measure::both(Call::Reduce, &family.table, &[], seconds)?;
         let [regions, blocks, rounds] = match both.either() {
             Some(Told { answer, .. }) => [answer.value, answer.blocks, answer.rounds].map(|count| count.to_string()),
             None => ["?"; 3].map(String::from),
@@ -70,13 +60,13 @@ fn run(seconds: u64, word: &str) -> std::io::Result<ExitCode> {
     }
     println!("\nThe other calls, times in ms: ours / reference\n");
     println!("{:22}{:>20}{:>20}{:>20}{:>20}", "model", "graph", "place", "judge the blocks", "judge each alone");
-    for ((number, family), partition) in chosen().zip(&partitions) {
+    for (family, partition) in chosen().zip(&partitions) {
         let alone: Vec<u8> = (0..REGIONS as u64).flat_map(u64::to_le_bytes).collect();
-        let graph = measure::both(Call::Graph, number, &[], seconds)?;
+        let graph = measure::both(Call::Graph, &family.table, &[], seconds)?;
         let regions = graph.either().map_or(0, |told| told.answer.value as usize);
-        let place = measure::both(Call::Place, number, &[], seconds)?;
-        let blocks = partition.either().map(|told| measure::both(Call::Judge, number, told.blocks(), seconds)).transpose()?;
-        let each = measure::both(Call::Judge, number, &alone[..8 * regions], seconds)?;
+        let place = measure::both(Call::Place, &family.table, &[], seconds)?;
+        let blocks = partition.either().map(|told| measure::both(Call::Judge, &family.table, told.blocks(), seconds)).transpose()?;
+        let each = measure::both(Call::Judge, &family.table, &alone[..8 * regions], seconds)?;
         let columns = [Some(graph), Some(place), blocks, Some(each)];
         let line: String = columns.iter().map(|column| format!("{:>20}", beside(column.as_ref(), seconds))).collect();
         println!("{:22}{line}", family.name);

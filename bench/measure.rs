@@ -1,7 +1,7 @@
 //! Starts the workers, which are stopped where they take too long, and compares what both implementations answered and left.
 
 use crate::library::Answer;
-use crate::worker::{Call, Engine, ENTRY, REGIONS};
+use crate::worker::{Call, Engine, Order, ENTRY, REGIONS};
 use std::io::{Error, ErrorKind, Read, Result, Write};
 use std::os::unix::process::ExitStatusExt;
 use std::process::{Command, Stdio};
@@ -42,25 +42,29 @@ impl Both {
     }
 }
 
-/// Measures a call on the family with this number, for at most so many seconds each.
-pub fn both(call: Call, family: usize, proposal: &[u8], seconds: u64) -> Result<Both> {
-    let ours = one(Engine::Ours, call, family, proposal, seconds)?;
-    let reference = one(Engine::Reference, call, family, proposal, seconds)?;
-    Ok(Both { ours, reference })
+/// Measures a call on a table with both implementations, for at most so many seconds each.
+pub fn both(call: Call, table: &[u8], proposal: &[u8], seconds: u64) -> Result<Both> {
+    let measured = |engine| one(engine, call, LONG_ENOUGH, table, proposal, seconds);
+    Ok(Both { ours: measured(Engine::Ours)?, reference: measured(Engine::Reference)? })
 }
 
+/// A call is made again until so much processor time has gone by.
+const LONG_ENOUGH: Duration = Duration::from_millis(300);
+
 /// Runs a worker under a limit on its processor time. Nothing comes back where it was stopped.
-fn one(engine: Engine, call: Call, family: usize, proposal: &[u8], seconds: u64) -> Result<Option<Told>> {
+pub fn one(engine: Engine, call: Call, at_least: Duration, table: &[u8], proposal: &[u8], seconds: u64) -> Result<Option<Told>> {
     let program = std::env::current_exe()?;
+    let order = Order { engine, call, at_least, parent: std::process::id() };
     let mut child = Command::new("sh")
         .args(["-c", "ulimit -t $0; exec \"$@\"", &seconds.to_string()])
         .arg(program)
-        .args(["worker", engine.name(), call.name(), &family.to_string()])
+        .args(order.words())
         .stdin(Stdio::piped())
         .stdout(Stdio::piped())
         .spawn()?;
     if let Some(mut input) = child.stdin.take() {
-        input.write_all(proposal)?;
+        let length = (table.len() as u64).to_le_bytes();
+        input.write_all(&[&length, table, proposal].concat())?;
     }
     let mut bytes = Vec::new();
     child.stdout.take().ok_or(ErrorKind::BrokenPipe)?.read_to_end(&mut bytes)?;

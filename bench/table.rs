@@ -13,9 +13,10 @@ pub type Guard = (u8, u8, u8);
 /// A branch: weight, target, and the reset mask, bit 0 for clock 0.
 pub type Branch = (u16, u8, u8);
 
-/// A model as it is written: the initial location is 0.
+/// A model as it is written: the initial location is 0 if nothing else is said.
 pub struct Model {
     clocks: u8,
+    pub initial: u8,
     labels: Vec<u8>,
     invariants: Vec<u8>,
     edges: Vec<u8>,
@@ -23,7 +24,7 @@ pub struct Model {
 
 impl Model {
     pub fn new(clocks: u8, labels: &[u8]) -> Model {
-        Model { clocks, labels: labels.to_vec(), invariants: Vec::new(), edges: Vec::new() }
+        Model { clocks, initial: 0, labels: labels.to_vec(), invariants: Vec::new(), edges: Vec::new() }
     }
 
     pub fn invariant(&mut self, location: u8, clock: u8, comparison: u8, constant: u8) {
@@ -44,7 +45,7 @@ impl Model {
     }
 
     pub fn table(&self) -> Vec<u8> {
-        let mut table = vec![1, self.clocks, self.labels.len() as u8, 0];
+        let mut table = vec![1, self.clocks, self.labels.len() as u8, self.initial];
         for &label in &self.labels {
             table.extend([2, label]);
         }

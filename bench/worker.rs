@@ -3,7 +3,8 @@
 
 use crate::library::{self, Answer};
 use reference::calls;
-use std::io::{Read, Write};
+use std::io::{Error, Read, Result, Write};
+use std::os::unix::process::parent_id;
 use std::time::Duration;
 
 /// Both implementations.
@@ -50,8 +51,37 @@ impl Call {
 pub const REGIONS: usize = 4096;
 pub const ENTRY: usize = 9;
 
-/// A call is made again until so much processor time has gone by; the time is the mean.
-const LONG_ENOUGH: Duration = Duration::from_millis(300);
+/// The word by which a program of this folder knows that it is started as a worker.
+pub const WORKER: &str = "worker";
+
+/// What a worker is told by its arguments: the call, for how much processor time it is made again and again, the time being the mean, and
+/// the process that started it.
+pub struct Order {
+    pub engine: Engine,
+    pub call: Call,
+    pub at_least: Duration,
+    pub parent: u32,
+}
+
+impl Order {
+    pub fn words(&self) -> [String; 5] {
+        let milliseconds = self.at_least.as_millis().to_string();
+        [WORKER.into(), self.engine.name().into(), self.call.name().into(), milliseconds, self.parent.to_string()]
+    }
+
+    /// The order with these words, the first of which is gone.
+    fn read(words: &[&str]) -> Option<Order> {
+        let &[engine, call, milliseconds, parent] = words else {
+            return None;
+        };
+        Some(Order {
+            engine: Engine::ALL.into_iter().find(|one| one.name() == engine)?,
+            call: Call::ALL.into_iter().find(|one| one.name() == call)?,
+            at_least: Duration::from_millis(milliseconds.parse().ok()?),
+            parent: parent.parse().ok()?,
+        })
+    }
+}
 
 /// What a call is given beside the table. `fresh` memory is the same for both implementations.
 struct Room {
@@ -86,23 +116,21 @@ fn processor_time() -> Duration {
 /// A state: location, clock values, denominator.
 type State = (u64, [u64; 4], u64);
 
-/// The worker's whole run. A judged proposal comes from standard input, as numbers of eight bytes.
-pub fn work(engine: Engine, call: Call, table: &[u8]) -> std::io::Result<()> {
-    let mut proposal = Vec::new();
-    if call == Call::Judge {
-        std::io::stdin().read_to_end(&mut proposal)?;
-    }
-    let eight = |bytes: &[u8]| u64::from_le_bytes(bytes.try_into().expect("chunks of eight"));
-    let proposal: Vec<u64> = proposal.chunks_exact(8).map(eight).collect();
-    let state = last_state(table);
+/// The worker's whole run. The length of the table, the table and, for the judging call, a proposal of numbers of eight bytes come from
+/// standard input.
+pub fn work(words: &[&str]) -> Result<()> {
+    let Order { engine, call, at_least, parent } = Order::read(words).ok_or_else(|| Error::other("no such order"))?;
+    end_with(parent)?;
+    let (table, proposal) = read_input()?;
+    let state = if call == Call::Place { last_state(&table) } else { State::default() };
     let mut room = Room::fresh();
     let begin = processor_time();
     let mut times = 0;
     let (answer, time) = loop {
-        let answer = make(engine, call, table, &mut room, state, &proposal);
+        let answer = make(engine, call, &table, &mut room, state, &proposal);
         times += 1;
         let taken = processor_time() - begin;
-        if taken >= LONG_ENOUGH {
+        if taken >= at_least {
             break (answer, taken / times);
         }
     };
@@ -116,6 +144,31 @@ pub fn work(engine: Engine, call: Call, table: &[u8]) -> std::io::Result<()> {
     }
     output.extend(&room.entries);
     std::io::stdout().write_all(&output)
+}
+
+/// Sees to it that this process ends with the one that started it, however that ends. Numbers 1 and 9 are names of the C library of Linux:
+/// the signal at the parent's end, and the one that cannot be caught.
+fn end_with(parent: u32) -> Result<()> {
+    extern "C" {
+        fn prctl(option: i32, ...) -> i32;
+    }
+    let failed = unsafe { prctl(1, 9u64) };
+    if failed != 0 || parent_id() != parent {
+        return Err(Error::other("the process that started this worker is gone"));
+    }
+    Ok(())
+}
+
+/// The table and the proposal.
+fn read_input() -> Result<(Vec<u8>, Vec<u64>)> {
+    let mut bytes = Vec::new();
+    std::io::stdin().read_to_end(&mut bytes)?;
+    let eight = |bytes: &[u8]| u64::from_le_bytes(bytes.try_into().expect("eight bytes"));
+    if bytes.len() < 8 || bytes.len() - 8 < eight(&bytes[..8]) as usize {
+        return Err(Error::other("the input is cut"));
+    }
+    let (table, proposal) = bytes[8..].split_at(eight(&bytes[..8]) as usize);
+    Ok((table.to_vec(), proposal.chunks_exact(8).map(eight).collect()))
 }
 
 fn make(engine: Engine, call: Call, table: &[u8], room: &mut Room, state: State, proposal: &[u64]) -> Answer {
