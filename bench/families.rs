@@ -40,6 +40,7 @@ pub fn all() -> Vec<Family> {
         family("spare edge", spare_edge([13, 11, 9], 120)),
         family("still anchor", still_anchor(30, 64)),
         family("thresholds", thresholds(40, 3)),
+        family("positions", positions(60, 1)),
     ]
 }
 
@@ -605,21 +606,36 @@ fn many_orders(hubs: u8) -> Model {
     model
 }
 
-/// The hub's edges in groups, one for each value of a clock. Where the clock is below it, a group's edges stand in one order; else in the
-/// reverse order, with branches in reverse order and weights doubled. So there are 180 orders, and regions next to each other often
-/// differ in one group alone.
-fn thresholds(hubs: u8, edges: u16) -> Model {
-    let values = [(0, 1..5), (1, 1..6), (2, 1..6)];
-    let groups: Vec<(u8, u8)> = values.into_iter().flat_map(|(clock, all)| all.map(move |value| (clock, value))).collect();
-    let all = to_hubs(hubs, edges * groups.len() as u16);
-    let guards: Vec<[[Guard; 1]; 2]> = groups.iter().map(|&(clock, value)| [[(clock, LESS, value)], [(clock, AT_LEAST, value)]]).collect();
+/// The hub's edges in groups, one for each guard of a list. Where the guard holds, a group's edges stand in one order; where its opposite
+/// does, in the reverse order, with branches in reverse order and weights doubled.
+fn grouped(hubs: u8, edges: u16, guards: &[[Guard; 2]]) -> Model {
+    let all = to_hubs(hubs, edges * guards.len() as u16);
     let mut lists: Vec<(&[Guard], Vec<Vec<Branch>>)> = Vec::new();
-    for (group, [below, from]) in all.chunks(edges.into()).zip(&guards) {
+    for (group, [one, opposite]) in all.chunks(edges.into()).zip(guards) {
         let doubled = |branches: &Vec<Branch>| branches.iter().rev().map(|&(weight, target, mask)| (2 * weight, target, mask)).collect();
-        lists.push((below, group.to_vec()));
-        lists.push((from, group.iter().rev().map(doubled).collect()));
+        lists.push((std::slice::from_ref(one), group.to_vec()));
+        lists.push((std::slice::from_ref(opposite), group.iter().rev().map(doubled).collect()));
     }
     with_hubs(hubs, &lists)
+}
+
+/// The values that the clocks of the hub's regions come to, each with its clock.
+fn clock_values() -> impl Iterator<Item = (u8, u8)> {
+    [(0, 1..5), (1, 1..6), (2, 1..6)].into_iter().flat_map(|(clock, all)| all.map(move |value| (clock, value)))
+}
+
+/// A group for each value of a clock, below it and from it on: 180 orders. Regions next to each other often differ in one group alone.
+fn thresholds(hubs: u8, edges: u16) -> Model {
+    let guards: Vec<[Guard; 2]> = clock_values().map(|(clock, value)| [(clock, LESS, value), (clock, AT_LEAST, value)]).collect();
+    grouped(hubs, edges, &guards)
+}
+
+/// Two groups for each value: below it and from it on, and up to it and above. A clock between two values has an order of its own too, so
+/// that there are over a thousand orders, and few regions of one order.
+fn positions(hubs: u8, edges: u16) -> Model {
+    let pairs = |(clock, value)| [[(clock, LESS, value), (clock, AT_LEAST, value)], [(clock, AT_MOST, value), (clock, MORE, value)]];
+    let guards: Vec<[Guard; 2]> = clock_values().flat_map(pairs).collect();
+    grouped(hubs, edges, &guards)
 }
 
 /// Eight ends from location `first_end` on, and `edges` edges to them with equal shares, but no two with the same weights. The first one is
