@@ -43,12 +43,12 @@
  *   terkwabu_refusal_line                              4 KB
  *
  * bench/stack.c runs each call on a painted stack, on tables up to the longest and with up to 4,096 regions, and prints how deep it went:
- * 27,800, 1,493,672, 97,160 and 200 bytes, rounded up above. The first call into a shared library takes about 3 KB more for the loader.
+ * 25,700, 1,493,248, 96,168 and 200 bytes, rounded up above. The first call into a shared library takes about 3 KB more for the loader.
  * So 2 MB should do for a thread that makes any of the calls. Some systems give threads less if nothing is said. On another system, or
  * with a library built otherwise, measure anew.
  *
- * Time. It depends on the table. Most models are reduced in some ten milliseconds, tables made to be slow take a second or more
- * (bench/run prints both), and a call cannot be broken off.
+ * Time. It depends on the table. Most models are reduced in some ten milliseconds, tables made to be slow take up to a few
+ * seconds (bench/run prints both), and a call cannot be broken off.
  *
  *
  * ANSWERS AND REFUSALS
