@@ -42,7 +42,7 @@ fn change(draft: &mut Draft, other: &Draft, chance: &mut Chance) {
         double_branch,
         delete_branch,
         move_branch,
-        move_guard,
+        copy_guard,
         delete_guard,
         move_invariant,
     ];
@@ -248,7 +248,7 @@ fn move_branch(draft: &mut Draft, chance: &mut Chance) {
 }
 
 /// A guard atom is put at another edge too.
-fn move_guard(draft: &mut Draft, chance: &mut Chance) {
+fn copy_guard(draft: &mut Draft, chance: &mut Chance) {
     let Some(from) = some_edge(draft, chance) else { return };
     let Some(guard) = pick(&from.guards, chance) else { return };
     let Some(to) = some_edge(draft, chance) else { return };
