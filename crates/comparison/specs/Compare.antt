@@ -1,10 +1,11 @@
 -- Comparing two items under a block list, computed over slices that hold a structure. Shares are compared only at the targets of
 -- the two edges: elsewhere both are 0.
 use Prim.Native.Nat.{ℕ, _+_, _*_, _<_}
+use mathlib.Core.Path.{_≡_}
 use mathlib.Core.Bool.{Bool, true, cond, _&&_}
 use mathlib.Core.List.{List}
 use lib.Dec.{eqb}
-use lib.ListN.{getD}
+use lib.ListN.{length, getD}
 use Rattle.bisimulation.specs.Finite.{related, sum, allBelow, someBelow, anyOf, allOf}
 use Rattle.comparison.specs.Held.{mostItems, chain, isOpen, actionAt, wholeAt, countAt, targetAt, branchesFrom}
 
@@ -30,6 +31,15 @@ abbrev pub Below : (n : ℕ) → List ℕ → Type 0
 Below n list = (x : ℕ) → x < n → getD list x 0 < mostItems
 
 -- ---- Edges
+
+-- The number of the block that branch i of edge e at x leads to.
+abbrev pub numberOf : (list resets spots rows : List ℕ) → (x e i : ℕ) → ℕ
+numberOf list resets spots rows x e i = getD list (targetAt resets spots rows x e i) 0
+
+-- The numbers of the first branches are kept in a list, as many as it has room for.
+abbrev pub Gathered : (x e : ℕ) → (list resets spots rows got : List ℕ) → Type 0
+Gathered x e list resets spots rows got =
+    (i : ℕ) → i < countAt rows e → i < length got → getD got i 0 ≡ numberOf list resets spots rows x e i
 
 -- The weight of edge e at x that lands in the block of c.
 unfoldable pub weighed : (list resets spots rows : List ℕ) → (c x e : ℕ) → ℕ

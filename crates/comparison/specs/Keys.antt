@@ -2,7 +2,7 @@
 -- that items with different keys need not be compared. How numbers are scattered and joined is our choice; only speed depends on it.
 use Prim.Native.Nat.{ℕ, zero, suc, _+_, _*_, _/_, _%_, _≤_, _<_}
 use mathlib.Core.Path.{_≡_}
-use mathlib.Core.Bool.{Bool, true, cond, not, _&&_}
+use mathlib.Core.Bool.{Bool, true, false, cond, not, _&&_}
 use mathlib.Core.List.{List}
 use mathlib.Core.Logic.{_⊎_}
 use lib.Dec.{eqb}
@@ -11,7 +11,7 @@ use Rattle.bisimulation.specs.Structures.{Closed}
 use Rattle.bisimulation.specs.Finite.{Finite, structure, related, someBelow, anyOf}
 use Rattle.comparison.specs.Held.{mostItems, chain, actionAt, wholeAt, countAt, targetAt}
 use Rattle.comparison.specs.Held.{Held, isOpen}
-use Rattle.comparison.specs.Compare.{Below, weighed, answers}
+use Rattle.comparison.specs.Compare.{Below, weighed, answers, someAnswers}
 
 unfoldable pub sumBelow : (m : ℕ) → (ℕ → ℕ) → ℕ
 sumBelow zero f = 0
@@ -126,6 +126,16 @@ ToldBy k list flags resets spots rows x e y code =
 abbrev pub Told : (k : ℕ) → (list flags resets spots rows : List ℕ) → (x y : ℕ) → Type 0
 Told k list flags resets spots rows x y =
     (e : ℕ) → e < k → isOpen flags x e ≡ true → ToldBy k list flags resets spots rows x e y (codeOf list resets spots rows x e)
+
+-- What a search tells: 0 where no edge at y answers to edge e at x, and else the number after one that does.
+abbrev pub Found : (k : ℕ) → (list flags resets spots rows : List ℕ) → (x e y r : ℕ) → Type 0
+Found k list flags resets spots rows x e y r =
+    ((r ≡ 0) × (someAnswers k list flags resets spots rows x e y ≡ false))
+    ⊎ ((f : ℕ) × (r ≡ suc f) × (f < k) × (answers list flags resets spots rows x e y f ≡ true))
+
+-- Each edge at x that is marked has an answer at y.
+abbrev pub Met : (k : ℕ) → (list flags resets spots rows : List ℕ) → (x y : ℕ) → (met : List ℕ) → Type 0
+Met k list flags resets spots rows x y met = (e : ℕ) → getD met e 0 ≡ 1 → someAnswers k list flags resets spots rows x e y ≡ true
 
 -- ---- Comparing by keys
 

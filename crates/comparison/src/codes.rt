@@ -2,18 +2,20 @@
 // equal codes, so that an answer to an edge is looked for among the edges of its code alone.
 ghost use Prim.Native.Nat.{ℕ, _≤_, _<_};
 ghost use mathlib.Core.Path.{_≡_};
-ghost use mathlib.Core.Bool.{_&&_};
+ghost use mathlib.Core.Bool.{true, _&&_};
 ghost use lib.ListN.{length, getD};
-ghost use Rattle.comparison.specs.Held.{mostItems, mostEdges, Opened};
-ghost use Rattle.comparison.specs.Compare.{edgesAlike, someAnswers, edgesAnswered};
-ghost use Rattle.comparison.specs.Keys.{scatter, markOf, divisor, shareOf, fifth, mixed, isFirstInto, blockCode};
-ghost use Rattle.comparison.specs.Keys.{landedBy, landed, joined, codeOf, Coded, ToldBy, Told};
+ghost use Rattle.comparison.specs.Held.{mostItems, mostEdges, countAt, isOpen, Opened};
+ghost use Rattle.comparison.specs.Compare.{Gathered, edgesAlike, someAnswers, edgesAnswered};
+ghost use Rattle.comparison.specs.Keys.{scatter, divisor, shareOf, fifth, mixed, isFirstInto, blockCode};
+ghost use Rattle.comparison.specs.Keys.{landedBy, landed, joined, codeOf, Coded, ToldBy, Told, Found, Met};
 use crate::compare::edges_alike;
-use crate::compare::is_related;
-use crate::compare::target_at;
+use crate::compare::gather;
+use crate::compare::number_at;
+use crate::compare::set_mark;
 use crate::compare::weigh;
 use crate::slices::at16;
 use crate::slices::at64;
+use crate::slices::is_set;
 use crate::slices::open_below;
 use crate::twins::is_paired;
 
@@ -24,13 +26,6 @@ pub(crate) fn scatter_of(v: usize) -> u64
 {
     let w = v as u64;
     ((w + 77) * ((w + 1003) * (w + 2001))) % 1048573
-}
-
-// The number of an item's block, cut to those that there may be.
-fn mark_at(list: &[u64], x: usize) -> usize
-    ensures { λ r. ⌜ (r ≡ markOf (now (list .entry)) x) × (r < mostItems) ⌝ }
-{
-    (at64(list, x) % 4096) as usize
 }
 
 // ---- The code of an edge
@@ -66,9 +61,9 @@ fn mix_of(v: usize, share: u64) -> u64
     fifth_of((share + (v as u64) * 524309 + 12345) % 2147483629)
 }
 
-// Does no branch of edge e at item x below branch i lead to the block of c?
+// Does no branch of edge e at item x below branch i lead to the block with number v? c is any item of it.
 fn is_first_into(
-    c: usize,
+    v: u64,
     x: usize,
     e: usize,
     i: usize,
@@ -76,14 +71,16 @@ fn is_first_into(
     resets: &[u16],
     spots: &[u16],
     rows: &[u16],
+    got: &[u64],
 ) -> bool
     requires { ⌜ (x < mostItems) × (e < mostEdges) × (i < 65536) ⌝ }
-    ensures { λ r. ⌜ r ≡ isFirstInto (now (list .entry)) (now (resets .entry)) (now (spots .entry)) (now (rows .entry)) c x e i ⌝ }
+    ensures { λ r. ⌜ ((c : ℕ) → v ≡ getD (now (list .entry)) c 0 → i < countAt (now (rows .entry)) e
+        → Gathered x e (now (list .entry)) (now (resets .entry)) (now (spots .entry)) (now (rows .entry)) (now (got .entry))
+        → r ≡ isFirstInto (now (list .entry)) (now (resets .entry)) (now (spots .entry)) (now (rows .entry)) c x e i) ⌝ }
 {
     let mut j = 0;
     while j < i {
-        let target = target_at(x, e, j, resets, spots, rows);
-        if is_related(target, c, list) {
+        if number_at(x, e, j, list, resets, spots, rows, got) == v {
             return false;
         }
         j = j + 1;
@@ -91,26 +88,29 @@ fn is_first_into(
     true
 }
 
-// What the block of c adds to the code of edge e at item x.
+// What the block with number v adds to the code of edge e at item x; c is any item of it.
 fn block_code(
-    c: usize,
+    v: u64,
     x: usize,
     e: usize,
     list: &[u64],
     resets: &[u16],
     spots: &[u16],
     rows: &[u16],
+    got: &[u64],
 ) -> u64
     requires { ⌜ (x < mostItems) × (e < mostEdges) ⌝ }
-    ensures { λ r. ⌜ (r ≡ blockCode (now (list .entry)) (now (resets .entry)) (now (spots .entry)) (now (rows .entry)) c x e)
-        × (r < 2147483629) ⌝ }
+    ensures { λ r. ⌜ r < 2147483629 ⌝ }
+    ensures { λ r. ⌜ ((c : ℕ) → v ≡ getD (now (list .entry)) c 0
+        → Gathered x e (now (list .entry)) (now (resets .entry)) (now (spots .entry)) (now (rows .entry)) (now (got .entry))
+        → r ≡ blockCode (now (list .entry)) (now (resets .entry)) (now (spots .entry)) (now (rows .entry)) c x e) ⌝ }
 {
-    let weight = weigh(c, x, e, list, resets, spots, rows);
+    let weight = weigh(v, x, e, list, resets, spots, rows, got);
     if weight == 0 {
         return 0;
     }
     let share = share_of(weight, at16(rows, 32 * e + 1));
-    mix_of(mark_at(list, c), share)
+    mix_of((v % 4096) as usize, share)
 }
 
 // What branch i of edge e at item x adds: where it is the first into its block, what the block adds.
@@ -122,28 +122,40 @@ fn land_one(
     resets: &[u16],
     spots: &[u16],
     rows: &[u16],
+    got: &[u64],
 ) -> u64
     requires { ⌜ (x < mostItems) × (e < mostEdges) × (i < 65536) ⌝ }
-    ensures { λ r. ⌜ (r ≡ landedBy (now (list .entry)) (now (resets .entry)) (now (spots .entry)) (now (rows .entry)) x e i)
-        × (r < 2147483629) ⌝ }
+    ensures { λ r. ⌜ r < 2147483629 ⌝ }
+    ensures { λ r. ⌜ (i < countAt (now (rows .entry)) e
+        → Gathered x e (now (list .entry)) (now (resets .entry)) (now (spots .entry)) (now (rows .entry)) (now (got .entry))
+        → r ≡ landedBy (now (list .entry)) (now (resets .entry)) (now (spots .entry)) (now (rows .entry)) x e i) ⌝ }
 {
-    let target = target_at(x, e, i, resets, spots, rows);
-    if is_first_into(target, x, e, i, list, resets, spots, rows) {
-        return block_code(target, x, e, list, resets, spots, rows);
+    let v = number_at(x, e, i, list, resets, spots, rows, got);
+    if is_first_into(v, x, e, i, list, resets, spots, rows, got) {
+        return block_code(v, x, e, list, resets, spots, rows, got);
     }
     0
 }
 
-// The sum over the branches.
-fn landed_at(x: usize, e: usize, list: &[u64], resets: &[u16], spots: &[u16], rows: &[u16]) -> u64
+// The sum over the branches, whose numbers are given.
+fn land_all(
+    x: usize,
+    e: usize,
+    list: &[u64],
+    resets: &[u16],
+    spots: &[u16],
+    rows: &[u16],
+    got: &[u64],
+) -> u64
     requires { ⌜ (x < mostItems) × (e < mostEdges) ⌝ }
-    ensures { λ r. ⌜ r ≡ landed (now (list .entry)) (now (resets .entry)) (now (spots .entry)) (now (rows .entry)) x e ⌝ }
+    ensures { λ r. ⌜ (Gathered x e (now (list .entry)) (now (resets .entry)) (now (spots .entry)) (now (rows .entry)) (now (got .entry))
+        → r ≡ landed (now (list .entry)) (now (resets .entry)) (now (spots .entry)) (now (rows .entry)) x e) ⌝ }
 {
     let count = at16(rows, 32 * e + 2);
     let mut total = 0u64;
     let mut i = 0;
     while i < count {
-        total = total + land_one(x, e, i, list, resets, spots, rows);
+        total = total + land_one(x, e, i, list, resets, spots, rows, got);
         i = i + 1;
     }
     total
@@ -163,7 +175,9 @@ fn code_of(x: usize, e: usize, list: &[u64], resets: &[u16], spots: &[u16], rows
     ensures { λ r. ⌜ (r ≡ codeOf (now (list .entry)) (now (resets .entry)) (now (spots .entry)) (now (rows .entry)) x e)
         × (r < 1099511627689) ⌝ }
 {
-    let sum = landed_at(x, e, list, resets, spots, rows);
+    let mut got = [0u64; 8];
+    gather(x, e, list, resets, spots, rows, &mut got);
+    let sum = land_all(x, e, list, resets, spots, rows, &got);
     joined_of(at16(rows, 32 * e), sum)
 }
 
@@ -213,8 +227,9 @@ fn is_answer(
     edges_alike(x, e, y, f, list, resets, spots, rows)
 }
 
-// Does some edge at y answer to edge e at x? Only those of its code are compared with it.
-fn some_answers(
+// Looks for an edge at y that answers to edge e at x: the number after it, and 0 where there is none. Only those of its code are compared
+// with it.
+fn find_answer(
     k: usize,
     x: usize,
     e: usize,
@@ -226,28 +241,27 @@ fn some_answers(
     spots: &[u16],
     rows: &[u16],
     codes: &[u64],
-) -> bool
+) -> usize
     requires { ⌜ (k ≤ mostEdges) × (x < mostItems) × (e < mostEdges) × (y < mostItems) ⌝ }
     ensures { λ r. ⌜ ((n : ℕ) → Opened n k (now (flags .entry)) → y < n
-        → Coded k y (now (list .entry)) (now (flags .entry)) (now (resets .entry)) (now (spots .entry))
-        (now (rows .entry)) (now (codes .entry))
+        → Coded k y (now (list .entry)) (now (flags .entry)) (now (resets .entry)) (now (spots .entry)) (now (rows .entry))
+        (now (codes .entry))
         → ToldBy k (now (list .entry)) (now (flags .entry)) (now (resets .entry)) (now (spots .entry)) (now (rows .entry)) x e y code
-        → r ≡ someAnswers k (now (list .entry)) (now (flags .entry)) (now (resets .entry)) (now (spots .entry))
-        (now (rows .entry)) x e y) ⌝ }
+        → Found k (now (list .entry)) (now (flags .entry)) (now (resets .entry)) (now (spots .entry)) (now (rows .entry)) x e y r) ⌝ }
 {
     let mut f = open_below(y, k, flags);
     while 0 < f {
         if at64(codes, f - 1) == code {
             if is_answer(x, e, y, f - 1, list, resets, spots, rows) {
-                return true;
+                return f;
             }
         }
         f = open_below(y, f - 1, flags);
     }
-    false
+    0
 }
 
-// Has each edge available at x an answer at y? The codes at both are given.
+// Has each edge available at x an answer at y? The codes at both are given, and the answers are marked.
 fn edges_match(
     k: usize,
     x: usize,
@@ -259,21 +273,26 @@ fn edges_match(
     rows: &[u16],
     ones: &[u64],
     others: &[u64],
+    met: &mut [u8],
 ) -> bool
     requires { ⌜ (k ≤ mostEdges) × (x < mostItems) × (y < mostItems) ⌝ }
+    ensures { λ _. ⌜ length (now (met .exit)) ≡ length (now (met .entry)) ⌝ }
     ensures { λ r. ⌜ ((n : ℕ) → Opened n k (now (flags .entry)) → x < n → y < n
         → Coded k x (now (list .entry)) (now (flags .entry)) (now (resets .entry)) (now (spots .entry))
         (now (rows .entry)) (now (ones .entry))
         → Coded k y (now (list .entry)) (now (flags .entry)) (now (resets .entry)) (now (spots .entry))
         (now (rows .entry)) (now (others .entry))
         → Told k (now (list .entry)) (now (flags .entry)) (now (resets .entry)) (now (spots .entry)) (now (rows .entry)) x y
-        → r ≡ edgesAnswered k (now (list .entry)) (now (flags .entry)) (now (resets .entry)) (now (spots .entry))
-        (now (rows .entry)) x y) ⌝ }
+        → Met k (now (list .entry)) (now (flags .entry)) (now (resets .entry)) (now (spots .entry)) (now (rows .entry)) y x
+        (now (met .entry))
+        → (r ≡ edgesAnswered k (now (list .entry)) (now (flags .entry)) (now (resets .entry)) (now (spots .entry)) (now (rows .entry)) x y)
+        × Met k (now (list .entry)) (now (flags .entry)) (now (resets .entry)) (now (spots .entry)) (now (rows .entry)) y x
+        (now (met .exit))) ⌝ }
 {
     let mut e = open_below(x, k, flags);
     while 0 < e {
         let code = at64(ones, e - 1);
-        if !some_answers(
+        let f = find_answer(
             k,
             x,
             e - 1,
@@ -285,6 +304,91 @@ fn edges_match(
             spots,
             rows,
             others,
+        );
+        if f == 0 {
+            return false;
+        }
+        set_mark(f - 1, met);
+        e = open_below(x, e - 1, flags);
+    }
+    true
+}
+
+// Is edge e, which is available at x, marked, or has it an answer at y?
+fn is_met(
+    k: usize,
+    x: usize,
+    e: usize,
+    y: usize,
+    list: &[u64],
+    flags: &[u8],
+    resets: &[u16],
+    spots: &[u16],
+    rows: &[u16],
+    ones: &[u64],
+    others: &[u64],
+    met: &[u8],
+) -> bool
+    requires { ⌜ (k ≤ mostEdges) × (x < mostItems) × (e < mostEdges) × (y < mostItems) ⌝ }
+    ensures { λ r. ⌜ ((n : ℕ) → Opened n k (now (flags .entry)) → x < n → y < n → e < k → isOpen (now (flags .entry)) x e ≡ true
+        → Coded k x (now (list .entry)) (now (flags .entry)) (now (resets .entry)) (now (spots .entry))
+        (now (rows .entry)) (now (ones .entry))
+        → Coded k y (now (list .entry)) (now (flags .entry)) (now (resets .entry)) (now (spots .entry))
+        (now (rows .entry)) (now (others .entry))
+        → Told k (now (list .entry)) (now (flags .entry)) (now (resets .entry)) (now (spots .entry)) (now (rows .entry)) x y
+        → Met k (now (list .entry)) (now (flags .entry)) (now (resets .entry)) (now (spots .entry)) (now (rows .entry)) x y
+        (now (met .entry))
+        → r ≡ someAnswers k (now (list .entry)) (now (flags .entry)) (now (resets .entry)) (now (spots .entry))
+        (now (rows .entry)) x e y) ⌝ }
+{
+    if is_set(met, e) {
+        return true;
+    }
+    let code = at64(ones, e);
+    0 < find_answer(k, x, e, y, code, list, flags, resets, spots, rows, others)
+}
+
+// Has each edge available at x an answer at y? Those that are marked have.
+fn rest_match(
+    k: usize,
+    x: usize,
+    y: usize,
+    list: &[u64],
+    flags: &[u8],
+    resets: &[u16],
+    spots: &[u16],
+    rows: &[u16],
+    ones: &[u64],
+    others: &[u64],
+    met: &[u8],
+) -> bool
+    requires { ⌜ (k ≤ mostEdges) × (x < mostItems) × (y < mostItems) ⌝ }
+    ensures { λ r. ⌜ ((n : ℕ) → Opened n k (now (flags .entry)) → x < n → y < n
+        → Coded k x (now (list .entry)) (now (flags .entry)) (now (resets .entry)) (now (spots .entry))
+        (now (rows .entry)) (now (ones .entry))
+        → Coded k y (now (list .entry)) (now (flags .entry)) (now (resets .entry)) (now (spots .entry))
+        (now (rows .entry)) (now (others .entry))
+        → Told k (now (list .entry)) (now (flags .entry)) (now (resets .entry)) (now (spots .entry)) (now (rows .entry)) x y
+        → Met k (now (list .entry)) (now (flags .entry)) (now (resets .entry)) (now (spots .entry)) (now (rows .entry)) x y
+        (now (met .entry))
+        → r ≡ edgesAnswered k (now (list .entry)) (now (flags .entry)) (now (resets .entry)) (now (spots .entry))
+        (now (rows .entry)) x y) ⌝ }
+{
+    let mut e = open_below(x, k, flags);
+    while 0 < e {
+        if !is_met(
+            k,
+            x,
+            e - 1,
+            y,
+            list,
+            flags,
+            resets,
+            spots,
+            rows,
+            ones,
+            others,
+            met,
         ) {
             return false;
         }
@@ -293,7 +397,7 @@ fn edges_match(
     true
 }
 
-// Has each edge available at x an answer at y, and each one at y one at x?
+// Has each edge available at x an answer at y, and each one at y one at x? The codes at y are given.
 pub(crate) fn edges_agree(
     k: usize,
     x: usize,
@@ -303,20 +407,46 @@ pub(crate) fn edges_agree(
     resets: &[u16],
     spots: &[u16],
     rows: &[u16],
+    others: &[u64],
 ) -> bool
     requires { ⌜ (k ≤ mostEdges) × (x < mostItems) × (y < mostItems) ⌝ }
     ensures { λ r. ⌜ ((n : ℕ) → Opened n k (now (flags .entry)) → x < n → y < n
+        → Coded k y (now (list .entry)) (now (flags .entry)) (now (resets .entry)) (now (spots .entry)) (now (rows .entry))
+        (now (others .entry))
         → Told k (now (list .entry)) (now (flags .entry)) (now (resets .entry)) (now (spots .entry)) (now (rows .entry)) x y
         → Told k (now (list .entry)) (now (flags .entry)) (now (resets .entry)) (now (spots .entry)) (now (rows .entry)) y x
         → r ≡ (edgesAnswered k (now (list .entry)) (now (flags .entry)) (now (resets .entry)) (now (spots .entry)) (now (rows .entry)) x y
         && edgesAnswered k (now (list .entry)) (now (flags .entry)) (now (resets .entry)) (now (spots .entry)) (now (rows .entry)) y x)) ⌝ }
 {
     let mut ones = [0u64; 128];
-    let mut others = [0u64; 128];
+    let mut met = [0u8; 128];
     list_codes(k, x, list, flags, resets, spots, rows, &mut ones);
-    list_codes(k, y, list, flags, resets, spots, rows, &mut others);
-    if !edges_match(k, x, y, list, flags, resets, spots, rows, &ones, &others) {
+    if !edges_match(
+        k,
+        x,
+        y,
+        list,
+        flags,
+        resets,
+        spots,
+        rows,
+        &ones,
+        others,
+        &mut met,
+    ) {
         return false;
     }
-    edges_match(k, y, x, list, flags, resets, spots, rows, &others, &ones)
+    rest_match(
+        k,
+        y,
+        x,
+        list,
+        flags,
+        resets,
+        spots,
+        rows,
+        others,
+        &ones,
+        &met,
+    )
 }

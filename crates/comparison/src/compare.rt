@@ -2,15 +2,17 @@
 ghost use Prim.Native.Nat.{ℕ, _<_, _≤_};
 ghost use mathlib.Core.Path.{_≡_};
 ghost use mathlib.Core.Bool.{true, false, cond};
+ghost use lib.Dec.{eqb};
 ghost use lib.ListN.{length, getD, set};
 ghost use Rattle.bisimulation.specs.Finite.{related};
-ghost use Rattle.comparison.specs.Held.{mostItems, mostEdges, weightAt, targetAt, isInside, targetOf};
-ghost use Rattle.comparison.specs.Compare.{Below, reachesNumber, allMarked, delaysAnswered};
+ghost use Rattle.comparison.specs.Held.{mostItems, mostEdges, countAt, weightAt, targetAt, isInside, targetOf};
+ghost use Rattle.comparison.specs.Compare.{Below, reachesNumber, allMarked, delaysAnswered, numberOf, Gathered};
 ghost use Rattle.comparison.specs.Compare.{weighed, balanced, balancedOver, edgesAlike};
 use crate::slices::at16;
 use crate::slices::at64;
 use crate::slices::index_at;
 use crate::slices::is_set;
+use crate::slices::put64;
 
 // Do two items have the same number?
 pub(crate) fn is_related(x: usize, y: usize, list: &[u64]) -> bool
@@ -20,7 +22,7 @@ pub(crate) fn is_related(x: usize, y: usize, list: &[u64]) -> bool
 }
 
 // Sets a mark.
-fn set_mark(v: usize, marks: &mut [u8])
+pub(crate) fn set_mark(v: usize, marks: &mut [u8])
     ensures { λ _. ⌜ now (marks .exit) ≡ set (now (marks .entry)) v 1 ⌝ }
 {
     if v < marks.len() {
@@ -118,9 +120,33 @@ pub fn target_of(x: usize, e: usize, i: usize, resets: &[u16], spots: &[u16], ro
     target_at(x, e, i, resets, spots, rows)
 }
 
-// The weight of branch i of edge e at item x, where it leads to the block of c, and else 0.
-fn weigh_one(
-    c: usize,
+// ---- Edges by the numbers of the blocks that their branches lead to, which are looked up once
+
+// Keeps these numbers of edge e at item x, as many as there is room for.
+pub(crate) fn gather(
+    x: usize,
+    e: usize,
+    list: &[u64],
+    resets: &[u16],
+    spots: &[u16],
+    rows: &[u16],
+    got: &mut [u64],
+)
+    requires { ⌜ (x < mostItems) × (e < mostEdges) ⌝ }
+    ensures { λ _. ⌜ length (now (got .exit)) ≡ length (now (got .entry)) ⌝ }
+    ensures { λ _. ⌜ Gathered x e (now (list .entry)) (now (resets .entry)) (now (spots .entry)) (now (rows .entry)) (now (got .exit)) ⌝ }
+{
+    let count = at16(rows, 32 * e + 2);
+    let mut i = 0;
+    while i < count {
+        let target = target_at(x, e, i, resets, spots, rows);
+        put64(i, at64(list, target), got);
+        i = i + 1;
+    }
+}
+
+// The number of branch i of edge e at item x: the one that is kept, and where there is no room for it, looked up.
+pub(crate) fn number_at(
     x: usize,
     e: usize,
     i: usize,
@@ -128,64 +154,98 @@ fn weigh_one(
     resets: &[u16],
     spots: &[u16],
     rows: &[u16],
+    got: &[u64],
 ) -> u64
     requires { ⌜ (x < mostItems) × (e < mostEdges) × (i < 65536) ⌝ }
-    ensures { λ r. ⌜ (r ≡ cond (related (now (list .entry))
-        (targetAt (now (resets .entry)) (now (spots .entry)) (now (rows .entry)) x e i) c)
-        (weightAt (now (rows .entry)) e i) 0) × (r < 65536) ⌝ }
+    ensures { λ r. ⌜ (i < countAt (now (rows .entry)) e → Gathered x e (now (list .entry)) (now (resets .entry)) (now (spots .entry))
+        (now (rows .entry))
+        (now (got .entry)) → r ≡ numberOf (now (list .entry)) (now (resets .entry)) (now (spots .entry)) (now (rows .entry)) x e i) ⌝ }
 {
-    let target = target_at(x, e, i, resets, spots, rows);
-    if is_related(target, c, list) {
+    if i < got.len() {
+        return at64(got, i);
+    }
+    at64(list, target_at(x, e, i, resets, spots, rows))
+}
+
+// The weight of branch i of edge e at item x, where it leads to the block with number v, and else 0.
+fn weigh_one(
+    v: u64,
+    x: usize,
+    e: usize,
+    i: usize,
+    list: &[u64],
+    resets: &[u16],
+    spots: &[u16],
+    rows: &[u16],
+    got: &[u64],
+) -> u64
+    requires { ⌜ (x < mostItems) × (e < mostEdges) × (i < 65536) ⌝ }
+    ensures { λ r. ⌜ r < 65536 ⌝ }
+    ensures { λ r. ⌜ (i < countAt (now (rows .entry)) e → Gathered x e (now (list .entry)) (now (resets .entry)) (now (spots .entry))
+        (now (rows .entry))
+        (now (got .entry)) → r ≡ cond (eqb (numberOf (now (list .entry)) (now (resets .entry)) (now (spots .entry))
+        (now (rows .entry)) x e i) v)
+        (weightAt (now (rows .entry)) e i) 0) ⌝ }
+{
+    if number_at(x, e, i, list, resets, spots, rows, got) == v {
         return at16(rows, 32 * e + 3 + 3 * i) as u64;
     }
     0
 }
 
-// The weight of edge e at item x that lands in the block of c.
+// The weight of edge e at item x that lands in the block with number v; c is any item of that block.
 pub(crate) fn weigh(
-    c: usize,
+    v: u64,
     x: usize,
     e: usize,
     list: &[u64],
     resets: &[u16],
     spots: &[u16],
     rows: &[u16],
+    got: &[u64],
 ) -> u64
     requires { ⌜ (x < mostItems) × (e < mostEdges) ⌝ }
-    ensures { λ r. ⌜ (r ≡ weighed (now (list .entry)) (now (resets .entry)) (now (spots .entry)) (now (rows .entry)) c x e)
-        × (r < 4294967296) ⌝ }
+    ensures { λ r. ⌜ r < 4294967296 ⌝ }
+    ensures { λ r. ⌜ ((c : ℕ) → v ≡ getD (now (list .entry)) c 0 → Gathered x e (now (list .entry)) (now (resets .entry))
+        (now (spots .entry)) (now (rows .entry))
+        (now (got .entry)) → r ≡ weighed (now (list .entry)) (now (resets .entry)) (now (spots .entry)) (now (rows .entry)) c x e) ⌝ }
 {
     let count = at16(rows, 32 * e + 2);
     let mut total = 0u64;
     let mut i = count;
     while 0 < i {
         i = i - 1;
-        total = total + weigh_one(c, x, e, i, list, resets, spots, rows);
+        total = total + weigh_one(v, x, e, i, list, resets, spots, rows, got);
     }
     total
 }
 
-// Do edge e at x and edge f at y give the block of c the same share?
+// Do edge e at x and edge f at y give the block with number v the same share? c is any item of it.
 fn is_balanced(
     x: usize,
     e: usize,
     y: usize,
     f: usize,
-    c: usize,
+    v: u64,
     list: &[u64],
     resets: &[u16],
     spots: &[u16],
     rows: &[u16],
+    ones: &[u64],
+    others: &[u64],
 ) -> bool
     requires { ⌜ (x < mostItems) × (e < mostEdges) × (y < mostItems) × (f < mostEdges) ⌝ }
-    ensures { λ r. ⌜ r ≡ balanced (now (list .entry)) (now (resets .entry)) (now (spots .entry)) (now (rows .entry)) x e y f c ⌝ }
+    ensures { λ r. ⌜ ((c : ℕ) → v ≡ getD (now (list .entry)) c 0
+        → Gathered x e (now (list .entry)) (now (resets .entry)) (now (spots .entry)) (now (rows .entry)) (now (ones .entry))
+        → Gathered y f (now (list .entry)) (now (resets .entry)) (now (spots .entry)) (now (rows .entry)) (now (others .entry))
+        → r ≡ balanced (now (list .entry)) (now (resets .entry)) (now (spots .entry)) (now (rows .entry)) x e y f c) ⌝ }
 {
-    let one = weigh(c, x, e, list, resets, spots, rows);
-    let other = weigh(c, y, f, list, resets, spots, rows);
+    let one = weigh(v, x, e, list, resets, spots, rows, ones);
+    let other = weigh(v, y, f, list, resets, spots, rows, others);
     one * (at16(rows, 32 * f + 1) as u64) == other * (at16(rows, 32 * e + 1) as u64)
 }
 
-// Do they so at each target of edge g at z?
+// Do they so at each target of edge g at z, whose numbers are kept too?
 fn is_balanced_over(
     z: usize,
     g: usize,
@@ -197,15 +257,21 @@ fn is_balanced_over(
     resets: &[u16],
     spots: &[u16],
     rows: &[u16],
+    got: &[u64],
+    ones: &[u64],
+    others: &[u64],
 ) -> bool
     requires { ⌜ (z < mostItems) × (g < mostEdges) × (x < mostItems) × (e < mostEdges) × (y < mostItems) × (f < mostEdges) ⌝ }
-    ensures { λ r. ⌜ r ≡ balancedOver (now (list .entry)) (now (resets .entry)) (now (spots .entry)) (now (rows .entry)) z g x e y f ⌝ }
+    ensures { λ r. ⌜ (Gathered z g (now (list .entry)) (now (resets .entry)) (now (spots .entry)) (now (rows .entry)) (now (got .entry))
+        → Gathered x e (now (list .entry)) (now (resets .entry)) (now (spots .entry)) (now (rows .entry)) (now (ones .entry))
+        → Gathered y f (now (list .entry)) (now (resets .entry)) (now (spots .entry)) (now (rows .entry)) (now (others .entry))
+        → r ≡ balancedOver (now (list .entry)) (now (resets .entry)) (now (spots .entry)) (now (rows .entry)) z g x e y f) ⌝ }
 {
     let count = at16(rows, 32 * g + 2);
     let mut i = 0;
     while i < count {
-        let c = target_at(z, g, i, resets, spots, rows);
-        if !is_balanced(x, e, y, f, c, list, resets, spots, rows) {
+        let v = number_at(z, g, i, list, resets, spots, rows, got);
+        if !is_balanced(x, e, y, f, v, list, resets, spots, rows, ones, others) {
             return false;
         }
         i = i + 1;
@@ -230,10 +296,42 @@ pub(crate) fn edges_alike(
     if at16(rows, 32 * e) != at16(rows, 32 * f) {
         return false;
     }
-    if !is_balanced_over(x, e, x, e, y, f, list, resets, spots, rows) {
+    let mut ones = [0u64; 8];
+    let mut others = [0u64; 8];
+    gather(x, e, list, resets, spots, rows, &mut ones);
+    gather(y, f, list, resets, spots, rows, &mut others);
+    if !is_balanced_over(
+        x,
+        e,
+        x,
+        e,
+        y,
+        f,
+        list,
+        resets,
+        spots,
+        rows,
+        &ones,
+        &ones,
+        &others,
+    ) {
         return false;
     }
-    is_balanced_over(y, f, x, e, y, f, list, resets, spots, rows)
+    is_balanced_over(
+        y,
+        f,
+        x,
+        e,
+        y,
+        f,
+        list,
+        resets,
+        spots,
+        rows,
+        &others,
+        &ones,
+        &others,
+    )
 }
 
 // Are x and y items, of so many items and edges as there may be?

@@ -18,6 +18,7 @@ use crate::slices::at64;
 use crate::slices::is_clear;
 use crate::slices::is_set;
 use crate::slices::open_below;
+use crate::slices::put64;
 
 // ---- Delays
 
@@ -120,54 +121,58 @@ fn sum_codes(k: usize, x: usize, codes: &[u64], flags: &[u8]) -> u64
     total
 }
 
-// The key of the edges of x.
-fn edges_key(
-    k: usize,
-    x: usize,
-    list: &[u64],
-    flags: &[u8],
-    resets: &[u16],
-    spots: &[u16],
-    rows: &[u16],
-) -> u64
-    requires { ⌜ (k ≤ mostEdges) × (x < mostItems) ⌝ }
-    ensures { λ r. ⌜ r < 140737488355328 ⌝ }
-    ensures { λ r. ⌜ ((n : ℕ) → Opened n k (now (flags .entry)) → x < n
-        → r ≡ edgeKey k (now (list .entry)) (now (flags .entry)) (now (resets .entry)) (now (spots .entry)) (now (rows .entry)) x) ⌝ }
-{
-    let mut codes = [0u64; 128];
-    list_codes(k, x, list, flags, resets, spots, rows, &mut codes);
-    sum_codes(k, x, &codes, flags)
-}
-
 // ---- Both
 
-fn key_of(
+// The key of item x, from the codes of its edges.
+fn key_by(
     n: usize,
     k: usize,
     x: usize,
     list: &[u64],
     nexts: &[u16],
     flags: &[u8],
-    resets: &[u16],
-    spots: &[u16],
-    rows: &[u16],
+    codes: &[u64],
 ) -> u64
     requires { ⌜ (k ≤ mostEdges) × (x < mostItems) ⌝ }
-    ensures { λ r. ⌜ (Opened n k (now (flags .entry)) → x < n → r ≡ keyOf n k (now (list .entry)) (now (nexts .entry)) (now (flags .entry))
-        (now (resets .entry)) (now (spots .entry)) (now (rows .entry)) x) ⌝ }
+    ensures { λ r. ⌜ ((resets spots rows : List ℕ) → Opened n k (now (flags .entry)) → x < n
+        → Coded k x (now (list .entry)) (now (flags .entry)) resets spots rows (now (codes .entry))
+        → r ≡ keyOf n k (now (list .entry)) (now (nexts .entry)) (now (flags .entry)) resets spots rows x) ⌝ }
 {
-    let edges = edges_key(k, x, list, flags, resets, spots, rows);
+    let edges = sum_codes(k, x, codes, flags);
     edges * 65536 + delays_key(n, x, list, nexts) + 1
 }
 
-// Stores a key, where the list has room for it.
-fn put_key(x: usize, key: u64, keys: &mut [u64])
-    ensures { λ _. ⌜ now (keys .exit) ≡ set (now (keys .entry)) x key ⌝ }
+// The key of item x, which was not known and is from now on; and the codes that it is made of.
+pub(crate) fn coded_key(
+    n: usize,
+    k: usize,
+    x: usize,
+    names: &[u64],
+    nexts: &[u16],
+    flags: &[u8],
+    resets: &[u16],
+    spots: &[u16],
+    rows: &[u16],
+    keys: &mut [u64],
+    codes: &mut [u64],
+) -> u64
+    requires { ⌜ (k ≤ mostEdges) × (x < mostItems) × (length (now codes) ≡ mostEdges) ⌝ }
+    ensures { λ _. ⌜ (length (now (keys .exit)) ≡ length (now (keys .entry))) × (length (now (codes .exit)) ≡ mostEdges) ⌝ }
+    ensures { λ r. ⌜ (Opened n k (now (flags .entry)) → x < n
+        → Known n k (now (names .entry)) (now (keys .entry)) (now (nexts .entry)) (now (flags .entry))
+        (now (resets .entry)) (now (spots .entry)) (now (rows .entry))
+        → (r ≡ keyOf n k (now (names .entry)) (now (nexts .entry)) (now (flags .entry)) (now (resets .entry)) (now (spots .entry))
+        (now (rows .entry)) x)
+        × Known n k (now (names .entry)) (now (keys .exit)) (now (nexts .entry)) (now (flags .entry))
+        (now (resets .entry)) (now (spots .entry)) (now (rows .entry))
+        × Coded k x (now (names .entry)) (now (flags .entry)) (now (resets .entry)) (now (spots .entry)) (now (rows .entry))
+        (now (codes .exit))) ⌝ }
+    ensures { λ _. ⌜ (getD (now (keys .entry)) x 0 ≡ 0 → AskedFor x (now (keys .entry)) (now (keys .exit))) ⌝ }
 {
-    if x < keys.len() {
-        keys[x] = key;
-    }
+    list_codes(k, x, names, flags, resets, spots, rows, codes);
+    let key = key_by(n, k, x, names, nexts, flags, codes);
+    put64(x, key, keys);
+    key
 }
 
 // The key of item x, which is known from now on.
@@ -198,9 +203,20 @@ pub(crate) fn known_key(
     if old != 0 {
         return old;
     }
-    let key = key_of(n, k, x, names, nexts, flags, resets, spots, rows);
-    put_key(x, key, keys);
-    key
+    let mut codes = [0u64; 128];
+    coded_key(
+        n,
+        k,
+        x,
+        names,
+        nexts,
+        flags,
+        resets,
+        spots,
+        rows,
+        keys,
+        &mut codes,
+    )
 }
 
 // The key of item x is forgotten, where x is stirred.
@@ -210,7 +226,7 @@ fn forget_key(x: usize, stirred: &[u8], keys: &mut [u64])
     if is_clear(stirred, x) {
         return;
     }
-    put_key(x, 0, keys);
+    put64(x, 0, keys);
 }
 
 // The keys of all items that are stirred are forgotten; the others stay.

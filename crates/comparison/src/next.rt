@@ -2,16 +2,19 @@
 ghost use Prim.Native.Nat.{ℕ, _<_, _≤_};
 ghost use mathlib.Core.Path.{_≡_};
 ghost use mathlib.Core.Bool.{true, false, _&&_};
-ghost use lib.ListN.{length};
+ghost use mathlib.Core.List.{List};
+ghost use lib.ListN.{length, getD};
 ghost use Rattle.bisimulation.specs.Structures.{Closed};
 ghost use Rattle.bisimulation.specs.Finite.{Finite, structure, related, next};
-ghost use Rattle.comparison.specs.Held.{Held, Onward};
+ghost use Rattle.comparison.specs.Held.{mostItems, mostEdges, Held, Onward};
 ghost use Rattle.comparison.specs.Compare.{Below, delaysAnswered};
-ghost use Rattle.comparison.specs.Keys.{Keyed, BothAsked};
+ghost use Rattle.comparison.specs.Keys.{keyOf, Coded, Known, AskedFor, Keyed, BothAsked};
 use crate::codes::edges_agree;
+use crate::codes::list_codes;
 use crate::compare::are_items;
 use crate::compare::delays_match;
 use crate::compare::is_related;
+use crate::keys::coded_key;
 use crate::keys::known_key;
 use crate::slices::at64;
 use crate::twins::is_twin;
@@ -31,6 +34,35 @@ fn delays_agree(n: usize, x: usize, y: usize, list: &[u64], nexts: &[u16]) -> bo
         return false;
     }
     delays_match(n, y, x, list, nexts)
+}
+
+// Is item y related to item x in the next round? The codes of the edges of y are given.
+fn is_coded_next(
+    n: usize,
+    k: usize,
+    x: usize,
+    y: usize,
+    list: &[u64],
+    nexts: &[u16],
+    flags: &[u8],
+    resets: &[u16],
+    spots: &[u16],
+    rows: &[u16],
+    codes: &[u64],
+) -> bool
+    requires { ⌜ (k ≤ mostEdges) × (x < mostItems) × (y < mostItems) ⌝ }
+    ensures { λ r. ⌜ ((F : Finite) (labels : List ℕ) → Held F n k labels (now (nexts .entry)) (now (flags .entry)) (now (resets .entry))
+        (now (spots .entry)) (now (rows .entry)) → Closed (structure F) → Below n (now (list .entry)) → x < n → y < n
+        → Coded k y (now (list .entry)) (now (flags .entry)) (now (resets .entry)) (now (spots .entry)) (now (rows .entry))
+        (now (codes .entry)) → r ≡ next F (now (list .entry)) x y) ⌝ }
+{
+    if !is_related(x, y, list) {
+        return false;
+    }
+    if !delays_agree(n, x, y, list, nexts) {
+        return false;
+    }
+    edges_agree(k, x, y, list, flags, resets, spots, rows, codes)
 }
 
 // Is item y related to item x in the next round? The list says how items are related in this one. Numbers that are not below n are
@@ -56,13 +88,54 @@ pub fn is_next(
     if !are_items(n, k, x, y) {
         return false;
     }
-    if !is_related(x, y, list) {
+    let mut codes = [0u64; 128];
+    list_codes(k, y, list, flags, resets, spots, rows, &mut codes);
+    is_coded_next(n, k, x, y, list, nexts, flags, resets, spots, rows, &codes)
+}
+
+// The same where the key of x is given and that of y is not known, but will be.
+fn is_newly_keyed_next(
+    n: usize,
+    k: usize,
+    x: usize,
+    y: usize,
+    one: u64,
+    names: &[u64],
+    nexts: &[u16],
+    flags: &[u8],
+    resets: &[u16],
+    spots: &[u16],
+    rows: &[u16],
+    keys: &mut [u64],
+) -> bool
+    requires { ⌜ (k ≤ mostEdges) × (x < mostItems) × (y < mostItems) ⌝ }
+    ensures { λ _. ⌜ length (now (keys .exit)) ≡ length (now (keys .entry)) ⌝ }
+    ensures { λ r. ⌜ ((F : Finite) (labels : List ℕ) → Keyed F n k (now (names .entry)) (now (keys .entry)) labels (now (nexts .entry))
+        (now (flags .entry)) (now (resets .entry)) (now (spots .entry)) (now (rows .entry)) → x < n → y < n
+        → one ≡ keyOf n k (now (names .entry)) (now (nexts .entry)) (now (flags .entry)) (now (resets .entry)) (now (spots .entry))
+        (now (rows .entry)) x → (r ≡ next F (now (names .entry)) x y)
+        × Known n k (now (names .entry)) (now (keys .exit)) (now (nexts .entry)) (now (flags .entry))
+        (now (resets .entry)) (now (spots .entry)) (now (rows .entry))) ⌝ }
+    ensures { λ _. ⌜ (getD (now (keys .entry)) y 0 ≡ 0 → AskedFor y (now (keys .entry)) (now (keys .exit))) ⌝ }
+{
+    let mut codes = [0u64; 128];
+    let other = coded_key(
+        n,
+        k,
+        y,
+        names,
+        nexts,
+        flags,
+        resets,
+        spots,
+        rows,
+        keys,
+        &mut codes,
+    );
+    if one != other {
         return false;
     }
-    if !delays_agree(n, x, y, list, nexts) {
-        return false;
-    }
-    edges_agree(k, x, y, list, flags, resets, spots, rows)
+    is_coded_next(n, k, x, y, names, nexts, flags, resets, spots, rows, &codes)
 }
 
 // Is item y related to item x in the next round? Where the key of y is not known, the two may be plainly alike; else different keys say
@@ -99,7 +172,23 @@ pub fn is_keyed_next(
         }
     }
     let one = known_key(n, k, x, names, nexts, flags, resets, spots, rows, keys);
-    let other = known_key(n, k, y, names, nexts, flags, resets, spots, rows, keys);
+    let other = at64(keys, y);
+    if other == 0 {
+        return is_newly_keyed_next(
+            n,
+            k,
+            x,
+            y,
+            one,
+            names,
+            nexts,
+            flags,
+            resets,
+            spots,
+            rows,
+            keys,
+        );
+    }
     if one != other {
         return false;
     }

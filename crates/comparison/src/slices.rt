@@ -1,7 +1,7 @@
 // Reading numbers out of slices: total, with 0 past the end.
 ghost use Prim.Native.Nat.{ℕ, _<_, _≤_};
 ghost use mathlib.Core.Path.{_≡_};
-ghost use lib.ListN.{getD};
+ghost use lib.ListN.{getD, set};
 ghost use lib.Dec.{eqb};
 ghost use Rattle.comparison.specs.Held.{mostItems, mostEdges, openBelow, isOpen, Opened, toldAt, openEdge};
 
@@ -23,6 +23,15 @@ pub fn at64(list: &[u64], i: usize) -> u64
     ensures { λ r. ⌜ r ≡ getD (now (list .entry)) i 0 ⌝ }
 {
     if i < list.len() { list[i] } else { 0 }
+}
+
+// Stores a number, where the list has room for it.
+pub(crate) fn put64(i: usize, number: u64, list: &mut [u64])
+    ensures { λ _. ⌜ now (list .exit) ≡ set (now (list .entry)) i number ⌝ }
+{
+    if i < list.len() {
+        list[i] = number;
+    }
 }
 
 // A number of a list as a place.

@@ -4,6 +4,7 @@ use Prim.Native.Nat.{ℕ, _+_, _*_, _<_}
 use mathlib.Core.Path.{_≡_}
 use mathlib.Core.Bool.{Bool, true}
 use mathlib.Core.List.{List, List·Memᴰ}
+use mathlib.Core.Logic.{_⊎_}
 use lib.ListN.{getD}
 use Rattle.comparison.specs.Held.{maskRoom, mostItems, chain, countAt, maskAt, targetAt}
 use Rattle.comparison.specs.Held.{isOpen}
@@ -81,18 +82,30 @@ UntouchedBy used resets marks x mask = getD used mask 0 ≡ 1 → ¬ (getD marks
 abbrev pub Untouched : (used resets marks : List ℕ) → (x : ℕ) → Type 0
 Untouched used resets marks x = (mask : ℕ) → mask < maskRoom → UntouchedBy used resets marks x mask
 
--- An item that is not stirred is still and untouched.
-abbrev pub RestsAt : (used resets still marks stirred : List ℕ) → (x : ℕ) → Type 0
-RestsAt used resets still marks stirred x = getD stirred x 0 ≡ 0 → (getD still x 0 ≡ 1) × Untouched used resets marks x
+-- Edge e at x leads to nothing that has changed; no edge that is available at x does.
+abbrev pub EdgeCalm : (changed resets spots rows : List ℕ) → (x e : ℕ) → Type 0
+EdgeCalm changed resets spots rows x e = (i : ℕ) → i < countAt rows e → getD changed (targetAt resets spots rows x e i) 0 ≡ 0
 
-abbrev pub Rests : (n : ℕ) → (used resets still marks stirred : List ℕ) → Type 0
-Rests n used resets still marks stirred = (x : ℕ) → x < n → RestsAt used resets still marks stirred x
+abbrev pub EdgesCalm : (k : ℕ) → (changed flags resets spots rows : List ℕ) → (x : ℕ) → Type 0
+EdgesCalm k changed flags resets spots rows x = (e : ℕ) → e < k → isOpen flags x e ≡ true → EdgeCalm changed resets spots rows x e
 
--- So it is still, and no item with clocks that its own become under the mask of a branch has changed.
-abbrev pub Spared : (n k : ℕ) → (changed resets rows still stirred : List ℕ) → Type 0
-Spared n k changed resets rows still stirred =
-    (x : ℕ) → x < n → getD stirred x 0 ≡ 0
-    → (getD still x 0 ≡ 1)
-    × ((e i t : ℕ) → e < k → i < countAt rows e → maskAt rows e i < maskRoom → t < n
+-- An item that is not stirred is still; and it is untouched, or its edges lead to nothing that has changed.
+abbrev pub RestsAt : (k : ℕ) → (changed flags resets spots rows used still marks : List ℕ) → (x flag : ℕ) → Type 0
+RestsAt k changed flags resets spots rows used still marks x flag =
+    flag ≡ 0 → (getD still x 0 ≡ 1) × (Untouched used resets marks x ⊎ EdgesCalm k changed flags resets spots rows x)
+
+abbrev pub Rests : (n k : ℕ) → (changed flags resets spots rows used still marks stirred : List ℕ) → Type 0
+Rests n k changed flags resets spots rows used still marks stirred =
+    (x : ℕ) → x < n → RestsAt k changed flags resets spots rows used still marks x (getD stirred x 0)
+
+-- So it is still; and no item with clocks that its own become under the mask of a branch has changed, or its edges lead to none that has.
+abbrev pub Unreached : (n k : ℕ) → (changed resets rows : List ℕ) → (x : ℕ) → Type 0
+Unreached n k changed resets rows x =
+    (e i t : ℕ) → e < k → i < countAt rows e → maskAt rows e i < maskRoom → t < n
     → getD resets (maskRoom * t) 0 ≡ getD resets (maskRoom * x + maskAt rows e i) 0 → getD resets (maskRoom * t) 0 < mostItems
-    → getD changed t 0 ≡ 0)
+    → getD changed t 0 ≡ 0
+
+abbrev pub Spared : (n k : ℕ) → (changed flags resets spots rows still stirred : List ℕ) → Type 0
+Spared n k changed flags resets spots rows still stirred =
+    (x : ℕ) → x < n → getD stirred x 0 ≡ 0
+    → (getD still x 0 ≡ 1) × (Unreached n k changed resets rows x ⊎ EdgesCalm k changed flags resets spots rows x)

@@ -8,7 +8,8 @@ ghost use lib.Dec.{eqb};
 ghost use lib.ListN.{length, getD, set};
 ghost use Rattle.comparison.specs.Held.{mostItems, mostEdges, maskRoom, Opened};
 ghost use Rattle.rounds.specs.Changes.{Stirred, BranchClassed, EdgeClassed, ItemClassed, Classed, StillAt, Still};
-ghost use Rattle.rounds.specs.Changes.{Kept, MarkedAt, Marked, UsedBy, Used, UntouchedBy, Untouched, Rests, Spared};
+ghost use Rattle.rounds.specs.Changes.{Kept, MarkedAt, Marked, UsedBy, Used, UntouchedBy, Untouched, EdgeCalm, EdgesCalm};
+ghost use Rattle.rounds.specs.Changes.{RestsAt, Rests, Spared};
 use crate::stores::put_flag;
 use crate::stores::put_link;
 use comparison::at16;
@@ -325,36 +326,117 @@ fn is_touched(x: usize, used: &[u8], resets: &[u16], marks: &[u8]) -> bool
     false
 }
 
-// 0 where item x is still and untouched, and else 1.
-fn stirred_flag(x: usize, used: &[u8], resets: &[u16], still: &[u8], marks: &[u8]) -> u8
-    requires { ⌜ x < mostItems ⌝ }
-    ensures { λ r. ⌜ (r ≡ 0 → (getD (now (still .entry)) x 0 ≡ 1)
-        × Untouched (now (used .entry)) (now (resets .entry)) (now (marks .entry)) x) ⌝ }
+// Does edge e at item x lead to nothing that has changed?
+fn is_edge_calm(
+    x: usize,
+    e: usize,
+    changed: &[u8],
+    resets: &[u16],
+    spots: &[u16],
+    rows: &[u16],
+) -> bool
+    requires { ⌜ (x < mostItems) × (e < mostEdges) ⌝ }
+    ensures { λ r. ⌜ (r ≡ true → EdgeCalm (now (changed .entry)) (now (resets .entry)) (now (spots .entry)) (now (rows .entry)) x e) ⌝ }
+{
+    let count = at16(rows, 32 * e + 2);
+    let mut i = 0;
+    while i < count {
+        if !is_clear(changed, target_of(x, e, i, resets, spots, rows)) {
+            return false;
+        }
+        i = i + 1;
+    }
+    true
+}
+
+// Do the edges that are available at item x so?
+fn are_edges_calm(
+    k: usize,
+    x: usize,
+    changed: &[u8],
+    flags: &[u8],
+    resets: &[u16],
+    spots: &[u16],
+    rows: &[u16],
+) -> bool
+    requires { ⌜ (k ≤ mostEdges) × (x < mostItems) ⌝ }
+    ensures { λ r. ⌜ (r ≡ true → (n : ℕ) → Opened n k (now (flags .entry)) → x < n
+        → EdgesCalm k (now (changed .entry)) (now (flags .entry)) (now (resets .entry)) (now (spots .entry)) (now (rows .entry)) x) ⌝ }
+{
+    let mut e = open_edge(x, k, flags);
+    while 0 < e {
+        if !is_edge_calm(x, e - 1, changed, resets, spots, rows) {
+            return false;
+        }
+        e = open_edge(x, e - 1, flags);
+    }
+    true
+}
+
+// 0 where item x is still, and untouched or with edges that lead to nothing that has changed; and else 1. Touched items are few in most
+// rounds, so that the edges of few are gone through.
+fn stirred_flag(
+    k: usize,
+    x: usize,
+    changed: &[u8],
+    flags: &[u8],
+    resets: &[u16],
+    spots: &[u16],
+    rows: &[u16],
+    used: &[u8],
+    still: &[u8],
+    marks: &[u8],
+) -> u8
+    requires { ⌜ (k ≤ mostEdges) × (x < mostItems) ⌝ }
+    ensures { λ r. ⌜ ((n : ℕ) → Opened n k (now (flags .entry)) → x < n
+        → RestsAt k (now (changed .entry)) (now (flags .entry)) (now (resets .entry)) (now (spots .entry)) (now (rows .entry))
+        (now (used .entry)) (now (still .entry)) (now (marks .entry)) x r) ⌝ }
 {
     if !is_set(still, x) {
         return 1;
     }
-    if is_touched(x, used, resets, marks) {
-        return 1;
+    if !is_touched(x, used, resets, marks) {
+        return 0;
     }
-    0
+    if are_edges_calm(k, x, changed, flags, resets, spots, rows) {
+        return 0;
+    }
+    1
 }
 
 fn stir_touched(
     n: usize,
-    used: &[u8],
+    k: usize,
+    changed: &[u8],
+    flags: &[u8],
     resets: &[u16],
+    spots: &[u16],
+    rows: &[u16],
+    used: &[u8],
     still: &[u8],
     marks: &[u8],
     stirred: &mut [u8],
 )
-    requires { ⌜ (n ≤ mostItems) × (n ≤ length (now stirred)) ⌝ }
-    ensures { λ _. ⌜ (length (now (stirred .exit)) ≡ length (now (stirred .entry)))
-        × Rests n (now (used .entry)) (now (resets .entry)) (now (still .entry)) (now (marks .entry)) (now (stirred .exit)) ⌝ }
+    requires { ⌜ (n ≤ mostItems) × (k ≤ mostEdges) × (n ≤ length (now stirred)) ⌝ }
+    ensures { λ _. ⌜ length (now (stirred .exit)) ≡ length (now (stirred .entry)) ⌝ }
+    ensures { λ _. ⌜ (Opened n k (now (flags .entry)) → Rests n k (now (changed .entry)) (now (flags .entry)) (now (resets .entry))
+        (now (spots .entry)) (now (rows .entry))
+        (now (used .entry)) (now (still .entry)) (now (marks .entry)) (now (stirred .exit))) ⌝ }
 {
     let mut x = 0;
     while x < n {
-        let flag = stirred_flag(x, used, resets, still, marks);
+        let flag = stirred_flag(
+            k,
+            x,
+            changed,
+            flags,
+            resets,
+            spots,
+            rows,
+            used,
+            still,
+            marks,
+        );
         put_flag(x, flag, stirred);
         x = x + 1;
     }
@@ -365,20 +447,36 @@ fn stir_some(
     n: usize,
     k: usize,
     changed: &[u8],
+    flags: &[u8],
     resets: &[u16],
+    spots: &[u16],
     rows: &[u16],
     still: &[u8],
     stirred: &mut [u8],
 )
     requires { ⌜ (n ≤ mostItems) × (k ≤ mostEdges) × (n ≤ length (now stirred)) ⌝ }
-    ensures { λ _. ⌜ (length (now (stirred .exit)) ≡ length (now (stirred .entry)))
-        × Spared n k (now (changed .entry)) (now (resets .entry)) (now (rows .entry)) (now (still .entry)) (now (stirred .exit)) ⌝ }
+    ensures { λ _. ⌜ length (now (stirred .exit)) ≡ length (now (stirred .entry)) ⌝ }
+    ensures { λ _. ⌜ (Opened n k (now (flags .entry)) → Spared n k (now (changed .entry)) (now (flags .entry)) (now (resets .entry))
+        (now (spots .entry)) (now (rows .entry))
+        (now (still .entry)) (now (stirred .exit))) ⌝ }
 {
     let mut marks = [0u8; 4096];
     mark_classes(n, changed, resets, &mut marks);
     let mut used = [0u8; 16];
     mark_masks(k, rows, &mut used);
-    stir_touched(n, &used, resets, still, &marks, stirred);
+    stir_touched(
+        n,
+        k,
+        changed,
+        flags,
+        resets,
+        spots,
+        rows,
+        &used,
+        still,
+        &marks,
+        stirred,
+    );
 }
 
 fn stir_all(n: usize, stirred: &mut [u8])
@@ -410,7 +508,8 @@ pub(crate) fn stir(
 )
     requires { ⌜ (n ≤ mostItems) × (k ≤ mostEdges) × (n ≤ length (now stirred)) ⌝ }
     ensures { λ _. ⌜ length (now (stirred .exit)) ≡ length (now (stirred .entry)) ⌝ }
-    ensures { λ _. ⌜ ((classed ≡ true → Classed n k (now (flags .entry)) (now (resets .entry)) (now (spots .entry)) (now (rows .entry)))
+    ensures { λ _. ⌜ (Opened n k (now (flags .entry))
+        → (classed ≡ true → Classed n k (now (flags .entry)) (now (resets .entry)) (now (spots .entry)) (now (rows .entry)))
         → Stirred n k (now (changed .entry)) (now (nexts .entry)) (now (flags .entry)) (now (resets .entry)) (now (spots .entry))
         (now (rows .entry)) (now (stirred .exit))) ⌝ }
 {
@@ -424,5 +523,5 @@ pub(crate) fn stir(
         stir_all(n, stirred);
         return;
     }
-    stir_some(n, k, changed, resets, rows, &still, stirred);
+    stir_some(n, k, changed, flags, resets, spots, rows, &still, stirred);
 }

@@ -20,7 +20,7 @@ const KIN_COUNT: usize = 8;
 
 const SIGN_PRIME: usize = 4093;
 
-const SIGN_BASE: usize = 31;
+const SIGN_BASE: usize = 37;
 
 // Takes an edge of item x into a sign: its action, and the weight and the block of each of its branches.
 fn sign_edge(
@@ -36,15 +36,15 @@ fn sign_edge(
     ensures { λ r. ⌜ r < 4096 ⌝ }
 {
     let count = at16(rows, 32 * e + 2);
-    let mut now = (sign * SIGN_BASE + at16(rows, 32 * e)) % SIGN_PRIME;
+    let mut sum = sign * SIGN_BASE + at16(rows, 32 * e);
     let mut i = 0;
     while i < count {
         let block = index_at(names, target_of(x, e, i, resets, spots, rows)) % 4096;
         let weight = at16(rows, 32 * e + 3 + 3 * i);
-        now = ((now * SIGN_BASE + block) * SIGN_BASE + weight) % SIGN_PRIME;
+        sum = sum + (block * SIGN_BASE + weight) * (97 * i + 11);
         i = i + 1;
     }
-    now
+    sum % SIGN_PRIME
 }
 
 // The sign of item x: a number of its available edges, from the last down, under which its kins are found. Items that are plainly alike

@@ -7,7 +7,7 @@ ghost use lib.ListN.{length, getD, set, drop};
 ghost use Rattle.bisimulation.specs.Structures.{Closed};
 ghost use Rattle.bisimulation.specs.Finite.{Finite, structure, related, next, lead, blockCount, lastBlocks, rounds};
 ghost use Rattle.bisimulation.specs.Laws.Leads.{EquivalenceBelow, Reps};
-ghost use Rattle.comparison.specs.Held.{Held};
+ghost use Rattle.comparison.specs.Held.{Held, Opened};
 ghost use Rattle.comparison.specs.Compare.{Below};
 ghost use Rattle.rounds.specs.Names.{Tagged, Named, LeadersKept};
 ghost use Rattle.rounds.specs.Changes.{Classed, Settled};
@@ -500,7 +500,8 @@ fn follow_round(
         × (length (now (stirred .exit)) ≡ length (now (stirred .entry))) ⌝ }
     ensures { λ _. ⌜ (LeadersKept n (now (old .entry)) (now (new .entry)) → Tagged n (now (old .entry)) (now (tags .entry))
         → Named n (now (new .entry)) (now (tags .exit)) (now (names .exit))) ⌝ }
-    ensures { λ _. ⌜ ((classed ≡ true → Classed n k (now (flags .entry)) (now (resets .entry)) (now (spots .entry)) (now (rows .entry)))
+    ensures { λ _. ⌜ (Opened n k (now (flags .entry))
+        → (classed ≡ true → Classed n k (now (flags .entry)) (now (resets .entry)) (now (spots .entry)) (now (rows .entry)))
         → Followed n k (now (names .entry)) (now (names .exit)) (now (nexts .entry)) (now (flags .entry)) (now (resets .entry))
         (now (spots .entry)) (now (rows .entry)) (now (stirred .exit))) ⌝ }
 {

@@ -1,17 +1,24 @@
 -- Edges are matched by their codes: in a closed structure those that answer have the code of the edge that they answer to
 -- (`answers-tell`), so that only edges of that code need to be compared with it. Then the test of the next round from its parts.
-use Prim.Native.Nat.{ℕ, _<_}
-use mathlib.Core.Path.{_≡_, refl, sym, _∙_, ap}
+use Prim.Native.Nat.{ℕ, suc, _*_, _-_, _<_}
+use native.Mathlib.Omega.{arith}
+use mathlib.Core.Path.{_≡_, refl, sym, _∙_, ap, subst}
 use mathlib.Core.Bool.{Bool, true, false, _&&_}
 use mathlib.Core.List.{List}
-use lib.ListN.{getD}
+use mathlib.Core.Logic.{_⊎_, inl, inr}
+use lib.Dec.{eqb, ltb}
+use lib.ListN.{getD, set, replicate}
+use lib.Seq.{getD-set-other}
+use borrow.Author.Tests.{eq-eqb, eqb-true, lt-ltb, le-ltb}
 use Rattle.bisimulation.specs.Structures.{Closed}
 use Rattle.bisimulation.specs.Finite.{Finite, structure, related}
-use Rattle.bisimulation.specs.Laws.Tests.{fails, and-iff, below-some}
-use Rattle.comparison.specs.Held.{Held, isOpen}
-use Rattle.comparison.specs.Compare.{delaysAnswered, edgesAlike, answers, someAnswers, edgeAnswered, edgesAnswered, answered, nextIn}
-use Rattle.comparison.specs.Keys.{Coded, ToldBy, Told}
-use Rattle.comparison.specs.Laws.Compare.{answers-fails, answered-free, answered-on, all-fails}
+use Rattle.bisimulation.specs.Laws.Tests.{fails, and-iff, below-some, same?, same-test}
+use Rattle.comparison.specs.Held.{Held, isOpen, actionAt, wholeAt, countAt, targetAt}
+use Rattle.comparison.specs.Compare.{weighed, balanced, balancedOver, delaysAnswered, edgesAlike}
+use Rattle.comparison.specs.Compare.{answers, someAnswers, edgeAnswered, edgesAnswered, answered, nextIn}
+use Rattle.comparison.specs.Keys.{Coded, ToldBy, Told, Found, Met}
+use Rattle.comparison.specs.Laws.Steps.{zeros-at}
+use Rattle.comparison.specs.Laws.Compare.{answers-fails, answered-free, answered-on, all-fails, all-agree}
 use Rattle.comparison.specs.Laws.Keys.{code-same, whole-positive}
 use Rattle.comparison.specs.Laws.Down.{none-open, each-open}
 
@@ -76,6 +83,82 @@ module _ (k : ℕ) (list flags resets spots rows : List ℕ) where
       each-open (isOpen flags x) (λ e. edgeAnswered k list flags resets spots rows x y e) k
       (λ e closed. answered-free list flags resets spots rows k x y e closed)
       (λ e h ready. answered-on list flags resets spots rows k x y e ready ∙ all e h ready)
+
+-- ---- Answers, both ways
+
+module _ (list resets spots rows : List ℕ) (x e y f : ℕ) where
+  balanced-back : (c : ℕ) → balanced list resets spots rows x e y f c ≡ balanced list resets spots rows y f x e c
+  unfolding balanced
+  balanced-back c =
+      same-test (eqb one other) (eqb other one) (λ t. eq-eqb other one (sym (eqb-true one other t)))
+      (λ t. eq-eqb one other (sym (eqb-true other one t)))
+    where
+      one : ℕ
+      one = weighed list resets spots rows c x e * wholeAt rows f
+
+      other : ℕ
+      other = weighed list resets spots rows c y f * wholeAt rows e
+
+  over-back : (z g : ℕ) → balancedOver list resets spots rows z g x e y f ≡ balancedOver list resets spots rows z g y f x e
+  unfolding balancedOver
+  over-back z g =
+      all-agree (countAt rows g) (λ i. balanced list resets spots rows x e y f (targetAt resets spots rows z g i))
+      (λ i. balanced list resets spots rows y f x e (targetAt resets spots rows z g i))
+      (λ i _. balanced-back (targetAt resets spots rows z g i))
+
+  -- Edges are alike both ways.
+  pub alike-back : edgesAlike list resets spots rows x e y f ≡ true → edgesAlike list resets spots rows y f x e ≡ true
+  unfolding edgesAlike
+  alike-back t =
+      let overX = balancedOver list resets spots rows x e x e y f in
+      let overY = balancedOver list resets spots rows y f x e y f in
+      let (action, over) = and-iff (eqb (actionAt rows e) (actionAt rows f)) (overX && overY) .0 t in
+      let (atX, atY) = and-iff overX overY .0 over in
+      and-iff (eqb (actionAt rows f) (actionAt rows e))
+      (balancedOver list resets spots rows y f y f x e && balancedOver list resets spots rows x e y f x e) .1 (
+        eq-eqb (actionAt rows f) (actionAt rows e) (sym (eqb-true (actionAt rows e) (actionAt rows f) action)),
+        and-iff (balancedOver list resets spots rows y f y f x e) (balancedOver list resets spots rows x e y f x e) .1
+            (sym (over-back y f) ∙ atY, sym (over-back x e) ∙ atX),
+      )
+
+module _ (k : ℕ) (list flags resets spots rows : List ℕ) where
+  -- What a search found.
+  pub found-none : (x e y r : ℕ) → Found k list flags resets spots rows x e y r → r ≡ 0
+      → someAnswers k list flags resets spots rows x e y ≡ false
+  found-none x e y r (inl (_, none)) h = none
+  found-none x e y r (inr (f, at, _, _)) h = absurd (omega (arith, at, h))
+
+  pub found-some : (x e y r : ℕ) → Found k list flags resets spots rows x e y r → ¬ (r ≡ 0)
+      → (r - 1 < k) × (answers list flags resets spots rows x e y (r - 1) ≡ true)
+  found-some x e y r (inl (none, _)) h = absurd (h none)
+  found-some x e y r (inr (f, at, below, t)) h =
+      let same : f ≡ r - 1 = omega (arith, at) in
+      subst (λ (g : ℕ). (g < k) × (answers list flags resets spots rows x e y g ≡ true)) same (below, t)
+
+  pub found-tells : (x e y r : ℕ) → Found k list flags resets spots rows x e y r
+      → ltb 0 r ≡ someAnswers k list flags resets spots rows x e y
+  found-tells x e y r (inl (at, none)) = le-ltb 0 r (omega (arith, at)) ∙ sym none
+  found-tells x e y r (inr (f, at, below, t)) =
+      lt-ltb 0 r (omega (arith, at)) ∙ sym (one-answers k list flags resets spots rows x e y f below t)
+
+  -- Nothing is marked at first; then an edge at y that answers to one at x, which answers to it.
+  pub met-none : (x y n : ℕ) → Met k list flags resets spots rows x y (replicate {A = ℕ} n 0)
+  met-none x y n e t = absurd (omega (arith, sym (zeros-at n e) ∙ t))
+
+  pub met-on : (x e y f : ℕ) (met : List ℕ) → Met k list flags resets spots rows y x met → e < k → isOpen flags x e ≡ true
+      → answers list flags resets spots rows x e y f ≡ true → Met k list flags resets spots rows y x (set met f 1)
+  unfolding answers
+  met-on x e y f met all h ready t g marked = go (same? g f)
+    where
+      go : (g ≡ f) ⊎ (¬ (g ≡ f)) → someAnswers k list flags resets spots rows y g x ≡ true
+      go (inl same) =
+          subst (λ (g : ℕ). someAnswers k list flags resets spots rows y g x ≡ true) (sym same)
+          (one-answers k list flags resets spots rows y f x e h
+          (and-iff (isOpen flags x e) (edgesAlike list resets spots rows y f x e) .1 (
+            ready,
+            alike-back list resets spots rows x e y f (and-iff (isOpen flags y f) (edgesAlike list resets spots rows x e y f) .0 t .1),
+          )))
+      go (inr other) = all g (sym (getD-set-other met f g 1 0 other) ∙ marked)
 
 -- ---- The next round: first the delays of both, then the edges of both
 

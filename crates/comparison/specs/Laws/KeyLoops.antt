@@ -20,7 +20,7 @@ use Rattle.comparison.specs.Keys.{ForgottenAt, Forgotten, keysAfter}
 use Rattle.comparison.specs.Laws.Compare.{some-agree, any-here, any-none, any-last}
 use Rattle.comparison.specs.Laws.Keys.{sum-agree, sum-flip, sum-most, codeBound, code-small}
 use Rattle.comparison.specs.Laws.Down.{Down, none-open, down-on}
-use Rattle.comparison.specs.Laws.Steps.{below-one, cond-yes, cond-no}
+use Rattle.comparison.specs.Laws.Steps.{below-one, cond-yes, cond-no, zeros-at}
 
 -- ---- Sums and lists from the front
 
@@ -86,12 +86,7 @@ abbrev pub Clear : List ℕ → Type 0
 Clear marks = (u : ℕ) → isMarked marks u ≡ false
 
 pub clear-zeros : (n : ℕ) → Clear (replicate {A = ℕ} n 0)
-clear-zeros n u = ap (λ (z : ℕ). eqb z 1) (zero-at n u)
-  where
-    zero-at : (n u : ℕ) → getD (replicate {A = ℕ} n 0) u 0 ≡ 0
-    zero-at zero u = refl
-    zero-at (suc n) zero = refl
-    zero-at (suc n) (suc u) = zero-at n u
+clear-zeros n u = ap (λ (z : ℕ). eqb z 1) (zeros-at n u)
 
 -- What a block counts, and the sum over the marked blocks.
 abbrev countOf : List ℕ → ℕ → ℕ

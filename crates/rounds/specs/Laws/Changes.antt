@@ -21,7 +21,7 @@ use Rattle.comparison.specs.Laws.Steps.{each-none, each-on, each-over}
 use Rattle.rounds.specs.Names.{Changed}
 use Rattle.comparison.specs.Keys.{keyOf}
 use Rattle.rounds.specs.Changes.{Calm, Stirred, Settled, BranchClassed, Classed, Still, Kept, MarkedAt, Marked}
-use Rattle.rounds.specs.Changes.{UsedAt, UsedBy, Used, Rests, Spared}
+use Rattle.rounds.specs.Changes.{UsedAt, UsedBy, Used, Untouched, EdgesCalm, Rests, Unreached, Spared}
 use Rattle.comparison.specs.Laws.Compare.{branch-listed}
 use Rattle.comparison.specs.Laws.Kept.{key-kept}
 use Rattle.comparison.specs.Laws.Steps.{below-one}
@@ -192,33 +192,42 @@ branch-classed n resets spots rows x e i target mask class other target-is item 
     }
 
 -- A changed item is marked, so that one which is not marked has not changed.
-pub rests-spared : (n k : ℕ) (changed resets rows used still marks stirred : List ℕ) → Marked n changed resets marks → Used k rows used
-    → Rests n used resets still marks stirred → Spared n k changed resets rows still stirred
-rests-spared n k changed resets rows used still marks stirred marked uses rests x h s =
-    (rests x h s .0, λ e i t he hi hm ht same small. go e i t he hi hm ht same small (same? (getD changed t 0) 0))
+unreached : (n k : ℕ) (changed resets rows used marks : List ℕ) → Marked n changed resets marks → Used k rows used → (x : ℕ)
+    → Untouched used resets marks x → Unreached n k changed resets rows x
+unreached n k changed resets rows used marks marked uses x untouched e i t he hi hm ht same small = go (same? (getD changed t 0) 0)
   where
-    go : (e i t : ℕ) → e < k → i < countAt rows e → maskAt rows e i < maskRoom → t < n
-        → getD resets (maskRoom * t) 0 ≡ getD resets (maskRoom * x + maskAt rows e i) 0 → getD resets (maskRoom * t) 0 < mostItems
-        → (getD changed t 0 ≡ 0) ⊎ (¬ (getD changed t 0 ≡ 0)) → getD changed t 0 ≡ 0
-    go e i t he hi hm ht same small (inl none) = none
-    go e i t he hi hm ht same small (inr some) =
-        absurd (rests x h s .1 (maskAt rows e i) hm (uses e he i hi hm)
+    go : (getD changed t 0 ≡ 0) ⊎ (¬ (getD changed t 0 ≡ 0)) → getD changed t 0 ≡ 0
+    go (inl none) = none
+    go (inr some) =
+        absurd (untouched (maskAt rows e i) hm (uses e he i hi hm)
         (ap (λ (c : ℕ). getD marks c 0) (sym same) ∙ marked t ht some small))
 
+pub rests-spared : (n k : ℕ) (changed flags resets spots rows used still marks stirred : List ℕ)
+    → Marked n changed resets marks → Used k rows used → Rests n k changed flags resets spots rows used still marks stirred
+    → Spared n k changed flags resets spots rows still stirred
+rests-spared n k changed flags resets spots rows used still marks stirred marked uses rests x h s = (rests x h s .0, go (rests x h s .1))
+  where
+    go : Untouched used resets marks x ⊎ EdgesCalm k changed flags resets spots rows x
+        → Unreached n k changed resets rows x ⊎ EdgesCalm k changed flags resets spots rows x
+    go (inl untouched) = inl (unreached n k changed resets rows used marks marked uses x untouched)
+    go (inr calm) = inr calm
+
 pub spared-stirred : (n k : ℕ) (changed nexts flags resets spots rows still stirred : List ℕ) → Still n changed nexts still
-    → Classed n k flags resets spots rows → Spared n k changed resets rows still stirred
+    → Classed n k flags resets spots rows → Spared n k changed flags resets spots rows still stirred
     → Stirred n k changed nexts flags resets spots rows stirred
 spared-stirred n k changed nexts flags resets spots rows still stirred rests classed spared x h s =
     record {
       delays = still-calm n changed nexts still rests x h (spared x h s .0);
-      lands = λ e i he t hi. lands e i he hi (classed x h e he t i hi);
+      lands = λ e i he t hi. lands e i he t hi (classed x h e he t i hi) (spared x h s .1);
     }
   where
-    lands : (e i : ℕ) → e < k → i < countAt rows e → BranchClassed n resets spots rows x e i
+    lands : (e i : ℕ) → e < k → isOpen flags x e ≡ true → i < countAt rows e → BranchClassed n resets spots rows x e i
+        → Unreached n k changed resets rows x ⊎ EdgesCalm k changed flags resets spots rows x
         → getD changed (targetAt resets spots rows x e i) 0 ≡ 0
-    lands e i he hi b =
-        spared x h s .1 e i (targetAt resets spots rows x e i) he hi (b .mask) (b .item) (b .class)
+    lands e i he t hi b (inl none) =
+        none e i (targetAt resets spots rows x e i) he hi (b .mask) (b .item) (b .class)
         (subst (λ (c : ℕ). c < mostItems) (sym (b .class)) (b .marked))
+    lands e i he t hi b (inr calm) = calm e he t i hi
 
 -- Where all are stirred, nothing is said.
 pub all-stirred : (n k : ℕ) (changed nexts flags resets spots rows stirred : List ℕ) → ((x : ℕ) → x < n → getD stirred x 0 ≡ 1)

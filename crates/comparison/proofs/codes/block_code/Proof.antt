@@ -1,10 +1,10 @@
 -- `block_code` meets its contract. Assumes nothing.
-use Prim.Native.Nat.{ℕ}
+use Prim.Native.Nat.{ℕ, _%_}
 use native.Mathlib.Omega.{arith}
 use mathlib.Core.Path.{sym, _∙_, ap, ap₂}
 use lib.Dec.{eqb}
 use borrow.Author.Tests.{eq-eqb, ne-eqb}
-use Rattle.comparison.specs.Held.{wholeAt}
+use Rattle.comparison.specs.Held.{mostItems, wholeAt}
 use Rattle.comparison.specs.Compare.{weighed}
 use Rattle.comparison.specs.Keys.{markOf, shareOf, mixed, blockCode}
 use Rattle.comparison.specs.Laws.Steps.{cond-yes, cond-no}
@@ -18,13 +18,13 @@ weigh-requires c κs = search needs
 returns : tie.Need-returns
 unfolding blockCode
 returns c =
-    let args = c .before .before .before .before .before .before .args in
+    let args = c .before .before .before .before .before .before .before .args in
     let weigh = c .before .weigh in
     let if1 = c .if1 in (
-      sym (cond-yes {A = ℕ} (eqb (weighed args.list.now args.resets.now args.spots.now args.rows.now args.c args.x args.e) 0) 0
-          (mixed (markOf args.list.now args.c) (shareOf (weighed args.list.now args.resets.now args.spots.now args.rows.now args.c
-          args.x args.e) (wholeAt args.rows.now args.e))) (eq-eqb _ 0 (sym weigh.ensures.0 ∙ if1.taken))),
       omega arith,
+      λ b h gathered. sym (cond-yes {A = ℕ} (eqb (weighed args.list.now args.resets.now args.spots.now args.rows.now b args.x args.e) 0) 0
+          (mixed (markOf args.list.now b) (shareOf (weighed args.list.now args.resets.now args.spots.now args.rows.now b args.x args.e)
+          (wholeAt args.rows.now args.e))) (eq-eqb _ 0 (sym (weigh.ensures.1 b h gathered) ∙ if1.taken))),
     )
 
 mul-at16 : tie.Need-mul-at16
@@ -39,9 +39,6 @@ at16-requires c κs = search needs
 share-of-requires : tie.Need-share-of-requires
 share-of-requires c κs = search needs
 
-mark-at-requires : tie.Need-mark-at-requires
-mark-at-requires c κs = search needs
-
 mix-of-requires : tie.Need-mix-of-requires
 mix-of-requires c κs = search needs
 
@@ -49,18 +46,18 @@ returns-2 : tie.Need-returns-2
 unfolding blockCode
 returns-2 c =
     let mix-of = c .mix-of in
-    let mark-at = c .before .mark-at in
-    let share-of = c .before .before .share-of in
-    let weigh = c .before .before .before .before .before .weigh in
-    let at16 = c .before .before .before .at16 in
+    let share-of = c .before .share-of in
+    let weigh = c .before .before .before .before .weigh in
+    let at16 = c .before .before .at16 in
     let args = c .before .before .before .before .before .before .before .before .before .before .args in
-    let if1 = c .before .before .before .before .if1 in (
-      mix-of.ensures.0 ∙ ap₂ (λ (m s : ℕ). mixed m s) mark-at.ensures.0 (share-of.ensures.0 ∙ ap₂ (λ (w d : ℕ). shareOf w d)
-          weigh.ensures.0 at16.ensures.0) ∙ sym (cond-no {A = ℕ} (eqb (weighed args.list.now args.resets.now args.spots.now
-          args.rows.now args.c args.x args.e) 0) 0 (mixed (markOf args.list.now args.c) (shareOf (weighed args.list.now args.resets.now
-          args.spots.now args.rows.now args.c args.x args.e) (wholeAt args.rows.now args.e))) (ne-eqb _ 0 (λ z. if1.left
-          (weigh.ensures.0 ∙ z)))),
+    let if1 = c .before .before .before .if1 in (
       mix-of.ensures.1,
+      λ b h gathered. mix-of.ensures.0 ∙ ap₂ (λ (m s : ℕ). mixed m s) (ap (λ (u : ℕ). u % mostItems) h) (share-of.ensures.0 ∙ ap₂
+          (λ (w d : ℕ). shareOf w d) (weigh.ensures.1 b h gathered) at16.ensures.0)
+          ∙ sym (cond-no {A = ℕ} (eqb (weighed args.list.now args.resets.now args.spots.now args.rows.now b args.x args.e) 0) 0 (mixed
+          (markOf args.list.now b) (shareOf (weighed args.list.now args.resets.now args.spots.now args.rows.now b args.x args.e)
+          (wholeAt args.rows.now args.e)))
+          (ne-eqb _ 0 (λ z. if1.left (weigh.ensures.1 b h gathered ∙ z)))),
     )
 
 pub block-code-spec : {M : Type 1} → statement M
@@ -73,6 +70,5 @@ block-code-spec =
     add-at16
     at16-requires
     share-of-requires
-    mark-at-requires
     mix-of-requires
     returns-2)

@@ -6,8 +6,17 @@ use borrow.Author.Needs.{needs}
 use Rattle.comparison.proofs.codes.code_of.Statement.{statement}
 use Rattle.comparison.proofs.codes.code_of.Tie as tie
 
-landed-at-requires : tie.Need-landed-at-requires
-landed-at-requires c κs = search needs
+slice-aggregate-gather : tie.Need-slice-aggregate-gather
+slice-aggregate-gather c = search needs
+
+gather-requires : tie.Need-gather-requires
+gather-requires c κs = search needs
+
+slice-aggregate-land-all : tie.Need-slice-aggregate-land-all
+slice-aggregate-land-all c = search needs
+
+land-all-requires : tie.Need-land-all-requires
+land-all-requires c κs = search needs
 
 mul-at16 : tie.Need-mul-at16
 mul-at16 c = search needs
@@ -23,9 +32,19 @@ unfolding codeOf
 returns c =
     let joined-of = c .joined-of in
     let at16 = c .before .at16 in
-    let landed-at = c .before .before .landed-at in
-    (joined-of.ensures.0 ∙ ap₂ (λ (a m : ℕ). joined a m) at16.ensures.0 landed-at.ensures, joined-of.ensures.1)
+    let land-all = c .before .before .land-all in
+    let gather = c .before .before .before .before .before .gather in
+    (joined-of.ensures.0 ∙ ap₂ (λ (a m : ℕ). joined a m) at16.ensures.0 (land-all.ensures gather.ensures.1), joined-of.ensures.1)
 
 pub code-of-spec : {M : Type 1} → statement M
 code-of-spec =
-    tie.close (tie.spec landed-at-requires mul-at16 at16-requires joined-of-requires returns)
+    tie.close
+    (tie.spec
+    slice-aggregate-gather
+    gather-requires
+    slice-aggregate-land-all
+    land-all-requires
+    mul-at16
+    at16-requires
+    joined-of-requires
+    returns)

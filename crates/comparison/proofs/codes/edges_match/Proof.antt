@@ -1,38 +1,41 @@
 -- `edges_match` meets its contract. Assumes nothing.
 use Prim.Native.Nat.{ℕ, _-_, _≤_, _<_}
 use native.Mathlib.Omega.{arith}
-use mathlib.Core.Path.{sym, _∙_}
-use borrow.Author.Tests.{not-true, not-false}
+use mathlib.Core.Path.{_≡_, refl, sym, _∙_, ap}
+use lib.ListN.{length, length-set}
 use Rattle.comparison.specs.Held.{isOpen, Opened}
-use Rattle.comparison.specs.Keys.{Coded, Told}
+use Rattle.comparison.specs.Keys.{Coded, Told, Met}
 use Rattle.comparison.specs.Laws.Down.{Down, down-first, down-on, down-over}
-use Rattle.comparison.specs.Laws.Codes.{HasAnswer, told-at, one-unanswered, all-answered}
+use Rattle.comparison.specs.Laws.Codes.{HasAnswer, told-at, one-answers, one-unanswered, all-answered, found-none, found-some, met-on}
 use borrow.Author.Needs.{needs}
 use Rattle.comparison.proofs.codes.edges_match.Statement.{statement}
 use Rattle.comparison.proofs.codes.edges_match.Tie as tie
 
 abbrev Inv-loop : tie.InvT-loop
-Inv-loop k x y list flags resets spots rows ones others e₀ e =
-    (e ≤ k)
-    × ((n : ℕ) → Opened n k flags → x < n → y < n → Coded k x list flags resets spots rows ones
-    → Coded k y list flags resets spots rows others → Told k list flags resets spots rows x y
-    → Down (isOpen flags x) (HasAnswer k list flags resets spots rows x y) k e)
+Inv-loop k x y list flags resets spots rows ones others met₀ e₀ met e =
+    (e ≤ k) × (length met ≡ length met₀) × ((n : ℕ) → Opened n k flags → x < n → y < n → Coded k x list flags resets spots rows ones →
+    Coded k y list flags resets spots rows others → Told k list flags resets spots rows x y → Met k list flags resets spots rows y x
+    met₀
+    → Down (isOpen flags x) (HasAnswer k list flags resets spots rows x y) k e × Met k list flags resets spots rows y x met)
 
 abbrev μ-loop : tie.MeasureT-loop
-μ-loop k x y list flags resets spots rows ones others e₀ e = e
+μ-loop k x y list flags resets spots rows ones others met₀ e₀ met e = e
 
 open-below-requires : tie.Need-open-below-requires Inv-loop μ-loop
 open-below-requires c κs = search needs
 
 loop-holds : tie.Need-loop-holds Inv-loop μ-loop
 loop-holds c =
-    let args = c .before .before .before .before .before .before .before .before .args in
-    let first = c .open-below in (
-      first.ensures.0,
-      λ n opened hx hy one other told.
-          down-first (isOpen args.flags.now args.x)
-          (HasAnswer args.k args.list.now args.flags.now args.resets.now args.spots.now args.rows.now args.x args.y) args.k first.result
-          (first.ensures.1 n args.k opened hx (omega arith)),
+    let open-below = c .open-below in
+    let args = c .before .before .before .before .before .before .before .before .before .args in (
+      open-below.ensures.0,
+      refl,
+      λ n opened hx hy one other told met. (
+        down-first (isOpen args.flags.now args.x) (HasAnswer args.k
+            args.list.now args.flags.now args.resets.now args.spots.now args.rows.now args.x args.y) args.k open-below.result
+            (open-below.ensures.1 n args.k opened hx (omega arith)),
+        met,
+      ),
     )
 
 sub-at64 : tie.Need-sub-at64 Inv-loop μ-loop
@@ -41,31 +44,48 @@ sub-at64 c = search needs
 at64-requires : tie.Need-at64-requires Inv-loop μ-loop
 at64-requires c κs = search needs
 
-sub-some-answers : tie.Need-sub-some-answers Inv-loop μ-loop
-sub-some-answers c = search needs
+sub-find-answer : tie.Need-sub-find-answer Inv-loop μ-loop
+sub-find-answer c = search needs
 
-some-answers-requires : tie.Need-some-answers-requires Inv-loop μ-loop
-some-answers-requires c κs =
-    let pre = c .before .before .before .before .before .before .before .before .before .before .before .pre in
-    (pre.0, pre.1, omega (arith, c .before .before .loop .inv .0, pre.0, c .before .loop-test .taken), pre.2)
+find-answer-requires : tie.Need-find-answer-requires Inv-loop μ-loop
+find-answer-requires c κs =
+    let pre = c .before .before .before .before .before .before .before .before .before .before .before .before .pre in
+    let loop = c .before .before .loop in
+    let loop-test = c .before .loop-test in
+    (pre.0, pre.1, omega (arith, loop.inv.0, pre.0, loop-test.taken), pre.2)
+
+same-length : tie.Need-same-length Inv-loop μ-loop
+same-length c = search needs
 
 returns : tie.Need-returns Inv-loop μ-loop
 returns c =
-    let args = c .before .before .before .before .before .before .before .before .before .before .before
-    .before .before .args in
     let loop = c .before .before .before .before .loop in
+    let args = c .before .before .before .before .before .before .before .before .before .before .before .before .before .before .args in
     let loop-test = c .before .before .before .loop-test in
+    let find-answer = c .before .find-answer in
     let at64 = c .before .before .at64 in
-    let found = c .before .some-answers in
-    let below : loop.e - 1 < args.k = omega (arith, loop.inv.0, loop-test.taken) in
-    λ n opened hx hy one other told.
-    let ready = loop.inv.1 n opened hx hy one other told .at loop-test.taken in
-    sym (one-unanswered args.k args.list.now args.flags.now args.resets.now args.spots.now args.rows.now args.x args.y (loop.e - 1) below
-    ready
-    (sym (found.ensures n opened hy other
-    (told-at args.k args.list.now args.flags.now args.resets.now args.spots.now args.rows.now args.x args.y (loop.e - 1)
-    at64.result args.ones.now told one below ready at64.ensures))
-    ∙ not-true found.result (c .if1 .taken)))
+    let if1 = c .if1 in
+    let below : loop.e - 1 < args.k = omega (arith, loop.inv.0, loop-test.taken) in (
+      loop.inv.1,
+      λ n opened hx hy one other told met.
+          let (down, met′) = loop.inv.2 n opened hx hy one other told met in
+          let ready = down .at loop-test.taken in (
+            sym (one-unanswered args.k args.list.now args.flags.now args.resets.now args.spots.now args.rows.now args.x args.y (loop.e
+                - 1) below ready
+                (found-none args.k args.list.now args.flags.now args.resets.now args.spots.now args.rows.now args.x (loop.e - 1) args.y
+                find-answer.result
+                (find-answer.ensures n opened hy other (told-at args.k args.list.now args.flags.now args.resets.now args.spots.now
+                args.rows.now args.x args.y (loop.e - 1) at64.result args.ones.now told one below ready at64.ensures))
+                if1.taken)),
+            met′,
+          ),
+    )
+
+sub-set-mark : tie.Need-sub-set-mark Inv-loop μ-loop
+sub-set-mark c = search needs
+
+set-mark-requires : tie.Need-set-mark-requires Inv-loop μ-loop
+set-mark-requires c κs = search needs
 
 sub-open-below : tie.Need-sub-open-below Inv-loop μ-loop
 sub-open-below c = search needs
@@ -78,37 +98,53 @@ loop-less c = search needs
 
 loop-again : tie.Need-loop-again Inv-loop μ-loop
 loop-again c =
-    let args = c .before .before .before .before .before .before .before .before .before .before .before
-    .before .before .before .args in
-    let loop = c .before .before .before .before .before .loop in
-    let loop-test = c .before .before .before .before .loop-test in
-    let at64 = c .before .before .before .at64 in
-    let found = c .before .before .some-answers in
-    let further = c .open-below2 in
+    let loop = c .before .before .before .before .before .before .before .before .before .loop in
+    let args = c .before .before .before .before .before .before .before .before .before .before .before .before .before .before
+    .before .before .before .before .before .args in
+    let loop-test = c .before .before .before .before .before .before .before .before .loop-test in
+    let open-below2 = c .open-below2 in
+    let set-mark = c .before .before .before .set-mark in
+    let find-answer = c .before .before .before .before .before .before .find-answer in
+    let at64 = c .before .before .before .before .before .before .before .at64 in
+    let if1 = c .before .before .before .before .before .if1 in
     let below : loop.e - 1 < args.k = omega (arith, loop.inv.0, loop-test.taken) in (
-      omega (arith, further.ensures.0, loop.inv.0),
-      λ n opened hx hy one other told.
-          let down = loop.inv.1 n opened hx hy one other told in
+      omega (arith, open-below2.ensures.0, loop.inv.0),
+      ap length set-mark.ensures ∙ length-set loop.met (find-answer.result - 1) 1 ∙ loop.inv.1,
+      λ n opened hx hy one other told met.
+          let (down, met′) = loop.inv.2 n opened hx hy one other told met in
           let ready = down .at loop-test.taken in
-          down-on (isOpen args.flags.now args.x)
-          (HasAnswer args.k args.list.now args.flags.now args.resets.now args.spots.now args.rows.now args.x args.y) args.k loop.e
-          further.result loop-test.taken down
-          (sym (found.ensures n opened hy other
-          (told-at args.k args.list.now args.flags.now args.resets.now args.spots.now args.rows.now args.x args.y (loop.e - 1)
-          at64.result args.ones.now told one below ready at64.ensures))
-          ∙ not-false found.result (c .before .if1 .left))
-          (further.ensures.1 n args.k opened hx (omega (arith, loop.inv.0))),
+          let (low, answer) = found-some args.k args.list.now args.flags.now args.resets.now args.spots.now args.rows.now args.x
+          (loop.e - 1) args.y find-answer.result
+          (find-answer.ensures n opened hy other (told-at args.k args.list.now args.flags.now args.resets.now args.spots.now
+          args.rows.now args.x args.y (loop.e - 1) at64.result args.ones.now told one below ready at64.ensures))
+          if1.left in (
+            down-on (isOpen args.flags.now args.x) (HasAnswer args.k args.list.now args.flags.now args.resets.now args.spots.now
+                args.rows.now args.x args.y) args.k loop.e open-below2.result loop-test.taken down
+                (one-answers args.k args.list.now args.flags.now args.resets.now args.spots.now args.rows.now args.x (loop.e - 1)
+                args.y (find-answer.result - 1) low answer)
+                (open-below2.ensures.1 n args.k opened hx (omega (arith, loop.inv.0))),
+            rw set-mark.ensures (met-on args.k args.list.now args.flags.now args.resets.now args.spots.now args.rows.now args.x (loop.e
+                - 1) args.y (find-answer.result - 1) loop.met met′ below ready answer),
+          ),
     )
+
+same-length-2 : tie.Need-same-length-2 Inv-loop μ-loop
+same-length-2 c = search needs
 
 returns-2 : tie.Need-returns-2 Inv-loop μ-loop
 returns-2 c =
-    let args = c .before .before .before .before .before .before .before .before .before .before .args in
     let loop = c .before .loop in
-    λ n opened hx hy one other told.
-    sym (all-answered args.k args.list.now args.flags.now args.resets.now args.spots.now args.rows.now args.x args.y
-    (down-over (isOpen args.flags.now args.x)
-    (HasAnswer args.k args.list.now args.flags.now args.resets.now args.spots.now args.rows.now args.x args.y) args.k loop.e
-    (c .loop-test .left) (loop.inv.1 n opened hx hy one other told)))
+    let args = c .before .before .before .before .before .before .before .before .before .before .before .args in
+    let loop-test = c .loop-test in (
+      loop.inv.1,
+      λ n opened hx hy one other told met.
+          let (down, met′) = loop.inv.2 n opened hx hy one other told met in (
+            sym (all-answered args.k args.list.now args.flags.now args.resets.now args.spots.now args.rows.now args.x args.y (down-over
+                (isOpen args.flags.now args.x) (HasAnswer args.k args.list.now args.flags.now args.resets.now args.spots.now args.rows.now
+                args.x args.y) args.k loop.e loop-test.left down)),
+            met′,
+          ),
+    )
 
 pub edges-match-spec : {M : Type 1} → statement M
 edges-match-spec =
@@ -120,11 +156,15 @@ edges-match-spec =
     loop-holds
     sub-at64
     at64-requires
-    sub-some-answers
-    some-answers-requires
+    sub-find-answer
+    find-answer-requires
+    same-length
     returns
+    sub-set-mark
+    set-mark-requires
     sub-open-below
     open-below-requires-2
     loop-less
     loop-again
+    same-length-2
     returns-2)

@@ -21,43 +21,88 @@ at16-requires-2 c κs = search needs
 returns : tie.Need-returns
 returns c =
     let args = c .before .before .before .before .before .before .before .args in
+    let if1 = c .if1 in
     let at16 = c .before .before .at16 in
     let at162 = c .before .at162 in
-    sym (alike-action args.list.now args.resets.now args.spots.now args.rows.now args.x args.e args.y
-    args.f (λ h. (c .if1 .taken) (at16.ensures.0 ∙ h ∙ sym at162.ensures.0)))
+    sym (alike-action args.list.now args.resets.now args.spots.now args.rows.now args.x args.e args.y args.f (λ h. if1.taken
+    (at16.ensures.0 ∙ h ∙ sym at162.ensures.0)))
+
+slice-aggregate-gather : tie.Need-slice-aggregate-gather
+slice-aggregate-gather c = search needs
+
+gather-requires : tie.Need-gather-requires
+gather-requires c κs = search needs
+
+slice-aggregate-gather-2 : tie.Need-slice-aggregate-gather-2
+slice-aggregate-gather-2 c = search needs
+
+gather-requires-2 : tie.Need-gather-requires-2
+gather-requires-2 c κs = search needs
+
+slice-aggregate-is-balanced-over : tie.Need-slice-aggregate-is-balanced-over
+slice-aggregate-is-balanced-over c = search needs
+
+slice-aggregate-is-balanced-over-2 : tie.Need-slice-aggregate-is-balanced-over-2
+slice-aggregate-is-balanced-over-2 c = search needs
+
+slice-aggregate-is-balanced-over-3 : tie.Need-slice-aggregate-is-balanced-over-3
+slice-aggregate-is-balanced-over-3 c = search needs
 
 is-balanced-over-requires : tie.Need-is-balanced-over-requires
 is-balanced-over-requires c κs =
-    let pre = c .before .before .before .before .before .before .before .pre in
+    let pre = c .before .before .before .before .before .before .before .before .before .before .before .before .before .before .before
+    .before .pre in
     (pre.0, pre.1, pre.0, pre.1, pre.2, pre.3)
 
 returns-2 : tie.Need-returns-2
 returns-2 c =
-    let args = c .before .before .before .before .before .before .before .before .before .args in
-    let at16 = c .before .before .before .before .at16 in
-    let if1 = c .before .before .if1 in
-    let at162 = c .before .before .before .at162 in
+    let args = c .before .before .before .before .before .before .before .before .before .before .before .before .before .before
+    .before .before .before .before .args in
+    let at16 = c .before .before .before .before .before .before .before .before .before .before .before .before .before .at16 in
+    let if1 = c .before .before .before .before .before .before .before .before .before .before .before .if1 in
+    let at162 = c .before .before .before .before .before .before .before .before .before .before .before .before .at162 in
     let is-balanced-over = c .before .is-balanced-over in
-    sym (alike-fails args.list.now args.resets.now args.spots.now args.rows.now args.x args.e args.y
-    args.f (sym at16.ensures.0 ∙ if1.left ∙ at162.ensures.0) (sym is-balanced-over.ensures ∙ not-true
-    is-balanced-over.result (c .if2 .taken)))
+    let gather = c .before .before .before .before .before .before .before .before .before .gather in
+    let gather2 = c .before .before .before .before .before .before .gather2 in
+    let if2 = c .if2 in
+    sym (alike-fails args.list.now args.resets.now args.spots.now args.rows.now args.x args.e args.y args.f (sym at16.ensures.0 ∙
+    if1.left ∙ at162.ensures.0)
+    (sym (is-balanced-over.ensures gather.ensures.1 gather.ensures.1 gather2.ensures.1) ∙ not-true is-balanced-over.result if2.taken))
+
+slice-aggregate-is-balanced-over-4 : tie.Need-slice-aggregate-is-balanced-over-4
+slice-aggregate-is-balanced-over-4 c = search needs
+
+slice-aggregate-is-balanced-over-5 : tie.Need-slice-aggregate-is-balanced-over-5
+slice-aggregate-is-balanced-over-5 c = search needs
+
+slice-aggregate-is-balanced-over-6 : tie.Need-slice-aggregate-is-balanced-over-6
+slice-aggregate-is-balanced-over-6 c = search needs
 
 is-balanced-over-requires-2 : tie.Need-is-balanced-over-requires-2
 is-balanced-over-requires-2 c κs =
-    let pre = c .before .before .before .before .before .before .before .before .before .pre in
+    let pre = c .before .before .before .before .before .before .before .before .before .before .before .before .before .before .before
+    .before .before .before .before .before .before .pre in
     (pre.2, pre.3, pre.0, pre.1, pre.2, pre.3)
 
 returns-3 : tie.Need-returns-3
 returns-3 c =
-    let args = c .before .before .before .before .before .before .before .before .before .before .args in
-    let at16 = c .before .before .before .before .before .at16 in
-    let if1 = c .before .before .before .if1 in
-    let at162 = c .before .before .before .before .at162 in
-    let is-balanced-over = c .before .before .is-balanced-over in
-    let if2 = c .before .if2 in
-    (c .is-balanced-over2 .ensures) ∙ sym (alike-on args.list.now args.resets.now args.spots.now
-    args.rows.now args.x args.e args.y args.f (sym at16.ensures.0 ∙ if1.left ∙ at162.ensures.0) (sym
-    is-balanced-over.ensures ∙ not-false is-balanced-over.result if2.left))
+    let is-balanced-over2 = c .is-balanced-over2 in
+    let gather2 = c .before .before .before .before .before .before .before .before .before .before .gather2 in
+    let gather = c .before .before .before .before .before .before .before .before .before .before .before .before .before .gather in
+    let args = c .before .before .before .before .before .before .before .before .before .before .before .before .before .before
+    .before .before .before .before .before .before .before .before .args in
+    let at16 = c .before .before .before .before .before .before .before .before .before .before .before .before .before .before
+    .before .before .before .at16 in
+    let if1 = c .before .before .before .before .before .before .before .before .before .before .before .before .before .before .before
+    .if1 in
+    let at162 = c .before .before .before .before .before .before .before .before .before .before .before .before .before .before
+    .before .before .at162 in
+    let is-balanced-over = c .before .before .before .before .before .is-balanced-over in
+    let if2 = c .before .before .before .before .if2 in
+    is-balanced-over2.ensures gather2.ensures.1 gather.ensures.1 gather2.ensures.1
+    ∙ sym (alike-on args.list.now args.resets.now args.spots.now args.rows.now args.x args.e args.y args.f (sym at16.ensures.0 ∙
+    if1.left ∙ at162.ensures.0)
+    (sym (is-balanced-over.ensures gather.ensures.1 gather.ensures.1 gather2.ensures.1) ∙ not-false is-balanced-over.result if2.left))
 
 pub edges-alike-spec : {M : Type 1} → statement M
 edges-alike-spec =
@@ -68,7 +113,17 @@ edges-alike-spec =
     mul-at16-2
     at16-requires-2
     returns
+    slice-aggregate-gather
+    gather-requires
+    slice-aggregate-gather-2
+    gather-requires-2
+    slice-aggregate-is-balanced-over
+    slice-aggregate-is-balanced-over-2
+    slice-aggregate-is-balanced-over-3
     is-balanced-over-requires
     returns-2
+    slice-aggregate-is-balanced-over-4
+    slice-aggregate-is-balanced-over-5
+    slice-aggregate-is-balanced-over-6
     is-balanced-over-requires-2
     returns-3)

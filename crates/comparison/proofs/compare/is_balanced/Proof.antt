@@ -27,7 +27,8 @@ at16-requires c κs = search needs
 mul-result : tie.Need-mul-result
 mul-result c =
     let weigh = c .before .before .weigh in
-    omega (arith, product-small weigh.result (c .at16 .result) weigh.ensures.1 (c .at16 .ensures .1))
+    let at16 = c .at16 in
+    omega (arith, product-small weigh.result at16.result weigh.ensures.0 at16.ensures.1)
 
 mul-at16-2 : tie.Need-mul-at16-2
 mul-at16-2 c = search needs
@@ -41,7 +42,8 @@ at16-requires-2 c κs = search needs
 mul-result-2 : tie.Need-mul-result-2
 mul-result-2 c =
     let weigh2 = c .before .before .weigh2 in
-    omega (arith, product-small weigh2.result (c .at162 .result) weigh2.ensures.1 (c .at162 .ensures .1))
+    let at162 = c .at162 in
+    omega (arith, product-small weigh2.result at162.result weigh2.ensures.0 at162.ensures.1)
 
 returns : tie.Need-returns
 unfolding balanced
@@ -49,8 +51,9 @@ returns c =
     let weigh = c .before .before .before .weigh in
     let at16 = c .before .at16 in
     let weigh2 = c .before .before .weigh2 in
-    ap₂ (λ (a b : ℕ). eqb a b) (ap₂ (λ (a b : ℕ). a * b) weigh.ensures.0 at16.ensures.0) (ap₂ (λ (a b : ℕ). a * b)
-    weigh2.ensures.0 (c .at162 .ensures .0))
+    let at162 = c .at162 in
+    λ b h one other. ap₂ (λ (a b : ℕ). eqb a b) (ap₂ (λ (a b : ℕ). a * b) (weigh.ensures.1 b h one) at16.ensures.0) (ap₂ (λ (a b : ℕ).
+    a * b) (weigh2.ensures.1 b h other) at162.ensures.0)
 
 pub is-balanced-spec : {M : Type 1} → statement M
 is-balanced-spec =

@@ -1,19 +1,15 @@
 -- `weigh_one` meets its contract. Assumes nothing.
 use Prim.Native.Nat.{ℕ}
 use native.Mathlib.Omega.{arith}
-use mathlib.Core.Path.{sym, _∙_, ap}
-use mathlib.Core.Bool.{Bool, cond}
-use Rattle.bisimulation.specs.Finite.{related}
-use Rattle.comparison.specs.Held.{weightAt}
+use mathlib.Core.Path.{sym, _∙_}
+use borrow.Author.Tests.{eq-eqb, ne-eqb}
+use Rattle.comparison.specs.Laws.Steps.{cond-yes, cond-no}
 use borrow.Author.Needs.{needs}
 use Rattle.comparison.proofs.compare.weigh_one.Statement.{statement}
 use Rattle.comparison.proofs.compare.weigh_one.Tie as tie
 
-target-at-requires : tie.Need-target-at-requires
-target-at-requires c κs = search needs
-
-is-related-requires : tie.Need-is-related-requires
-is-related-requires c κs = search needs
+number-at-requires : tie.Need-number-at-requires
+number-at-requires c κs = search needs
 
 mul-at16 : tie.Need-mul-at16
 mul-at16 c = search needs
@@ -32,32 +28,25 @@ at16-requires c κs = search needs
 
 returns : tie.Need-returns
 returns c =
-    let args = c .before .before .before .before .before .before .before .before .args in
-    let target-at = c .before .before .before .target-at in
-    let is-related = c .before .before .is-related in
+    let at16 = c .at16 in
+    let number-at = c .before .before .number-at in
     let if1 = c .before .if1 in (
-      (c .at16 .ensures .0) ∙ sym (ap (λ (b : Bool). cond b (weightAt args.rows.now args.e args.i) 0) (ap (λ (z
-          : ℕ). related args.list.now z args.c) (sym target-at.ensures) ∙ sym is-related.ensures ∙ if1.taken)),
-      (c .at16 .ensures .1),
+      at16.ensures.1,
+      λ h gathered. at16.ensures.0 ∙ sym (cond-yes {A = ℕ} _ _ _ (eq-eqb _ _ (sym (number-at.ensures h gathered) ∙
+          if1.taken))),
     )
 
 returns-2 : tie.Need-returns-2
 returns-2 c =
-    let args = c .before .before .before .before .before .before .before .args in
-    let target-at = c .before .before .target-at in
-    let is-related = c .before .is-related in (
-      sym (ap (λ (b : Bool). cond b (weightAt args.rows.now args.e args.i) 0) (ap (λ (z : ℕ). related
-          args.list.now z args.c) (sym target-at.ensures) ∙ sym is-related.ensures ∙ (c .if1 .left))),
-      omega
-          arith,
-    )
+    let if1 = c .if1 in
+    let number-at = c .before .number-at in
+    (omega arith, λ h gathered. sym (cond-no {A = ℕ} _ _ _ (ne-eqb _ _ (λ s. if1.left (number-at.ensures h gathered ∙ s)))))
 
 pub weigh-one-spec : {M : Type 1} → statement M
 weigh-one-spec =
     tie.close
     (tie.spec
-    target-at-requires
-    is-related-requires
+    number-at-requires
     mul-at16
     add-at16
     mul-at16-2

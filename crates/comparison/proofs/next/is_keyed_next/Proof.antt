@@ -3,7 +3,7 @@ use mathlib.Core.Path.{refl, sym, _∙_}
 use mathlib.Core.Logic.{inl}
 use borrow.Author.Tests.{not-true, not-false}
 use Rattle.bisimulation.specs.Laws.Tests.{clash}
-use Rattle.comparison.specs.Laws.KeyLoops.{asked-both}
+use Rattle.comparison.specs.Laws.KeyLoops.{known-old, asked-both}
 use Rattle.comparison.specs.Laws.Keyed.{keys-part, twins-meet, keyed-on}
 use borrow.Author.Needs.{needs}
 use Rattle.comparison.proofs.next.is_keyed_next.Statement.{statement}
@@ -18,8 +18,8 @@ returns c =
     let if1 = c .if1 in (
       refl,
       (
-        λ F keyed hx hy. absurd (clash (are-items.ensures.1.0 (keyed .held .few) (keyed .held .few-edges) hx hy)
-            (not-true are-items.result if1.taken)),
+        λ F keyed hx hy. absurd (clash (are-items.ensures.1.0 (keyed .held .few) (keyed .held .few-edges) hx hy) (not-true
+            are-items.result if1.taken)),
         λ z. inl refl,
       ),
     )
@@ -35,15 +35,15 @@ same-length c = search needs
 
 returns-2 : tie.Need-returns-2
 returns-2 c =
-    let args = c .before .before .before .before .before .before .before .before .before .before .before .before
-    .before .before .before .args in
+    let args = c .before .before .before .before .before .before .before .before .before .before .before .before .before .before
+    .before .args in
     let is-twin = c .before .is-twin in
     let if3 = c .if3 in (
       refl,
       (
         λ F keyed hx hy. (
-          sym (twins-meet (keyed .held) (keyed .closed) args.names.now args.x args.y hx hy
-              (is-twin.ensures.0 if3.taken (keyed .held .onward) (keyed .held .opened) hx hy)),
+          sym (twins-meet (keyed .held) (keyed .closed) args.names.now args.x args.y hx hy (is-twin.ensures.0
+              if3.taken (keyed .held .onward) (keyed .held .opened) hx hy)),
           keyed,
         ),
         λ z. inl refl,
@@ -56,58 +56,86 @@ known-key-requires c κs =
     let if1 = c .before .before .before .before .if1 in
     let items = are-items.ensures.0 (not-false are-items.result if1.left) in (items .0, items .1)
 
-known-key-requires-2 : tie.Need-known-key-requires-2
-known-key-requires-2 c κs =
-    let are-items = c .before .before .before .before .before .before .before .before .before .are-items in
-    let if1 = c .before .before .before .before .before .before .before .before .if1 in
-    let items = are-items.ensures.0 (not-false are-items.result if1.left) in (items .0, items .2)
+at64-requires-2 : tie.Need-at64-requires-2
+at64-requires-2 c κs = search needs
+
+is-newly-keyed-next-requires : tie.Need-is-newly-keyed-next-requires
+is-newly-keyed-next-requires c κs =
+    let are-items = c .before .before .before .before .before .before .before .before .before .before .before .before .are-items in
+    let if1 = c .before .before .before .before .before .before .before .before .before .before .before .if1 in
+    are-items.ensures.0 (not-false are-items.result if1.left)
 
 same-length-2 : tie.Need-same-length-2
 same-length-2 c = search needs
 
 returns-3 : tie.Need-returns-3
 returns-3 c =
-    let known-key2 = c .before .before .before .known-key2 in
-    let known-key = c .before .before .before .before .before .before .before .known-key in
-    let args = c .before .before .before .before .before .before .before .before .before .before .before .before
+    let is-newly-keyed-next = c .before .before .is-newly-keyed-next in
+    let known-key = c .before .before .before .before .before .before .before .before .before .known-key in
+    let args = c .before .before .before .before .before .before .before .before .before .before .before .before .before .before
     .before .before .before .before .before .before .before .before .before .before .args in
-    let if4 = c .if4 in (
-      known-key2.ensures.0 ∙ known-key.ensures.0,
+    let at642 = c .before .before .before .before .before .at642 in
+    let if4 = c .before .before .before .before .if4 in (
+      is-newly-keyed-next.ensures.0 ∙ known-key.ensures.0,
       (
         λ F keyed hx hy.
             let (one, known) = known-key.ensures.1.0 (keyed .held .opened) hx (keyed .keyed) in
-            let (other, known′) = known-key2.ensures.1.0 (keyed .held .opened) hy known in (
-              sym (keys-part keyed args.x args.y known-key.result known-key2.result hx hy one other if4.taken),
-              keyed-on keyed (known-key2 .last .1 .1 .1 .1 .1 .1 .1 .1 .1 .0) known′,
-            ),
-        asked-both args.x args.y args.keys.now (known-key .last .1 .1 .1 .1 .1 .1 .1 .1 .1 .0) (known-key2 .last .1 .1 .1 .1 .1 .1 .1 .1 .1 .0)
-            known-key.ensures.1.1 known-key2.ensures.1.1,
+            let (same, known′) = is-newly-keyed-next.ensures.1.0 F args.labels.now (keyed-on keyed known-key.last.1.1.1.1.1.1.1.1.1.0
+            known) hx hy one in
+            (same, keyed-on keyed is-newly-keyed-next.last.1.1.1.1.1.1.1.1.1.1.1.0 known′),
+        asked-both args.x args.y args.keys.now known-key.last.1.1.1.1.1.1.1.1.1.0 is-newly-keyed-next.last.1.1.1.1.1.1.1.1.1.1.1.0
+            known-key.ensures.1.1 (is-newly-keyed-next.ensures.1.1 (sym at642.ensures ∙ if4.taken)),
       ),
     )
-
-is-next-requires : tie.Need-is-next-requires
-is-next-requires c κs = search needs
 
 same-length-3 : tie.Need-same-length-3
 same-length-3 c = search needs
 
 returns-4 : tie.Need-returns-4
 returns-4 c =
-    let known-key2 = c .before .before .before .before .known-key2 in
-    let known-key = c .before .before .before .before .before .before .before .before .known-key in
-    let args = c .before .before .before .before .before .before .before .before .before .before .before .before
-    .before .before .before .before .before .before .before .before .before .before .before .args in
-    let is-next = c .is-next in (
-      known-key2.ensures.0 ∙ known-key.ensures.0,
+    let known-key = c .before .before .before .before .before .before .known-key in
+    let at642 = c .before .before .at642 in
+    let args = c .before .before .before .before .before .before .before .before .before .before .before .before .before .before
+    .before .before .before .before .before .before .before .args in
+    let if4 = c .before .if4 in
+    let if5 = c .if5 in (
+      known-key.ensures.0,
       (
         λ F keyed hx hy.
-            let (_, known) = known-key.ensures.1.0 (keyed .held .opened) hx (keyed .keyed) in
-            let (_, known′) = known-key2.ensures.1.0 (keyed .held .opened) hy known in (
-              is-next.ensures.0 F (keyed .held) (keyed .closed) (keyed .below) hx hy,
-              keyed-on keyed (known-key2 .last .1 .1 .1 .1 .1 .1 .1 .1 .1 .0) known′,
+            let (one, known) = known-key.ensures.1.0 (keyed .held .opened) hx (keyed .keyed) in
+            let other = at642.ensures ∙ known-old args.n args.k args.names.now known-key.last.1.1.1.1.1.1.1.1.1.0 args.nexts.now
+            args.flags.now args.resets.now args.spots.now args.rows.now known args.y hy (λ none. if4.left (at642.ensures ∙ none)) in (
+              sym (keys-part keyed args.x args.y known-key.result at642.result hx hy one other if5.taken),
+              keyed-on keyed
+                  known-key.last.1.1.1.1.1.1.1.1.1.0 known,
             ),
-        asked-both args.x args.y args.keys.now (known-key .last .1 .1 .1 .1 .1 .1 .1 .1 .1 .0) (known-key2 .last .1 .1 .1 .1 .1 .1 .1 .1 .1 .0)
-            known-key.ensures.1.1 known-key2.ensures.1.1,
+        asked-both args.x args.y args.keys.now known-key.last.1.1.1.1.1.1.1.1.1.0 known-key.last.1.1.1.1.1.1.1.1.1.0
+            known-key.ensures.1.1 (λ z. inl refl),
+      ),
+    )
+
+is-next-requires : tie.Need-is-next-requires
+is-next-requires c κs = search needs
+
+same-length-4 : tie.Need-same-length-4
+same-length-4 c = search needs
+
+returns-5 : tie.Need-returns-5
+returns-5 c =
+    let known-key = c .before .before .before .before .before .before .before .known-key in
+    let is-next = c .is-next in
+    let args = c .before .before .before .before .before .before .before .before .before .before .before .before .before .before
+    .before .before .before .before .before .before .before .before .args in (
+      known-key.ensures.0,
+      (
+        λ F keyed hx hy.
+            let (_, known) = known-key.ensures.1.0 (keyed .held .opened) hx (keyed .keyed) in (
+              is-next.ensures.0 F (keyed .held) (keyed .closed) (keyed .below) hx hy,
+              keyed-on keyed known-key.last.1.1.1.1.1.1.1.1.1.0
+                  known,
+            ),
+        asked-both args.x args.y args.keys.now known-key.last.1.1.1.1.1.1.1.1.1.0 known-key.last.1.1.1.1.1.1.1.1.1.0
+            known-key.ensures.1.1 (λ z. inl refl),
       ),
     )
 
@@ -122,9 +150,12 @@ is-keyed-next-spec =
     same-length
     returns-2
     known-key-requires
-    known-key-requires-2
+    at64-requires-2
+    is-newly-keyed-next-requires
     same-length-2
     returns-3
-    is-next-requires
     same-length-3
-    returns-4)
+    returns-4
+    is-next-requires
+    same-length-4
+    returns-5)

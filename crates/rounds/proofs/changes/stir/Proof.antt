@@ -16,7 +16,7 @@ returns c =
     let stir-all = c .before .before .stir-all in
     let args = c .before .before .before .before .before .before .before .before .before .before .before .before .before .args in (
       stir-all.ensures.0,
-      λ _. all-stirred args.n args.k args.changed.now args.nexts.now args.flags.now args.resets.now args.spots.now args.rows.now
+      λ _ _. all-stirred args.n args.k args.changed.now args.nexts.now args.flags.now args.resets.now args.spots.now args.rows.now
           stir-all.last.1.0 stir-all.ensures.1,
     )
 
@@ -44,7 +44,7 @@ returns-2 c =
     let args = c .before .before .before .before .before .before .before .before .before .before .before .before .before .before
     .before .before .before .before .before .args in (
       stir-all2.ensures.0,
-      λ _. all-stirred args.n args.k args.changed.now args.nexts.now args.flags.now args.resets.now args.spots.now args.rows.now
+      λ _ _. all-stirred args.n args.k args.changed.now args.nexts.now args.flags.now args.resets.now args.spots.now args.rows.now
           stir-all2.last.1.0 stir-all2.ensures.1,
     )
 
@@ -67,9 +67,9 @@ returns-3 c =
     let if2 = c .before .before .before .before .before .if2 in
     let if1 = c .before .before .before .before .before .before .before .before .before .before .before .if1 in (
       stir-some.ensures.0,
-      λ yes. spared-stirred args.n args.k args.changed.now args.nexts.now args.flags.now args.resets.now args.spots.now
-          args.rows.now mark-still.last.1.1.1.1.0 stir-some.last.1.1.1.1.1.1.0 (is-still.ensures (not-false is-still.result
-          if2.left)) (yes (not-false args.classed if1.left)) stir-some.ensures.1,
+      λ opened yes. spared-stirred args.n args.k args.changed.now args.nexts.now args.flags.now args.resets.now args.spots.now
+          args.rows.now mark-still.last.1.1.1.1.0 stir-some.last.1.1.1.1.1.1.1.1.0 (is-still.ensures (not-false is-still.result
+          if2.left)) (yes (not-false args.classed if1.left)) (stir-some.ensures.1 opened),
     )
 
 pub stir-spec : {M : Type 1} → statement M

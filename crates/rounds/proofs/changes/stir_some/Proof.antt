@@ -32,13 +32,13 @@ returns : tie.Need-returns
 returns c =
     let stir-touched = c .before .before .stir-touched in
     let args = c .before .before .before .before .before .before .before .before .before .before .before .before .before .before
-    .before .before .before .args in
+    .before .before .before .before .before .args in
     let mark-masks = c .before .before .before .before .before .before .before .mark-masks in
     let mark-classes = c .before .before .before .before .before .before .before .before .before .before .mark-classes in (
       stir-touched.ensures.0,
-      rests-spared args.n args.k args.changed.now args.resets.now args.rows.now mark-masks.last.1.1.0 args.still.now
-          mark-classes.last.1.1.1.0 stir-touched.last.1.1.1.1.1.0 mark-classes.ensures.1 mark-masks.ensures.1
-          stir-touched.ensures.1,
+      λ opened. rests-spared args.n args.k args.changed.now args.flags.now args.resets.now args.spots.now
+          args.rows.now mark-masks.last.1.1.0 args.still.now mark-classes.last.1.1.1.0 stir-touched.last.1.1.1.1.1.1.1.1.1.1.0
+          mark-classes.ensures.1 mark-masks.ensures.1 (stir-touched.ensures.1 opened),
     )
 
 pub stir-some-spec : {M : Type 1} → statement M

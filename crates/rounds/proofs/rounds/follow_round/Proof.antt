@@ -46,8 +46,8 @@ returns c =
       (name-round.ensures.0.0, name-round.ensures.0.1, stir.ensures.0),
       (
         name-round.ensures.1.0,
-        λ classed.
-            (name-round.last.1.1.1.1 .1 .0, (name-round.ensures.1.1, stir.ensures.1 classed)),
+        λ opened classed.
+            (name-round.last.1.1.1.1 .1 .0, (name-round.ensures.1.1, stir.ensures.1 opened classed)),
       ),
     )
 

@@ -191,7 +191,7 @@ loop-again c =
           let keyed = prepared-keyed held closed step p′ (forget-keys .last .1 .1 .0) forget-keys.ensures.1 in
           let stepped = prepared-step held closed step p′ in
           let (led, known) = make-round.ensures.1 F keyed stepped (prepared-settled held closed step p′) in
-          let followed = follow-round.ensures.1.1 classed in
+          let followed = follow-round.ensures.1.1 (held .opened) classed in
           rw copy.ensures (
             turned-on F closed loop.second loop.count loop.made t′ args.n (held .size) (make-round .last .1 .1 .1 .1 .1
                 .1 .1 .1 .1 .1 .1 .1 .0) make-round.result
