@@ -245,10 +245,8 @@ fn is_balanced(
     one * (at16(rows, 32 * f + 1) as u64) == other * (at16(rows, 32 * e + 1) as u64)
 }
 
-// Do they so at each target of edge g at z, whose numbers are kept too?
-fn is_balanced_over(
-    z: usize,
-    g: usize,
+// Do they so at each target of edge e at x?
+fn is_balanced_there(
     x: usize,
     e: usize,
     y: usize,
@@ -257,22 +255,82 @@ fn is_balanced_over(
     resets: &[u16],
     spots: &[u16],
     rows: &[u16],
-    got: &[u64],
     ones: &[u64],
     others: &[u64],
 ) -> bool
-    requires { ⌜ (z < mostItems) × (g < mostEdges) × (x < mostItems) × (e < mostEdges) × (y < mostItems) × (f < mostEdges) ⌝ }
-    ensures { λ r. ⌜ (Gathered z g (now (list .entry)) (now (resets .entry)) (now (spots .entry)) (now (rows .entry)) (now (got .entry))
-        → Gathered x e (now (list .entry)) (now (resets .entry)) (now (spots .entry)) (now (rows .entry)) (now (ones .entry))
+    requires { ⌜ (x < mostItems) × (e < mostEdges) × (y < mostItems) × (f < mostEdges) ⌝ }
+    ensures { λ r. ⌜ (Gathered x e (now (list .entry)) (now (resets .entry)) (now (spots .entry)) (now (rows .entry)) (now (ones .entry))
         → Gathered y f (now (list .entry)) (now (resets .entry)) (now (spots .entry)) (now (rows .entry)) (now (others .entry))
-        → r ≡ balancedOver (now (list .entry)) (now (resets .entry)) (now (spots .entry)) (now (rows .entry)) z g x e y f) ⌝ }
+        → r ≡ balancedOver (now (list .entry)) (now (resets .entry)) (now (spots .entry)) (now (rows .entry)) x e x e y f) ⌝ }
 {
-    let count = at16(rows, 32 * g + 2);
+    let count = at16(rows, 32 * e + 2);
     let mut i = 0;
     while i < count {
-        let v = number_at(z, g, i, list, resets, spots, rows, got);
+        let v = number_at(x, e, i, list, resets, spots, rows, ones);
         if !is_balanced(x, e, y, f, v, list, resets, spots, rows, ones, others) {
             return false;
+        }
+        i = i + 1;
+    }
+    true
+}
+
+// Leads a branch of edge e at x to the block with number v?
+fn is_into(
+    v: u64,
+    x: usize,
+    e: usize,
+    list: &[u64],
+    resets: &[u16],
+    spots: &[u16],
+    rows: &[u16],
+    got: &[u64],
+) -> bool
+    requires { ⌜ (x < mostItems) × (e < mostEdges) ⌝ }
+    ensures { λ r. ⌜ (r ≡ true → Gathered x e (now (list .entry)) (now (resets .entry)) (now (spots .entry)) (now (rows .entry))
+        (now (got .entry))
+        → (i : ℕ) × (i < countAt (now (rows .entry)) e)
+        × (numberOf (now (list .entry)) (now (resets .entry)) (now (spots .entry)) (now (rows .entry)) x e i ≡ v)) ⌝ }
+{
+    let count = at16(rows, 32 * e + 2);
+    let mut i = 0;
+    while i < count {
+        if number_at(x, e, i, list, resets, spots, rows, got) == v {
+            return true;
+        }
+        i = i + 1;
+    }
+    false
+}
+
+// Do they so at each target of edge f at y, where they do at each one of edge e at x? Only at blocks that edge e does not lead to are
+// shares weighed.
+fn is_balanced_back(
+    x: usize,
+    e: usize,
+    y: usize,
+    f: usize,
+    list: &[u64],
+    resets: &[u16],
+    spots: &[u16],
+    rows: &[u16],
+    ones: &[u64],
+    others: &[u64],
+) -> bool
+    requires { ⌜ (x < mostItems) × (e < mostEdges) × (y < mostItems) × (f < mostEdges) ⌝ }
+    ensures { λ r. ⌜ (Gathered x e (now (list .entry)) (now (resets .entry)) (now (spots .entry)) (now (rows .entry)) (now (ones .entry))
+        → Gathered y f (now (list .entry)) (now (resets .entry)) (now (spots .entry)) (now (rows .entry)) (now (others .entry))
+        → balancedOver (now (list .entry)) (now (resets .entry)) (now (spots .entry)) (now (rows .entry)) x e x e y f ≡ true
+        → r ≡ balancedOver (now (list .entry)) (now (resets .entry)) (now (spots .entry)) (now (rows .entry)) y f x e y f) ⌝ }
+{
+    let count = at16(rows, 32 * f + 2);
+    let mut i = 0;
+    while i < count {
+        let v = number_at(y, f, i, list, resets, spots, rows, others);
+        if !is_into(v, x, e, list, resets, spots, rows, ones) {
+            if !is_balanced(x, e, y, f, v, list, resets, spots, rows, ones, others) {
+                return false;
+            }
         }
         i = i + 1;
     }
@@ -300,38 +358,10 @@ pub(crate) fn edges_alike(
     let mut others = [0u64; 8];
     gather(x, e, list, resets, spots, rows, &mut ones);
     gather(y, f, list, resets, spots, rows, &mut others);
-    if !is_balanced_over(
-        x,
-        e,
-        x,
-        e,
-        y,
-        f,
-        list,
-        resets,
-        spots,
-        rows,
-        &ones,
-        &ones,
-        &others,
-    ) {
+    if !is_balanced_there(x, e, y, f, list, resets, spots, rows, &ones, &others) {
         return false;
     }
-    is_balanced_over(
-        y,
-        f,
-        x,
-        e,
-        y,
-        f,
-        list,
-        resets,
-        spots,
-        rows,
-        &others,
-        &ones,
-        &others,
-    )
+    is_balanced_back(x, e, y, f, list, resets, spots, rows, &ones, &others)
 }
 
 // Are x and y items, of so many items and edges as there may be?

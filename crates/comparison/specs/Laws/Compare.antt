@@ -17,7 +17,7 @@ use Rattle.bisimulation.specs.Finite.{alike, delaysMatch, edgesMatch, matches, 
 use Rattle.bisimulation.specs.Laws.Tests.{both, clash, fails, same-test, and-iff, all-below, some-below, below-some}
 use Rattle.comparison.specs.Held.{mostEdges, isInside, targetOf}
 use Rattle.comparison.specs.Held.{Held, mostItems, chain, actionAt, wholeAt, countAt, weightAt, targetAt, branchesFrom}
-use Rattle.comparison.specs.Compare.{Below, reachesRelated, reachesNumber, allMarked, delaysAnswered, weighed, balanced, balancedOver, edgesAlike}
+use Rattle.comparison.specs.Compare.{numberOf, Below, reachesRelated, reachesNumber, allMarked, delaysAnswered, weighed, balanced, balancedOver, edgesAlike}
 use Rattle.comparison.specs.Held.{isOpen}
 use Rattle.comparison.specs.Compare.{answers, someAnswers, edgeAnswered, edgesAnswered, answered, nextIn}
 
@@ -386,6 +386,15 @@ module _ (list resets spots rows : List ℕ) where
           ∙ all-below (countAt rows f) (λ i. balanced list resets spots rows x e y f (targetAt resets spots rows y f i)) .0 b j
           (omega arith)
       go (inr p) (inr q) = balanced-none x e y f c p q
+
+  -- Balanced at the targets of one edge, balanced at an item with the number of one of them.
+  pub balanced-into : (x e y f c : ℕ) → balancedOver list resets spots rows x e x e y f ≡ true
+      → (i : ℕ) × (i < countAt rows e) × (numberOf list resets spots rows x e i ≡ getD list c 0)
+      → balanced list resets spots rows x e y f c ≡ true
+  unfolding balancedOver
+  balanced-into x e y f c all (i, h, same) =
+      sym (balanced-same x e y f (targetAt resets spots rows x e i) c (eq-eqb _ _ same))
+      ∙ all-below (countAt rows e) (λ i. balanced list resets spots rows x e y f (targetAt resets spots rows x e i)) .0 all i h
 
 -- ---- Slices that hold a structure
 

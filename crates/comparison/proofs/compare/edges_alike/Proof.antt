@@ -39,70 +39,56 @@ slice-aggregate-gather-2 c = search needs
 gather-requires-2 : tie.Need-gather-requires-2
 gather-requires-2 c κs = search needs
 
-slice-aggregate-is-balanced-over : tie.Need-slice-aggregate-is-balanced-over
-slice-aggregate-is-balanced-over c = search needs
+slice-aggregate-is-balanced-there : tie.Need-slice-aggregate-is-balanced-there
+slice-aggregate-is-balanced-there c = search needs
 
-slice-aggregate-is-balanced-over-2 : tie.Need-slice-aggregate-is-balanced-over-2
-slice-aggregate-is-balanced-over-2 c = search needs
+slice-aggregate-is-balanced-there-2 : tie.Need-slice-aggregate-is-balanced-there-2
+slice-aggregate-is-balanced-there-2 c = search needs
 
-slice-aggregate-is-balanced-over-3 : tie.Need-slice-aggregate-is-balanced-over-3
-slice-aggregate-is-balanced-over-3 c = search needs
-
-is-balanced-over-requires : tie.Need-is-balanced-over-requires
-is-balanced-over-requires c κs =
-    let pre = c .before .before .before .before .before .before .before .before .before .before .before .before .before .before .before
-    .before .pre in
-    (pre.0, pre.1, pre.0, pre.1, pre.2, pre.3)
+is-balanced-there-requires : tie.Need-is-balanced-there-requires
+is-balanced-there-requires c κs = search needs
 
 returns-2 : tie.Need-returns-2
 returns-2 c =
     let args = c .before .before .before .before .before .before .before .before .before .before .before .before .before .before
-    .before .before .before .before .args in
-    let at16 = c .before .before .before .before .before .before .before .before .before .before .before .before .before .at16 in
-    let if1 = c .before .before .before .before .before .before .before .before .before .before .before .if1 in
-    let at162 = c .before .before .before .before .before .before .before .before .before .before .before .before .at162 in
-    let is-balanced-over = c .before .is-balanced-over in
-    let gather = c .before .before .before .before .before .before .before .before .before .gather in
-    let gather2 = c .before .before .before .before .before .before .gather2 in
+    .before .before .before .args in
+    let at16 = c .before .before .before .before .before .before .before .before .before .before .before .before .at16 in
+    let if1 = c .before .before .before .before .before .before .before .before .before .before .if1 in
+    let at162 = c .before .before .before .before .before .before .before .before .before .before .before .at162 in
+    let is-balanced-there = c .before .is-balanced-there in
+    let gather = c .before .before .before .before .before .before .before .before .gather in
+    let gather2 = c .before .before .before .before .before .gather2 in
     let if2 = c .if2 in
     sym (alike-fails args.list.now args.resets.now args.spots.now args.rows.now args.x args.e args.y args.f (sym at16.ensures.0 ∙
     if1.left ∙ at162.ensures.0)
-    (sym (is-balanced-over.ensures gather.ensures.1 gather.ensures.1 gather2.ensures.1) ∙ not-true is-balanced-over.result if2.taken))
+    (sym (is-balanced-there.ensures gather.ensures.1 gather2.ensures.1) ∙ not-true is-balanced-there.result if2.taken))
 
-slice-aggregate-is-balanced-over-4 : tie.Need-slice-aggregate-is-balanced-over-4
-slice-aggregate-is-balanced-over-4 c = search needs
+slice-aggregate-is-balanced-back : tie.Need-slice-aggregate-is-balanced-back
+slice-aggregate-is-balanced-back c = search needs
 
-slice-aggregate-is-balanced-over-5 : tie.Need-slice-aggregate-is-balanced-over-5
-slice-aggregate-is-balanced-over-5 c = search needs
+slice-aggregate-is-balanced-back-2 : tie.Need-slice-aggregate-is-balanced-back-2
+slice-aggregate-is-balanced-back-2 c = search needs
 
-slice-aggregate-is-balanced-over-6 : tie.Need-slice-aggregate-is-balanced-over-6
-slice-aggregate-is-balanced-over-6 c = search needs
-
-is-balanced-over-requires-2 : tie.Need-is-balanced-over-requires-2
-is-balanced-over-requires-2 c κs =
-    let pre = c .before .before .before .before .before .before .before .before .before .before .before .before .before .before .before
-    .before .before .before .before .before .before .pre in
-    (pre.2, pre.3, pre.0, pre.1, pre.2, pre.3)
+is-balanced-back-requires : tie.Need-is-balanced-back-requires
+is-balanced-back-requires c κs = search needs
 
 returns-3 : tie.Need-returns-3
 returns-3 c =
-    let is-balanced-over2 = c .is-balanced-over2 in
-    let gather2 = c .before .before .before .before .before .before .before .before .before .before .gather2 in
-    let gather = c .before .before .before .before .before .before .before .before .before .before .before .before .before .gather in
+    let is-balanced-there = c .before .before .before .before .is-balanced-there in
+    let gather = c .before .before .before .before .before .before .before .before .before .before .before .gather in
+    let gather2 = c .before .before .before .before .before .before .before .before .gather2 in
+    let if2 = c .before .before .before .if2 in
+    let is-balanced-back = c .is-balanced-back in
     let args = c .before .before .before .before .before .before .before .before .before .before .before .before .before .before
-    .before .before .before .before .before .before .before .before .args in
+    .before .before .before .before .before .before .args in
     let at16 = c .before .before .before .before .before .before .before .before .before .before .before .before .before .before
-    .before .before .before .at16 in
-    let if1 = c .before .before .before .before .before .before .before .before .before .before .before .before .before .before .before
-    .if1 in
-    let at162 = c .before .before .before .before .before .before .before .before .before .before .before .before .before .before
-    .before .before .at162 in
-    let is-balanced-over = c .before .before .before .before .before .is-balanced-over in
-    let if2 = c .before .before .before .before .if2 in
-    is-balanced-over2.ensures gather2.ensures.1 gather.ensures.1 gather2.ensures.1
+    .before .at16 in
+    let if1 = c .before .before .before .before .before .before .before .before .before .before .before .before .before .if1 in
+    let at162 = c .before .before .before .before .before .before .before .before .before .before .before .before .before .before .at162 in
+    let there = sym (is-balanced-there.ensures gather.ensures.1 gather2.ensures.1) ∙ not-false is-balanced-there.result if2.left in
+    is-balanced-back.ensures gather.ensures.1 gather2.ensures.1 there
     ∙ sym (alike-on args.list.now args.resets.now args.spots.now args.rows.now args.x args.e args.y args.f (sym at16.ensures.0 ∙
-    if1.left ∙ at162.ensures.0)
-    (sym (is-balanced-over.ensures gather.ensures.1 gather.ensures.1 gather2.ensures.1) ∙ not-false is-balanced-over.result if2.left))
+    if1.left ∙ at162.ensures.0) there)
 
 pub edges-alike-spec : {M : Type 1} → statement M
 edges-alike-spec =
@@ -117,13 +103,11 @@ edges-alike-spec =
     gather-requires
     slice-aggregate-gather-2
     gather-requires-2
-    slice-aggregate-is-balanced-over
-    slice-aggregate-is-balanced-over-2
-    slice-aggregate-is-balanced-over-3
-    is-balanced-over-requires
+    slice-aggregate-is-balanced-there
+    slice-aggregate-is-balanced-there-2
+    is-balanced-there-requires
     returns-2
-    slice-aggregate-is-balanced-over-4
-    slice-aggregate-is-balanced-over-5
-    slice-aggregate-is-balanced-over-6
-    is-balanced-over-requires-2
+    slice-aggregate-is-balanced-back
+    slice-aggregate-is-balanced-back-2
+    is-balanced-back-requires
     returns-3)
