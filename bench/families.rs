@@ -40,7 +40,8 @@ pub fn all() -> Vec<Family> {
         family("spare edge", spare_edge([13, 11, 9], 120)),
         family("still anchor", still_anchor(30, 64)),
         family("thresholds", thresholds(40, 3)),
-        family("positions", positions(60, 1)),
+        family("positions", positions(60)),
+        family("positions, two laps", positions_two_laps(60)),
     ]
 }
 
@@ -395,13 +396,18 @@ fn with_hubs(hubs: u8, lists: &[(&[Guard], Vec<Vec<Branch>>)]) -> Model {
     labels[0] = 0;
     let mut model = Model::new(3, &labels);
     free_clocks(&mut model, 0);
-    for (guards, edges) in lists {
-        for branches in edges {
-            model.edge(0, 0, guards, branches);
-        }
-    }
+    add_lists(&mut model, 0, lists);
     add_hubs(&mut model, 1, hubs, 7);
     model
+}
+
+/// Edges of one action, in lists, each with its guards.
+fn add_lists(model: &mut Model, source: u8, lists: &[(&[Guard], Vec<Vec<Branch>>)]) {
+    for (guards, edges) in lists {
+        for branches in edges {
+            model.edge(source, 0, guards, branches);
+        }
+    }
 }
 
 /// All regions have the same edges, in the same order.
@@ -409,9 +415,16 @@ fn hub(hubs: u8, edges: u16) -> Model {
     with_hubs(hubs, &[(&[], to_hubs(hubs, edges))])
 }
 
-/// The same with twice as many rounds: a fourth clock is above all constants in the first lap through the hubs and 0 in the second, and
-/// each edge leads to hubs of both laps. Location 0 only waits until that clock is above 5, and location 1 has the free clocks.
-fn two_laps(hubs: u8, edges: u16) -> Model {
+/// The same edges where hubs begin at location 2, each to hubs of two laps: a fourth clock is kept for the first lap and reset for the
+/// second.
+fn to_both_laps(hubs: u8, edges: u16) -> Vec<Vec<Branch>> {
+    let lapped = |(part, (weight, hub, mask)): (u8, Branch)| (weight, hub + 1, mask + part % 2 * 8);
+    to_hubs(hubs, edges).into_iter().map(|branches| (0..).zip(branches).map(lapped).collect()).collect()
+}
+
+/// As `with_hubs`, with twice as many rounds: the fourth clock is above all constants in the first lap through the hubs and 0 in the
+/// second. Location 0 only waits until that clock is above 5, and location 1 has the free clocks.
+fn with_two_laps(hubs: u8, lists: &[(&[Guard], Vec<Vec<Branch>>)]) -> Model {
     let [wait, main, first] = [0, 1, 2];
     let mut labels = vec![1; usize::from(first + hubs)];
     labels[usize::from(wait)] = 2;
@@ -419,13 +432,15 @@ fn two_laps(hubs: u8, edges: u16) -> Model {
     let mut model = Model::new(4, &labels);
     model.edge(wait, 0, &[(3, MORE, 5)], &[(1, main, 7)]);
     free_clocks(&mut model, main);
-    for branches in to_hubs(hubs, edges) {
-        let branches: Vec<Branch> = (0..).zip(branches).map(|(part, (weight, hub, mask))| (weight, hub + 1, mask + part % 2 * 8)).collect();
-        model.edge(main, 0, &[], &branches);
-    }
+    add_lists(&mut model, main, lists);
     add_hubs(&mut model, first, hubs, 0);
     model.edge(first + hubs - 1, 0, &[(3, MORE, 0)], &[(1, first, 15)]);
     model
+}
+
+/// The hub with two laps.
+fn two_laps(hubs: u8, edges: u16) -> Model {
+    with_two_laps(hubs, &[(&[], to_both_laps(hubs, edges))])
 }
 
 /// The edges stand there twice, the second time in reverse order and under the opposite guard: between regions of the two halves, no edge
@@ -606,17 +621,16 @@ fn many_orders(hubs: u8) -> Model {
     model
 }
 
-/// The hub's edges in groups, one for each guard of a list. Where the guard holds, a group's edges stand in one order; where its opposite
+/// Edges in as many groups as there are guards in a list. Where the guard holds, a group's edges stand in one order; where its opposite
 /// does, in the reverse order, with branches in reverse order and weights doubled.
-fn grouped(hubs: u8, edges: u16, guards: &[[Guard; 2]]) -> Model {
-    let all = to_hubs(hubs, edges * guards.len() as u16);
+fn grouped<'a>(all: &[Vec<Branch>], guards: &'a [[Guard; 2]]) -> Vec<(&'a [Guard], Vec<Vec<Branch>>)> {
     let mut lists: Vec<(&[Guard], Vec<Vec<Branch>>)> = Vec::new();
-    for (group, [one, opposite]) in all.chunks(edges.into()).zip(guards) {
+    for (group, [one, opposite]) in all.chunks(all.len() / guards.len()).zip(guards) {
         let doubled = |branches: &Vec<Branch>| branches.iter().rev().map(|&(weight, target, mask)| (2 * weight, target, mask)).collect();
         lists.push((std::slice::from_ref(one), group.to_vec()));
         lists.push((std::slice::from_ref(opposite), group.iter().rev().map(doubled).collect()));
     }
-    with_hubs(hubs, &lists)
+    lists
 }
 
 /// The values that the clocks of the hub's regions come to, each with its clock.
@@ -627,15 +641,26 @@ fn clock_values() -> impl Iterator<Item = (u8, u8)> {
 /// A group for each value of a clock, below it and from it on: 180 orders. Regions next to each other often differ in one group alone.
 fn thresholds(hubs: u8, edges: u16) -> Model {
     let guards: Vec<[Guard; 2]> = clock_values().map(|(clock, value)| [(clock, LESS, value), (clock, AT_LEAST, value)]).collect();
-    grouped(hubs, edges, &guards)
+    with_hubs(hubs, &grouped(&to_hubs(hubs, edges * guards.len() as u16), &guards))
 }
 
-/// Two groups for each value: below it and from it on, and up to it and above. A clock between two values has an order of its own too, so
+/// Two guards for each value, with their opposites: below it, and up to it. A clock between two values has an order of its own too, so
 /// that there are over a thousand orders, and few regions of one order.
-fn positions(hubs: u8, edges: u16) -> Model {
+fn position_guards() -> Vec<[Guard; 2]> {
     let pairs = |(clock, value)| [[(clock, LESS, value), (clock, AT_LEAST, value)], [(clock, AT_MOST, value), (clock, MORE, value)]];
-    let guards: Vec<[Guard; 2]> = clock_values().flat_map(pairs).collect();
-    grouped(hubs, edges, &guards)
+    clock_values().flat_map(pairs).collect()
+}
+
+/// An edge for each of these guards.
+fn positions(hubs: u8) -> Model {
+    let guards = position_guards();
+    with_hubs(hubs, &grouped(&to_hubs(hubs, guards.len() as u16), &guards))
+}
+
+/// The same with two laps.
+fn positions_two_laps(hubs: u8) -> Model {
+    let guards = position_guards();
+    with_two_laps(hubs, &grouped(&to_both_laps(hubs, guards.len() as u16), &guards))
 }
 
 /// Eight ends from location `first_end` on, and `edges` edges to them with equal shares, but no two with the same weights. The first one is

@@ -172,8 +172,8 @@ pub fn is_keyed_next(
         }
     }
     let one = known_key(n, k, x, names, nexts, flags, resets, spots, rows, keys);
-    let other = at64(keys, y);
-    if other == 0 {
+    let known = at64(keys, y);
+    if known == 0 {
         return is_newly_keyed_next(
             n,
             k,
@@ -189,7 +189,7 @@ pub fn is_keyed_next(
             keys,
         );
     }
-    if one != other {
+    if one != known {
         return false;
     }
     is_next(n, k, x, y, names, labels, nexts, flags, resets, spots, rows)
