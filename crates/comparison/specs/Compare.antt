@@ -36,7 +36,7 @@ Below n list = (x : ℕ) → x < n → getD list x 0 < mostItems
 abbrev pub numberOf : (list resets spots rows : List ℕ) → (x e i : ℕ) → ℕ
 numberOf list resets spots rows x e i = getD list (targetAt resets spots rows x e i) 0
 
--- The numbers of the first branches are kept in a list, as many as it has room for.
+-- The list holds the numbers of the blocks that the branches of edge e at x lead to: of the first branches, as many as it has room for.
 abbrev pub Gathered : (x e : ℕ) → (list resets spots rows got : List ℕ) → Type 0
 Gathered x e list resets spots rows got =
     (i : ℕ) → i < countAt rows e → i < length got → getD got i 0 ≡ numberOf list resets spots rows x e i

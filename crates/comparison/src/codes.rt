@@ -61,7 +61,8 @@ fn mix_of(v: usize, share: u64) -> u64
     fifth_of((share + (v as u64) * 524309 + 12345) % 2147483629)
 }
 
-// Does no branch of edge e at item x below branch i lead to the block with number v? c is any item of it.
+// Does no branch of edge e at item x below branch i lead to the block with number v? The promise speaks of any c whose
+// number in the list is v.
 fn is_first_into(
     v: u64,
     x: usize,
@@ -88,7 +89,7 @@ fn is_first_into(
     true
 }
 
-// What the block with number v adds to the code of edge e at item x; c is any item of it.
+// What the block with number v adds to the code of edge e at item x. The promise speaks of any c whose number in the list is v.
 fn block_code(
     v: u64,
     x: usize,
@@ -137,7 +138,7 @@ fn land_one(
     0
 }
 
-// The sum over the branches, whose numbers are given.
+// The sum over the branches, whose blocks' numbers are kept in `got`.
 fn land_all(
     x: usize,
     e: usize,
@@ -175,6 +176,7 @@ fn code_of(x: usize, e: usize, list: &[u64], resets: &[u16], spots: &[u16], rows
     ensures { λ r. ⌜ (r ≡ codeOf (now (list .entry)) (now (resets .entry)) (now (spots .entry)) (now (rows .entry)) x e)
         × (r < 1099511627689) ⌝ }
 {
+    // An edge has at most 8 branches; any past them would be looked up anew.
     let mut got = [0u64; 8];
     gather(x, e, list, resets, spots, rows, &mut got);
     let sum = land_all(x, e, list, resets, spots, rows, &got);
@@ -227,8 +229,8 @@ fn is_answer(
     edges_alike(x, e, y, f, list, resets, spots, rows)
 }
 
-// Looks for an edge at y that answers to edge e at x: the number after it, and 0 where there is none. Only those of its code are compared
-// with it.
+// Looks for an edge at y that answers to edge e at x: the number after it, and 0 where there is none. Only edges with the code given
+// are compared with it.
 fn find_answer(
     k: usize,
     x: usize,
@@ -261,7 +263,8 @@ fn find_answer(
     0
 }
 
-// Has each edge available at x an answer at y? The codes at both are given, and the answers are marked.
+// Has each edge available at x an answer at y? The codes at both are given, and the edges at y that are found to
+// answer are marked in `met`.
 fn edges_match(
     k: usize,
     x: usize,
@@ -314,7 +317,7 @@ fn edges_match(
     true
 }
 
-// Is edge e, which is available at x, marked, or has it an answer at y?
+// Has edge e, which is available at x, an answer at y? It has where it is marked.
 fn is_met(
     k: usize,
     x: usize,

@@ -145,7 +145,7 @@ pub(crate) fn gather(
     }
 }
 
-// The number of branch i of edge e at item x: the one that is kept, and where there is no room for it, looked up.
+// The number of the block that branch i of edge e at item x leads to: the one kept, or looked up where there was no room for it.
 pub(crate) fn number_at(
     x: usize,
     e: usize,
@@ -157,9 +157,9 @@ pub(crate) fn number_at(
     got: &[u64],
 ) -> u64
     requires { ⌜ (x < mostItems) × (e < mostEdges) × (i < 65536) ⌝ }
-    ensures { λ r. ⌜ (i < countAt (now (rows .entry)) e → Gathered x e (now (list .entry)) (now (resets .entry)) (now (spots .entry))
-        (now (rows .entry))
-        (now (got .entry)) → r ≡ numberOf (now (list .entry)) (now (resets .entry)) (now (spots .entry)) (now (rows .entry)) x e i) ⌝ }
+    ensures { λ r. ⌜ (i < countAt (now (rows .entry)) e
+        → Gathered x e (now (list .entry)) (now (resets .entry)) (now (spots .entry)) (now (rows .entry)) (now (got .entry))
+        → r ≡ numberOf (now (list .entry)) (now (resets .entry)) (now (spots .entry)) (now (rows .entry)) x e i) ⌝ }
 {
     if i < got.len() {
         return at64(got, i);
@@ -181,10 +181,9 @@ fn weigh_one(
 ) -> u64
     requires { ⌜ (x < mostItems) × (e < mostEdges) × (i < 65536) ⌝ }
     ensures { λ r. ⌜ r < 65536 ⌝ }
-    ensures { λ r. ⌜ (i < countAt (now (rows .entry)) e → Gathered x e (now (list .entry)) (now (resets .entry)) (now (spots .entry))
-        (now (rows .entry))
-        (now (got .entry)) → r ≡ cond (eqb (numberOf (now (list .entry)) (now (resets .entry)) (now (spots .entry))
-        (now (rows .entry)) x e i) v)
+    ensures { λ r. ⌜ (i < countAt (now (rows .entry)) e
+        → Gathered x e (now (list .entry)) (now (resets .entry)) (now (spots .entry)) (now (rows .entry)) (now (got .entry))
+        → r ≡ cond (eqb (numberOf (now (list .entry)) (now (resets .entry)) (now (spots .entry)) (now (rows .entry)) x e i) v)
         (weightAt (now (rows .entry)) e i) 0) ⌝ }
 {
     if number_at(x, e, i, list, resets, spots, rows, got) == v {
@@ -193,7 +192,7 @@ fn weigh_one(
     0
 }
 
-// The weight of edge e at item x that lands in the block with number v; c is any item of that block.
+// The weight of edge e at item x that lands in the block with number v. The promise speaks of any c whose number in the list is v.
 pub(crate) fn weigh(
     v: u64,
     x: usize,
@@ -206,9 +205,9 @@ pub(crate) fn weigh(
 ) -> u64
     requires { ⌜ (x < mostItems) × (e < mostEdges) ⌝ }
     ensures { λ r. ⌜ r < 4294967296 ⌝ }
-    ensures { λ r. ⌜ ((c : ℕ) → v ≡ getD (now (list .entry)) c 0 → Gathered x e (now (list .entry)) (now (resets .entry))
-        (now (spots .entry)) (now (rows .entry))
-        (now (got .entry)) → r ≡ weighed (now (list .entry)) (now (resets .entry)) (now (spots .entry)) (now (rows .entry)) c x e) ⌝ }
+    ensures { λ r. ⌜ ((c : ℕ) → v ≡ getD (now (list .entry)) c 0
+        → Gathered x e (now (list .entry)) (now (resets .entry)) (now (spots .entry)) (now (rows .entry)) (now (got .entry))
+        → r ≡ weighed (now (list .entry)) (now (resets .entry)) (now (spots .entry)) (now (rows .entry)) c x e) ⌝ }
 {
     let count = at16(rows, 32 * e + 2);
     let mut total = 0u64;
@@ -220,7 +219,7 @@ pub(crate) fn weigh(
     total
 }
 
-// Do edge e at x and edge f at y give the block with number v the same share? c is any item of it.
+// Do edge e at x and edge f at y give the block with number v the same share? The promise speaks of any c whose number in the list is v.
 fn is_balanced(
     x: usize,
     e: usize,
@@ -245,7 +244,7 @@ fn is_balanced(
     one * (at16(rows, 32 * f + 1) as u64) == other * (at16(rows, 32 * e + 1) as u64)
 }
 
-// Do they so at each target of edge e at x?
+// Do they at each target of edge e at x?
 fn is_balanced_there(
     x: usize,
     e: usize,
@@ -275,7 +274,7 @@ fn is_balanced_there(
     true
 }
 
-// Leads a branch of edge e at x to the block with number v?
+// Does a branch of edge e at x lead to the block with number v? Nothing is said where the answer is no.
 fn is_into(
     v: u64,
     x: usize,
@@ -303,8 +302,8 @@ fn is_into(
     false
 }
 
-// Do they so at each target of edge f at y, where they do at each one of edge e at x? Only at blocks that edge e does not lead to are
-// shares weighed.
+// Where edge e at x and edge f at y give the same shares at each target of edge e, do they at each target of edge f? Shares are weighed
+// only at blocks that edge e does not lead to.
 fn is_balanced_back(
     x: usize,
     e: usize,
@@ -354,6 +353,7 @@ pub(crate) fn edges_alike(
     if at16(rows, 32 * e) != at16(rows, 32 * f) {
         return false;
     }
+    // An edge has at most 8 branches; any past them would be looked up anew.
     let mut ones = [0u64; 8];
     let mut others = [0u64; 8];
     gather(x, e, list, resets, spots, rows, &mut ones);

@@ -123,7 +123,7 @@ fn sum_codes(k: usize, x: usize, codes: &[u64], flags: &[u8]) -> u64
 
 // ---- Both
 
-// The key of item x, from the codes of its edges.
+// The key of item x, where the codes of its edges are given.
 fn key_by(
     n: usize,
     k: usize,
@@ -142,7 +142,7 @@ fn key_by(
     edges * 65536 + delays_key(n, x, list, nexts) + 1
 }
 
-// The key of item x, which was not known and is from now on; and the codes that it is made of.
+// The key of item x, which was not known and is from now on; the codes of its edges are left in `codes`.
 pub(crate) fn coded_key(
     n: usize,
     k: usize,

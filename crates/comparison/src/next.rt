@@ -93,7 +93,7 @@ pub fn is_next(
     is_coded_next(n, k, x, y, list, nexts, flags, resets, spots, rows, &codes)
 }
 
-// The same where the key of x is given and that of y is not known, but will be.
+// Is item y related to item x in the next round? `one` is the key of x; that of y is not known, and becomes known.
 fn is_newly_keyed_next(
     n: usize,
     k: usize,

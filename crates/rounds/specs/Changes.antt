@@ -28,7 +28,7 @@ Settled d q n stirred =
 
 -- Of a branch: it leads to an item, its mask is one of four clocks, and the clocks of the target are those that the item's become under
 -- the mask, by a number that there is a mark for. The code finds out once whether all branches are so: then changes are looked for by
--- clocks, and else every item counts as stirred.
+-- clocks first, and along edges only for items that marked clocks touch; else every item counts as stirred.
 pub record BranchClassed (n : ℕ) (resets spots rows : List ℕ) (x e i : ℕ) : Type 0 where
   pub item : targetAt resets spots rows x e i < n
   pub mask : maskAt rows e i < maskRoom
@@ -82,14 +82,14 @@ UntouchedBy used resets marks x mask = getD used mask 0 ≡ 1 → ¬ (getD marks
 abbrev pub Untouched : (used resets marks : List ℕ) → (x : ℕ) → Type 0
 Untouched used resets marks x = (mask : ℕ) → mask < maskRoom → UntouchedBy used resets marks x mask
 
--- Edge e at x leads to nothing that has changed; no edge that is available at x does.
+-- Edge e at x leads to nothing that has changed; all edges that are available at x do so.
 abbrev pub EdgeCalm : (changed resets spots rows : List ℕ) → (x e : ℕ) → Type 0
 EdgeCalm changed resets spots rows x e = (i : ℕ) → i < countAt rows e → getD changed (targetAt resets spots rows x e i) 0 ≡ 0
 
 abbrev pub EdgesCalm : (k : ℕ) → (changed flags resets spots rows : List ℕ) → (x : ℕ) → Type 0
 EdgesCalm k changed flags resets spots rows x = (e : ℕ) → e < k → isOpen flags x e ≡ true → EdgeCalm changed resets spots rows x e
 
--- An item that is not stirred is still; and it is untouched, or its edges lead to nothing that has changed.
+-- An item that is not stirred is still; and it is untouched, or its available edges lead to nothing that has changed.
 abbrev pub RestsAt : (k : ℕ) → (changed flags resets spots rows used still marks : List ℕ) → (x flag : ℕ) → Type 0
 RestsAt k changed flags resets spots rows used still marks x flag =
     flag ≡ 0 → (getD still x 0 ≡ 1) × (Untouched used resets marks x ⊎ EdgesCalm k changed flags resets spots rows x)
@@ -98,13 +98,14 @@ abbrev pub Rests : (n k : ℕ) → (changed flags resets spots rows used still m
 Rests n k changed flags resets spots rows used still marks stirred =
     (x : ℕ) → x < n → RestsAt k changed flags resets spots rows used still marks x (getD stirred x 0)
 
--- So it is still; and no item with clocks that its own become under the mask of a branch has changed, or its edges lead to none that has.
+-- No item with the clocks that those of x become under the mask of a branch has changed, where there is a mark for those clocks.
 abbrev pub Unreached : (n k : ℕ) → (changed resets rows : List ℕ) → (x : ℕ) → Type 0
 Unreached n k changed resets rows x =
     (e i t : ℕ) → e < k → i < countAt rows e → maskAt rows e i < maskRoom → t < n
     → getD resets (maskRoom * t) 0 ≡ getD resets (maskRoom * x + maskAt rows e i) 0 → getD resets (maskRoom * t) 0 < mostItems
     → getD changed t 0 ≡ 0
 
+-- So an item that is not stirred is still; and it is unreached, or its available edges lead to nothing that has changed.
 abbrev pub Spared : (n k : ℕ) → (changed flags resets spots rows still stirred : List ℕ) → Type 0
 Spared n k changed flags resets spots rows still stirred =
     (x : ℕ) → x < n → getD stirred x 0 ≡ 0

@@ -1,6 +1,7 @@
 // What a change of names reaches: the items that must be compared again. Each item that leads to one whose name changed is stirred, and
-// some others are. Along delays this is found from the last item of each chain back. Along edges it is found by clocks: a branch leads to
-// an item with the clocks that the item's own become under the branch's mask, so the clocks of changed items are marked.
+// where a test fails all others are. Along delays this is found from the last item of each chain back. Along edges it is found by clocks:
+// a branch leads to an item with the clocks that the item's own become under the branch's mask, so the clocks of changed items are marked.
+// Of an item that such a mark touches, the available edges are gone through: it rests where none leads to a change.
 ghost use Prim.Native.Nat.{ℕ, suc, _+_, _<_, _≤_};
 ghost use mathlib.Core.Path.{_≡_};
 ghost use mathlib.Core.Bool.{true, false};
@@ -349,7 +350,7 @@ fn is_edge_calm(
     true
 }
 
-// Do the edges that are available at item x so?
+// Do all edges that are available at item x lead to nothing that has changed?
 fn are_edges_calm(
     k: usize,
     x: usize,
@@ -373,8 +374,8 @@ fn are_edges_calm(
     true
 }
 
-// 0 where item x is still, and untouched or with edges that lead to nothing that has changed; and else 1. Touched items are few in most
-// rounds, so that the edges of few are gone through.
+// 0 where item x is still, and is untouched or has only available edges that lead to nothing that has changed; else 1. Only the edges of
+// touched items are gone through.
 fn stirred_flag(
     k: usize,
     x: usize,

@@ -22,7 +22,8 @@ const SIGN_PRIME: usize = 4093;
 
 const SIGN_BASE: usize = 37;
 
-// Takes an edge of item x into a sign: its action, and the weight and the block of each of its branches.
+// Takes an edge of item x into a sign: its action, and the weight and the block of each of its branches. Each branch counts by its place,
+// so that another order gives another sign.
 fn sign_edge(
     x: usize,
     e: usize,
@@ -41,7 +42,7 @@ fn sign_edge(
     while i < count {
         let block = index_at(names, target_of(x, e, i, resets, spots, rows)) % 4096;
         let weight = at16(rows, 32 * e + 3 + 3 * i);
-        sum = sum + (block * SIGN_BASE + weight) * (97 * i + 11);
+        sum = sum + (block * 41 + weight) * (97 * i + 11);
         i = i + 1;
     }
     sum % SIGN_PRIME

@@ -141,7 +141,7 @@ module _ (k : ℕ) (list flags resets spots rows : List ℕ) where
   found-tells x e y r (inr (f, at, below, t)) =
       lt-ltb 0 r (omega (arith, at)) ∙ sym (one-answers k list flags resets spots rows x e y f below t)
 
-  -- Nothing is marked at first; then an edge at y that answers to one at x, which answers to it.
+  -- Nothing is marked at first. Then an edge at y may be marked that answers to one available at x, since that one answers to it.
   pub met-none : (x y n : ℕ) → Met k list flags resets spots rows x y (replicate {A = ℕ} n 0)
   met-none x y n e t = absurd (omega (arith, sym (zeros-at n e) ∙ t))
 

@@ -17,7 +17,8 @@ use Rattle.bisimulation.specs.Finite.{alike, delaysMatch, edgesMatch, matches, 
 use Rattle.bisimulation.specs.Laws.Tests.{both, clash, fails, same-test, and-iff, all-below, some-below, below-some}
 use Rattle.comparison.specs.Held.{mostEdges, isInside, targetOf}
 use Rattle.comparison.specs.Held.{Held, mostItems, chain, actionAt, wholeAt, countAt, weightAt, targetAt, branchesFrom}
-use Rattle.comparison.specs.Compare.{numberOf, Below, reachesRelated, reachesNumber, allMarked, delaysAnswered, weighed, balanced, balancedOver, edgesAlike}
+use Rattle.comparison.specs.Compare.{numberOf, Below, reachesRelated, reachesNumber, allMarked}
+use Rattle.comparison.specs.Compare.{delaysAnswered, weighed, balanced, balancedOver, edgesAlike}
 use Rattle.comparison.specs.Held.{isOpen}
 use Rattle.comparison.specs.Compare.{answers, someAnswers, edgeAnswered, edgesAnswered, answered, nextIn}
 
@@ -387,7 +388,7 @@ module _ (list resets spots rows : List ℕ) where
           (omega arith)
       go (inr p) (inr q) = balanced-none x e y f c p q
 
-  -- Balanced at the targets of one edge, balanced at an item with the number of one of them.
+  -- Edges that are balanced at the targets of the first are balanced at every item that has the number of one of these targets.
   pub balanced-into : (x e y f c : ℕ) → balancedOver list resets spots rows x e x e y f ≡ true
       → (i : ℕ) × (i < countAt rows e) × (numberOf list resets spots rows x e i ≡ getD list c 0)
       → balanced list resets spots rows x e y f c ≡ true

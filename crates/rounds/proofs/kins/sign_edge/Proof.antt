@@ -7,7 +7,7 @@ use Rattle.rounds.proofs.kins.sign_edge.Statement.{statement}
 use Rattle.rounds.proofs.kins.sign_edge.Tie as tie
 
 abbrev Inv-loop : tie.InvT-loop
-Inv-loop x e names resets spots rows sign count sum₀ i₀ sum i = (i ≤ count) × (sum ≤ 217050 + 1379766447300 * i)
+Inv-loop x e names resets spots rows sign count sum₀ i₀ sum i = (i ≤ count) × (sum ≤ 217050 + 1483892567580 * i)
 
 abbrev μ-loop : tie.MeasureT-loop
 μ-loop x e names resets spots rows sign count sum₀ i₀ sum i = count - i
@@ -109,9 +109,9 @@ mul-sum-4 c =
     let loop = c .before .before .before .before .loop in
     let loop-test = c .before .before .before .loop-test in
     let at16 = c .before .before .before .before .before .before .at16 in
-    let block : index-at.result % 4096 * 37 + at163.result ≤ 217050 = omega (arith, at163.ensures.1) in
+    let block : index-at.result % 4096 * 41 + at163.result ≤ 233430 = omega (arith, at163.ensures.1) in
     let place : 97 * loop.i + 11 ≤ 6356906 = omega (arith, loop-test.taken, at16.ensures.1) in
-    let most : (index-at.result % 4096 * 37 + at163.result) * (97 * loop.i + 11) ≤ 217050 * 6356906 = mul-le-mul block place in
+    let most : (index-at.result % 4096 * 41 + at163.result) * (97 * loop.i + 11) ≤ 233430 * 6356906 = mul-le-mul block place in
     omega (arith, most)
 
 add-sum-4 : tie.Need-add-sum-4 Inv-loop μ-loop
@@ -121,9 +121,9 @@ add-sum-4 c =
     let loop = c .before .before .before .before .loop in
     let loop-test = c .before .before .before .loop-test in
     let at16 = c .before .before .before .before .before .before .at16 in
-    let block : index-at.result % 4096 * 37 + at163.result ≤ 217050 = omega (arith, at163.ensures.1) in
+    let block : index-at.result % 4096 * 41 + at163.result ≤ 233430 = omega (arith, at163.ensures.1) in
     let place : 97 * loop.i + 11 ≤ 6356906 = omega (arith, loop-test.taken, at16.ensures.1) in
-    let most : (index-at.result % 4096 * 37 + at163.result) * (97 * loop.i + 11) ≤ 217050 * 6356906 = mul-le-mul block place in
+    let most : (index-at.result % 4096 * 41 + at163.result) * (97 * loop.i + 11) ≤ 233430 * 6356906 = mul-le-mul block place in
     omega (arith, most, loop.inv.1, loop-test.taken, at16.ensures.1)
 
 add-i : tie.Need-add-i Inv-loop μ-loop
@@ -144,9 +144,9 @@ loop-again c =
     let loop = c .before .before .before .before .loop in
     let loop-test = c .before .before .before .loop-test in
     let at16 = c .before .before .before .before .before .before .at16 in
-    let block : index-at.result % 4096 * 37 + at163.result ≤ 217050 = omega (arith, at163.ensures.1) in
+    let block : index-at.result % 4096 * 41 + at163.result ≤ 233430 = omega (arith, at163.ensures.1) in
     let place : 97 * loop.i + 11 ≤ 6356906 = omega (arith, loop-test.taken, at16.ensures.1) in
-    let most : (index-at.result % 4096 * 37 + at163.result) * (97 * loop.i + 11) ≤ 217050 * 6356906 = mul-le-mul block place in
+    let most : (index-at.result % 4096 * 41 + at163.result) * (97 * loop.i + 11) ≤ 233430 * 6356906 = mul-le-mul block place in
     (omega (arith, loop-test.taken), omega (arith, most, loop.inv.1))
 
 returns : tie.Need-returns Inv-loop μ-loop
