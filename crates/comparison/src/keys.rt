@@ -142,7 +142,7 @@ fn key_by(
     edges * 65536 + delays_key(n, x, list, nexts) + 1
 }
 
-// The key of item x, which was not known and is from now on; the codes of its edges are left in `codes`.
+// The key of item x is computed and stored; the codes of its edges are left in `codes`.
 pub(crate) fn coded_key(
     n: usize,
     k: usize,
@@ -157,17 +157,12 @@ pub(crate) fn coded_key(
     codes: &mut [u64],
 ) -> u64
     requires { ⌜ (k ≤ mostEdges) × (x < mostItems) × (length (now codes) ≡ mostEdges) ⌝ }
-    ensures { λ _. ⌜ (length (now (keys .exit)) ≡ length (now (keys .entry))) × (length (now (codes .exit)) ≡ mostEdges) ⌝ }
+    ensures { λ r. ⌜ (now (keys .exit) ≡ set (now (keys .entry)) x r) × (length (now (codes .exit)) ≡ mostEdges) ⌝ }
     ensures { λ r. ⌜ (Opened n k (now (flags .entry)) → x < n
-        → Known n k (now (names .entry)) (now (keys .entry)) (now (nexts .entry)) (now (flags .entry))
-        (now (resets .entry)) (now (spots .entry)) (now (rows .entry))
         → (r ≡ keyOf n k (now (names .entry)) (now (nexts .entry)) (now (flags .entry)) (now (resets .entry)) (now (spots .entry))
         (now (rows .entry)) x)
-        × Known n k (now (names .entry)) (now (keys .exit)) (now (nexts .entry)) (now (flags .entry))
-        (now (resets .entry)) (now (spots .entry)) (now (rows .entry))
         × Coded k x (now (names .entry)) (now (flags .entry)) (now (resets .entry)) (now (spots .entry)) (now (rows .entry))
         (now (codes .exit))) ⌝ }
-    ensures { λ _. ⌜ (getD (now (keys .entry)) x 0 ≡ 0 → AskedFor x (now (keys .entry)) (now (keys .exit))) ⌝ }
 {
     list_codes(k, x, names, flags, resets, spots, rows, codes);
     let key = key_by(n, k, x, names, nexts, flags, codes);
@@ -175,7 +170,7 @@ pub(crate) fn coded_key(
     key
 }
 
-// The key of item x, which is known from now on.
+// The key of item x, which is stored where it was not known.
 pub(crate) fn known_key(
     n: usize,
     k: usize,

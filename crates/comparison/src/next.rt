@@ -36,37 +36,21 @@ fn delays_agree(n: usize, x: usize, y: usize, list: &[u64], nexts: &[u16]) -> bo
     delays_match(n, y, x, list, nexts)
 }
 
-// Is item y related to item x in the next round? The codes of the edges of y are given.
-fn is_coded_next(
-    n: usize,
-    k: usize,
-    x: usize,
-    y: usize,
-    list: &[u64],
-    nexts: &[u16],
-    flags: &[u8],
-    resets: &[u16],
-    spots: &[u16],
-    rows: &[u16],
-    codes: &[u64],
-) -> bool
-    requires { ⌜ (k ≤ mostEdges) × (x < mostItems) × (y < mostItems) ⌝ }
-    ensures { λ r. ⌜ ((F : Finite) (labels : List ℕ) → Held F n k labels (now (nexts .entry)) (now (flags .entry)) (now (resets .entry))
-        (now (spots .entry)) (now (rows .entry)) → Closed (structure F) → Below n (now (list .entry)) → x < n → y < n
-        → Coded k y (now (list .entry)) (now (flags .entry)) (now (resets .entry)) (now (spots .entry)) (now (rows .entry))
-        (now (codes .entry)) → r ≡ next F (now (list .entry)) x y) ⌝ }
+// Are two items related in this round, and is each item that one of them reaches by delay related to one that the other reaches?
+fn may_be_next(n: usize, x: usize, y: usize, list: &[u64], nexts: &[u16]) -> bool
+    ensures { λ r. ⌜ (Below n (now (list .entry)) → Onward n (now (nexts .entry)) → x < n → y < n
+        → r ≡ (related (now (list .entry)) x y && (delaysAnswered n (now (list .entry)) (now (nexts .entry)) x y
+        && delaysAnswered n (now (list .entry)) (now (nexts .entry)) y x))) ⌝ }
 {
     if !is_related(x, y, list) {
         return false;
     }
-    if !delays_agree(n, x, y, list, nexts) {
-        return false;
-    }
-    edges_agree(k, x, y, list, flags, resets, spots, rows, codes)
+    delays_agree(n, x, y, list, nexts)
 }
 
 // Is item y related to item x in the next round? The list says how items are related in this one. Numbers that are not below n are
-// never related. For others, where the slices hold no closed structure, the answer is a choice of the code.
+// never related. For others, where the slices hold no closed structure or a number of the list is 4,096 or more, the answer is a choice of
+// the code.
 pub fn is_next(
     n: usize,
     k: usize,
@@ -88,9 +72,12 @@ pub fn is_next(
     if !are_items(n, k, x, y) {
         return false;
     }
+    if !may_be_next(n, x, y, list, nexts) {
+        return false;
+    }
     let mut codes = [0u64; 128];
     list_codes(k, y, list, flags, resets, spots, rows, &mut codes);
-    is_coded_next(n, k, x, y, list, nexts, flags, resets, spots, rows, &codes)
+    edges_agree(k, x, y, list, flags, resets, spots, rows, &codes)
 }
 
 // Is item y related to item x in the next round? `one` is the key of x; that of y is not known, and becomes known.
@@ -135,12 +122,16 @@ fn is_newly_keyed_next(
     if one != other {
         return false;
     }
-    is_coded_next(n, k, x, y, names, nexts, flags, resets, spots, rows, &codes)
+    if !may_be_next(n, x, y, names, nexts) {
+        return false;
+    }
+    edges_agree(k, x, y, names, flags, resets, spots, rows, &codes)
 }
 
 // Is item y related to item x in the next round? Where the key of y is not known, the two may be plainly alike; else different keys say
-// that it is not. Only the keys of x and y may become known, and a key that is known stays. Which of the two become known, and both the
-// key and the answer where nothing is held, are choices of the code.
+// that it is not. Only the keys of x and y may become known, and a key that is known stays. Numbers that are not below n are never related,
+// and no key becomes known then. Which of the two become known else, and both the key and the answer where nothing is held, are choices of
+// the code.
 pub fn is_keyed_next(
     n: usize,
     k: usize,
@@ -161,7 +152,9 @@ pub fn is_keyed_next(
         → x < n → y < n → (r ≡ next F (now (names .entry)) x y)
         × Keyed F n k (now (names .entry)) (now (keys .exit)) (now (labels .entry)) (now (nexts .entry))
         (now (flags .entry)) (now (resets .entry)) (now (spots .entry)) (now (rows .entry))) ⌝ }
-    ensures { λ _. ⌜ BothAsked x y (now (keys .entry)) (now (keys .exit)) ⌝ }
+    ensures { λ r. ⌜ BothAsked x y (now (keys .entry)) (now (keys .exit))
+        × (n ≤ x → (r ≡ false) × (now (keys .exit) ≡ now (keys .entry)))
+        × (n ≤ y → (r ≡ false) × (now (keys .exit) ≡ now (keys .entry))) ⌝ }
 {
     if !are_items(n, k, x, y) {
         return false;

@@ -327,7 +327,7 @@ fn is_touched(x: usize, used: &[u8], resets: &[u16], marks: &[u8]) -> bool
     false
 }
 
-// Does edge e at item x lead to nothing that has changed?
+// Does edge e at item x lead to nothing that has changed? Nothing is said where the answer is no.
 fn is_edge_calm(
     x: usize,
     e: usize,
@@ -350,7 +350,7 @@ fn is_edge_calm(
     true
 }
 
-// Do all edges that are available at item x lead to nothing that has changed?
+// Do all edges that are available at item x lead to nothing that has changed? Nothing is said where the answer is no.
 fn are_edges_calm(
     k: usize,
     x: usize,
@@ -374,8 +374,8 @@ fn are_edges_calm(
     true
 }
 
-// 0 where item x is still, and is untouched or has only available edges that lead to nothing that has changed; else 1. Only the edges of
-// touched items are gone through.
+// 0 where item x is still, and is untouched or has only available edges that lead to nothing that has changed; else 1, which
+// says nothing. Only the edges of touched items are gone through.
 fn stirred_flag(
     k: usize,
     x: usize,

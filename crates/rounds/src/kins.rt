@@ -38,11 +38,13 @@ fn sign_edge(
 {
     let count = at16(rows, 32 * e + 2);
     let mut sum = sign * SIGN_BASE + at16(rows, 32 * e);
+    let mut factor = 11;
     let mut i = 0;
     while i < count {
         let block = index_at(names, target_of(x, e, i, resets, spots, rows)) % 4096;
         let weight = at16(rows, 32 * e + 3 + 3 * i);
-        sum = sum + (block * 41 + weight) * (97 * i + 11);
+        sum = sum + (block * 41 + weight) * factor;
+        factor = factor * 961 % SIGN_PRIME;
         i = i + 1;
     }
     sum % SIGN_PRIME

@@ -160,11 +160,11 @@ module _ (k : ℕ) (list flags resets spots rows : List ℕ) where
           )))
       go (inr other) = all g (sym (getD-set-other met f g 1 0 other) ∙ marked)
 
--- ---- The next round: first the delays of both, then the edges of both
+-- ---- The next round: first this round and the delays of both, then the edges of both
 
-module _ (n k : ℕ) (list nexts flags resets spots rows : List ℕ) (x y : ℕ) (same : related list x y ≡ true) where
+module _ (n k : ℕ) (list nexts flags resets spots rows : List ℕ) (x y : ℕ) where
   abbrev delaysBoth : Bool
-  delaysBoth = delaysAnswered n list nexts x y && delaysAnswered n list nexts y x
+  delaysBoth = related list x y && (delaysAnswered n list nexts x y && delaysAnswered n list nexts y x)
 
   abbrev edgesBoth : Bool
   edgesBoth = edgesAnswered k list flags resets spots rows x y && edgesAnswered k list flags resets spots rows y x
@@ -173,17 +173,18 @@ module _ (n k : ℕ) (list nexts flags resets spots rows : List ℕ) (x y : ℕ)
   next-sorted : nextIn n k list nexts flags resets spots rows x y ≡ (delaysBoth && edgesBoth)
   unfolding nextIn answered
   next-sorted =
-      rw same (sort (delaysAnswered n list nexts x y) (edgesAnswered k list flags resets spots rows x y)
-      (delaysAnswered n list nexts y x) (edgesAnswered k list flags resets spots rows y x))
+      sort (related list x y) (delaysAnswered n list nexts x y) (edgesAnswered k list flags resets spots rows x y)
+      (delaysAnswered n list nexts y x) (edgesAnswered k list flags resets spots rows y x)
     where
-      sort : (a b c d : Bool) → ((a && b) && (c && d)) ≡ ((a && c) && (b && d))
-      sort true true c d = refl
-      sort true false true d = refl
-      sort true false false d = refl
-      sort false b c d = refl
+      sort : (r a b c d : Bool) → (r && ((a && b) && (c && d))) ≡ ((r && (a && c)) && (b && d))
+      sort false a b c d = refl
+      sort true true true c d = refl
+      sort true true false true d = refl
+      sort true true false false d = refl
+      sort true false b c d = refl
 
-  pub next-delays-fail : delaysBoth ≡ false → nextIn n k list nexts flags resets spots rows x y ≡ false
-  next-delays-fail none = next-sorted ∙ ap (λ (b : Bool). b && edgesBoth) none
+  pub next-fails : delaysBoth ≡ false → nextIn n k list nexts flags resets spots rows x y ≡ false
+  next-fails none = next-sorted ∙ ap (λ (b : Bool). b && edgesBoth) none
 
   pub next-edges : delaysBoth ≡ true → nextIn n k list nexts flags resets spots rows x y ≡ edgesBoth
   next-edges all = next-sorted ∙ ap (λ (b : Bool). b && edgesBoth) all

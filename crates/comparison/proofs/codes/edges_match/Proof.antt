@@ -109,7 +109,7 @@ loop-again c =
     let if1 = c .before .before .before .before .before .if1 in
     let below : loop.e - 1 < args.k = omega (arith, loop.inv.0, loop-test.taken) in (
       omega (arith, open-below2.ensures.0, loop.inv.0),
-      ap length set-mark.ensures ∙ length-set loop.met (find-answer.result - 1) 1 ∙ loop.inv.1,
+      ap length set-mark.ensures ∙ length-set loop.met _ 1 ∙ loop.inv.1,
       λ n opened hx hy one other told met.
           let (down, met′) = loop.inv.2 n opened hx hy one other told met in
           let ready = down .at loop-test.taken in

@@ -1,7 +1,8 @@
 -- `known_key` meets its contract. Assumes nothing.
-use mathlib.Core.Path.{refl, sym, _∙_}
+use mathlib.Core.Path.{refl, sym, _∙_, ap}
 use mathlib.Core.Logic.{inl}
-use Rattle.comparison.specs.Laws.KeyLoops.{known-old}
+use lib.ListN.{length, length-set}
+use Rattle.comparison.specs.Laws.KeyLoops.{known-old, known-new, asked-put}
 use borrow.Author.Needs.{needs}
 use Rattle.comparison.proofs.keys.known_key.Statement.{statement}
 use Rattle.comparison.proofs.keys.known_key.Tie as tie
@@ -40,12 +41,19 @@ same-length-2 c = search needs
 returns-2 : tie.Need-returns-2
 returns-2 c =
     let coded-key = c .before .before .before .coded-key in
+    let args = c .before .before .before .before .before .before .before .before .before .before .before .before .before .before
+    .before .before .args in
     let at64 = c .before .before .before .before .before .before .before .at64 in
     let if1 = c .before .before .before .before .before .before .if1 in (
-      coded-key.ensures.0.0,
+      ap length coded-key.ensures.0.0 ∙ length-set args.keys.now args.x coded-key.result,
       (
-        λ opened hx known. let (key, known′, _) = coded-key.ensures.1.0 opened hx known in (key, known′),
-        coded-key.ensures.1.1 (sym at64.ensures ∙ if1.left),
+        λ opened hx known.
+            let (key, _) = coded-key.ensures.1 opened hx in (
+              key,
+              rw coded-key.ensures.0.0 (known-new args.n args.k args.names.now args.keys.now args.nexts.now args.flags.now args.resets.now
+                  args.spots.now args.rows.now known args.x coded-key.result key),
+            ),
+        rw coded-key.ensures.0.0 (asked-put args.x coded-key.result args.keys.now (sym at64.ensures ∙ if1.left)),
       ),
     )
 

@@ -20,7 +20,7 @@ returns c =
       (
         λ F keyed hx hy. absurd (clash (are-items.ensures.1.0 (keyed .held .few) (keyed .held .few-edges) hx hy) (not-true
             are-items.result if1.taken)),
-        λ z. inl refl,
+        (λ z. inl refl, λ h. (refl, refl), λ h. (refl, refl)),
       ),
     )
 
@@ -35,10 +35,13 @@ same-length c = search needs
 
 returns-2 : tie.Need-returns-2
 returns-2 c =
+    let are-items = c .before .before .before .before .before .before .are-items in
+    let if1 = c .before .before .before .before .before .if1 in
     let args = c .before .before .before .before .before .before .before .before .before .before .before .before .before .before
     .before .args in
     let is-twin = c .before .is-twin in
-    let if3 = c .if3 in (
+    let if3 = c .if3 in
+    let items = not-false are-items.result if1.left in (
       refl,
       (
         λ F keyed hx hy. (
@@ -46,7 +49,12 @@ returns-2 c =
               if3.taken (keyed .held .onward) (keyed .held .opened) hx hy)),
           keyed,
         ),
-        λ z. inl refl,
+        (
+          λ z. inl refl,
+          λ h. absurd (clash items
+              (are-items.ensures.1.1.0 h)),
+          λ h. absurd (clash items (are-items.ensures.1.1.1 h)),
+        ),
       ),
     )
 
@@ -70,21 +78,30 @@ same-length-2 c = search needs
 
 returns-3 : tie.Need-returns-3
 returns-3 c =
+    let are-items = c .before .before .before .before .before .before .before .before .before .before .before .before .before .before
+    .before .are-items in
+    let if1 = c .before .before .before .before .before .before .before .before .before .before .before .before .before .before .if1 in
     let is-newly-keyed-next = c .before .before .is-newly-keyed-next in
     let known-key = c .before .before .before .before .before .before .before .before .before .known-key in
     let args = c .before .before .before .before .before .before .before .before .before .before .before .before .before .before
     .before .before .before .before .before .before .before .before .before .before .args in
     let at642 = c .before .before .before .before .before .at642 in
-    let if4 = c .before .before .before .before .if4 in (
+    let if4 = c .before .before .before .before .if4 in
+    let items = not-false are-items.result if1.left in (
       is-newly-keyed-next.ensures.0 ∙ known-key.ensures.0,
       (
         λ F keyed hx hy.
             let (one, known) = known-key.ensures.1.0 (keyed .held .opened) hx (keyed .keyed) in
-            let (same, known′) = is-newly-keyed-next.ensures.1.0 F args.labels.now (keyed-on keyed known-key.last.1.1.1.1.1.1.1.1.1.0
-            known) hx hy one in
+            let (same, known′) = is-newly-keyed-next.ensures.1.0 F args.labels.now (keyed-on keyed known-key.last.1.1.1.1.1.1.1.1.1.0 known) hx
+            hy one in
             (same, keyed-on keyed is-newly-keyed-next.last.1.1.1.1.1.1.1.1.1.1.1.0 known′),
-        asked-both args.x args.y args.keys.now known-key.last.1.1.1.1.1.1.1.1.1.0 is-newly-keyed-next.last.1.1.1.1.1.1.1.1.1.1.1.0
-            known-key.ensures.1.1 (is-newly-keyed-next.ensures.1.1 (sym at642.ensures ∙ if4.taken)),
+        (
+          asked-both args.x args.y args.keys.now known-key.last.1.1.1.1.1.1.1.1.1.0 is-newly-keyed-next.last.1.1.1.1.1.1.1.1.1.1.1.0
+              known-key.ensures.1.1 (is-newly-keyed-next.ensures.1.1 (sym at642.ensures ∙ if4.taken)),
+          λ h. absurd (clash items
+              (are-items.ensures.1.1.0 h)),
+          λ h. absurd (clash items (are-items.ensures.1.1.1 h)),
+        ),
       ),
     )
 
@@ -93,24 +110,31 @@ same-length-3 c = search needs
 
 returns-4 : tie.Need-returns-4
 returns-4 c =
+    let are-items = c .before .before .before .before .before .before .before .before .before .before .before .before .are-items in
+    let if1 = c .before .before .before .before .before .before .before .before .before .before .before .if1 in
     let known-key = c .before .before .before .before .before .before .known-key in
     let at642 = c .before .before .at642 in
     let args = c .before .before .before .before .before .before .before .before .before .before .before .before .before .before
     .before .before .before .before .before .before .before .args in
     let if4 = c .before .if4 in
-    let if5 = c .if5 in (
+    let if5 = c .if5 in
+    let items = not-false are-items.result if1.left in (
       known-key.ensures.0,
       (
         λ F keyed hx hy.
             let (one, known) = known-key.ensures.1.0 (keyed .held .opened) hx (keyed .keyed) in
-            let other = at642.ensures ∙ known-old args.n args.k args.names.now known-key.last.1.1.1.1.1.1.1.1.1.0 args.nexts.now
-            args.flags.now args.resets.now args.spots.now args.rows.now known args.y hy (λ none. if4.left (at642.ensures ∙ none)) in (
+            let other = at642.ensures ∙ known-old args.n args.k args.names.now known-key.last.1.1.1.1.1.1.1.1.1.0 args.nexts.now args.flags.now
+            args.resets.now args.spots.now args.rows.now known args.y hy (λ none. if4.left (at642.ensures ∙ none)) in (
               sym (keys-part keyed args.x args.y known-key.result at642.result hx hy one other if5.taken),
               keyed-on keyed
                   known-key.last.1.1.1.1.1.1.1.1.1.0 known,
             ),
-        asked-both args.x args.y args.keys.now known-key.last.1.1.1.1.1.1.1.1.1.0 known-key.last.1.1.1.1.1.1.1.1.1.0
-            known-key.ensures.1.1 (λ z. inl refl),
+        (
+          asked-both args.x args.y args.keys.now known-key.last.1.1.1.1.1.1.1.1.1.0 known-key.last.1.1.1.1.1.1.1.1.1.0 known-key.ensures.1.1
+              (λ z. inl refl),
+          λ h. absurd (clash items (are-items.ensures.1.1.0 h)),
+          λ h. absurd (clash items (are-items.ensures.1.1.1 h)),
+        ),
       ),
     )
 
@@ -122,20 +146,24 @@ same-length-4 c = search needs
 
 returns-5 : tie.Need-returns-5
 returns-5 c =
+    let are-items = c .before .before .before .before .before .before .before .before .before .before .before .before .before .are-items in
+    let if1 = c .before .before .before .before .before .before .before .before .before .before .before .before .if1 in
     let known-key = c .before .before .before .before .before .before .before .known-key in
     let is-next = c .is-next in
     let args = c .before .before .before .before .before .before .before .before .before .before .before .before .before .before
-    .before .before .before .before .before .before .before .before .args in (
+    .before .before .before .before .before .before .before .before .args in
+    let items = not-false are-items.result if1.left in (
       known-key.ensures.0,
       (
         λ F keyed hx hy.
-            let (_, known) = known-key.ensures.1.0 (keyed .held .opened) hx (keyed .keyed) in (
-              is-next.ensures.0 F (keyed .held) (keyed .closed) (keyed .below) hx hy,
-              keyed-on keyed known-key.last.1.1.1.1.1.1.1.1.1.0
-                  known,
-            ),
-        asked-both args.x args.y args.keys.now known-key.last.1.1.1.1.1.1.1.1.1.0 known-key.last.1.1.1.1.1.1.1.1.1.0
-            known-key.ensures.1.1 (λ z. inl refl),
+            let (_, known) = known-key.ensures.1.0 (keyed .held .opened) hx (keyed .keyed) in
+            (is-next.ensures.0 F (keyed .held) (keyed .closed) (keyed .below) hx hy, keyed-on keyed known-key.last.1.1.1.1.1.1.1.1.1.0 known),
+        (
+          asked-both args.x args.y args.keys.now known-key.last.1.1.1.1.1.1.1.1.1.0 known-key.last.1.1.1.1.1.1.1.1.1.0 known-key.ensures.1.1
+              (λ z. inl refl),
+          λ h. absurd (clash items (are-items.ensures.1.1.0 h)),
+          λ h. absurd (clash items (are-items.ensures.1.1.1 h)),
+        ),
       ),
     )
 

@@ -1,5 +1,10 @@
 -- `is_newly_keyed_next` meets its contract. Assumes nothing.
-use mathlib.Core.Path.{sym}
+use mathlib.Core.Path.{sym, _∙_, ap}
+use lib.ListN.{length, length-set}
+use borrow.Author.Tests.{not-true, not-false}
+use Rattle.comparison.specs.Laws.Compare.{next-held}
+use Rattle.comparison.specs.Laws.Codes.{answers-tell, next-fails, next-edges}
+use Rattle.comparison.specs.Laws.KeyLoops.{known-new, asked-put}
 use Rattle.comparison.specs.Laws.Keyed.{keys-part}
 use borrow.Author.Needs.{needs}
 use Rattle.comparison.proofs.next.is_newly_keyed_next.Statement.{statement}
@@ -19,20 +24,21 @@ returns c =
     let coded-key = c .before .before .before .before .coded-key in
     let args = c .before .before .before .before .before .before .before .before .before .before .before .before .before .before .args in
     let if1 = c .if1 in (
-      coded-key.ensures.0.0,
+      ap length coded-key.ensures.0.0 ∙ length-set args.keys.now args.y coded-key.result,
       (
         λ F labels keyed hx hy one.
-            let (other, known, _) = coded-key.ensures.1.0 (keyed .held .opened) hy (keyed .keyed) in
-            (sym (keys-part keyed args.x args.y args.one coded-key.result hx hy one other if1.taken), known),
-        coded-key.ensures.1.1,
+            let (other, _) = coded-key.ensures.1 (keyed .held .opened) hy in (
+              sym (keys-part keyed args.x args.y args.one coded-key.result hx hy one other if1.taken),
+              rw coded-key.ensures.0.0 (known-new
+                  args.n args.k args.names.now args.keys.now args.nexts.now args.flags.now args.resets.now args.spots.now args.rows.now (keyed
+                  .keyed) args.y coded-key.result other),
+            ),
+        λ none. rw coded-key.ensures.0.0 (asked-put args.y coded-key.result args.keys.now none),
       ),
     )
 
-slice-aggregate-is-coded-next : tie.Need-slice-aggregate-is-coded-next
-slice-aggregate-is-coded-next c = search needs
-
-is-coded-next-requires : tie.Need-is-coded-next-requires
-is-coded-next-requires c κs = search needs
+may-be-next-requires : tie.Need-may-be-next-requires
+may-be-next-requires c κs = search needs
 
 same-length-2 : tie.Need-same-length-2
 same-length-2 c = search needs
@@ -40,13 +46,61 @@ same-length-2 c = search needs
 returns-2 : tie.Need-returns-2
 returns-2 c =
     let coded-key = c .before .before .before .before .before .before .coded-key in
-    let is-coded-next = c .is-coded-next in (
-      coded-key.ensures.0.0,
+    let args = c .before .before .before .before .before .before .before .before .before .before .before .before .before .before
+    .before .before .args in
+    let may-be-next = c .before .may-be-next in
+    let if2 = c .if2 in (
+      ap length coded-key.ensures.0.0 ∙ length-set args.keys.now args.y coded-key.result,
       (
         λ F labels keyed hx hy one.
-            let (_, known, coded) = coded-key.ensures.1.0 (keyed .held .opened) hy (keyed .keyed) in
-            (is-coded-next.ensures F labels (keyed .held) (keyed .closed) (keyed .below) hx hy coded, known),
-        coded-key.ensures.1.1,
+            let (other, _) = coded-key.ensures.1 (keyed .held .opened) hy in (
+              sym (next-fails args.n args.k args.names.now args.nexts.now args.flags.now args.resets.now args.spots.now args.rows.now args.x
+                  args.y (sym (may-be-next.ensures (keyed .below) (keyed .held .onward) hx hy) ∙ not-true may-be-next.result if2.taken))
+                  ∙ next-held F args.n args.k args.names.now labels args.nexts.now args.flags.now args.resets.now args.spots.now args.rows.now (keyed
+                  .held) (keyed .closed) args.x args.y hx hy,
+              rw coded-key.ensures.0.0 (known-new args.n args.k args.names.now args.keys.now
+                  args.nexts.now args.flags.now args.resets.now args.spots.now args.rows.now (keyed .keyed) args.y coded-key.result other),
+            ),
+        λ none.
+            rw coded-key.ensures.0.0 (asked-put args.y coded-key.result args.keys.now none),
+      ),
+    )
+
+slice-aggregate-edges-agree : tie.Need-slice-aggregate-edges-agree
+slice-aggregate-edges-agree c = search needs
+
+edges-agree-requires : tie.Need-edges-agree-requires
+edges-agree-requires c κs = search needs
+
+same-length-3 : tie.Need-same-length-3
+same-length-3 c = search needs
+
+returns-3 : tie.Need-returns-3
+returns-3 c =
+    let coded-key = c .before .before .before .before .before .before .before .before .coded-key in
+    let args = c .before .before .before .before .before .before .before .before .before .before .before .before .before .before
+    .before .before .before .before .args in
+    let edges-agree = c .edges-agree in
+    let may-be-next = c .before .before .before .may-be-next in
+    let if2 = c .before .before .if2 in (
+      ap length coded-key.ensures.0.0 ∙ length-set args.keys.now args.y coded-key.result,
+      (
+        λ F labels keyed hx hy one.
+            let (other, coded) = coded-key.ensures.1 (keyed .held .opened) hy in (
+              edges-agree.ensures args.n (keyed .held .opened) hx hy coded
+                  (answers-tell F args.n args.k args.names.now labels args.nexts.now args.flags.now args.resets.now args.spots.now args.rows.now
+                  (keyed .held) (keyed .closed) args.x args.y hx hy)
+                  (answers-tell F args.n args.k args.names.now labels args.nexts.now args.flags.now args.resets.now args.spots.now args.rows.now
+                  (keyed .held) (keyed .closed) args.y args.x hy hx)
+                  ∙ sym (next-edges args.n args.k args.names.now args.nexts.now args.flags.now args.resets.now args.spots.now args.rows.now args.x
+                  args.y (sym (may-be-next.ensures (keyed .below) (keyed .held .onward) hx hy) ∙ not-false may-be-next.result if2.left))
+                  ∙ next-held F args.n args.k args.names.now labels args.nexts.now args.flags.now args.resets.now args.spots.now args.rows.now (keyed
+                  .held) (keyed .closed) args.x args.y hx hy,
+              rw coded-key.ensures.0.0 (known-new args.n args.k args.names.now args.keys.now
+                  args.nexts.now args.flags.now args.resets.now args.spots.now args.rows.now (keyed .keyed) args.y coded-key.result other),
+            ),
+        λ none.
+            rw coded-key.ensures.0.0 (asked-put args.y coded-key.result args.keys.now none),
       ),
     )
 
@@ -58,7 +112,10 @@ is-newly-keyed-next-spec =
     coded-key-requires
     same-length
     returns
-    slice-aggregate-is-coded-next
-    is-coded-next-requires
+    may-be-next-requires
     same-length-2
-    returns-2)
+    returns-2
+    slice-aggregate-edges-agree
+    edges-agree-requires
+    same-length-3
+    returns-3)

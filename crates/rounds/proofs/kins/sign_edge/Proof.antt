@@ -1,5 +1,5 @@
 -- `sign_edge` meets its contract. Assumes nothing.
-use Prim.Native.Nat.{_+_, _*_, _-_, _%_, _≤_}
+use Prim.Native.Nat.{_+_, _*_, _-_, _%_, _≤_, _<_}
 use native.Mathlib.Omega.{arith}
 use native.Mathlib.Nat.{mul-le-mul}
 use borrow.Author.Needs.{needs}
@@ -7,10 +7,11 @@ use Rattle.rounds.proofs.kins.sign_edge.Statement.{statement}
 use Rattle.rounds.proofs.kins.sign_edge.Tie as tie
 
 abbrev Inv-loop : tie.InvT-loop
-Inv-loop x e names resets spots rows sign count sum₀ i₀ sum i = (i ≤ count) × (sum ≤ 217050 + 1483892567580 * i)
+Inv-loop x e names resets spots rows sign count sum₀ factor₀ i₀ sum factor i =
+    (i ≤ count) × (factor < 4093) × (sum ≤ 217050 + 955195560 * i)
 
 abbrev μ-loop : tie.MeasureT-loop
-μ-loop x e names resets spots rows sign count sum₀ i₀ sum i = count - i
+μ-loop x e names resets spots rows sign count sum₀ factor₀ i₀ sum factor i = count - i
 
 mul-at16 : tie.Need-mul-at16 Inv-loop μ-loop
 mul-at16 c =
@@ -48,7 +49,7 @@ loop-holds : tie.Need-loop-holds Inv-loop μ-loop
 loop-holds c =
     let pre = c .before .before .before .before .before .before .pre in
     let at162 = c .at162 in
-    (omega arith, omega (arith, pre.1, at162.ensures.1))
+    (omega arith, omega arith, omega (arith, pre.1, at162.ensures.1))
 
 target-of-requires : tie.Need-target-of-requires Inv-loop μ-loop
 target-of-requires c κs = search needs
@@ -92,39 +93,30 @@ add-sum-2 c =
 
 mul-sum-3 : tie.Need-mul-sum-3 Inv-loop μ-loop
 mul-sum-3 c =
-    let loop-test = c .before .before .before .loop-test in
-    let at16 = c .before .before .before .before .before .before .at16 in
-    omega (arith, loop-test.taken, at16.ensures.1)
+    let index-at = c .before .index-at in
+    let at163 = c .at163 in
+    let loop = c .before .before .before .before .loop in
+    let block : index-at.result % 4096 * 41 + at163.result ≤ 233430 = omega (arith, at163.ensures.1) in
+    let place : loop.factor ≤ 4092 = omega (arith, loop.inv.1) in
+    let most : (index-at.result % 4096 * 41 + at163.result) * loop.factor ≤ 233430 * 4092 = mul-le-mul block place in
+    omega (arith, most)
 
 add-sum-3 : tie.Need-add-sum-3 Inv-loop μ-loop
 add-sum-3 c =
-    let loop-test = c .before .before .before .loop-test in
-    let at16 = c .before .before .before .before .before .before .at16 in
-    omega (arith, loop-test.taken, at16.ensures.1)
-
-mul-sum-4 : tie.Need-mul-sum-4 Inv-loop μ-loop
-mul-sum-4 c =
     let index-at = c .before .index-at in
     let at163 = c .at163 in
     let loop = c .before .before .before .before .loop in
     let loop-test = c .before .before .before .loop-test in
     let at16 = c .before .before .before .before .before .before .at16 in
     let block : index-at.result % 4096 * 41 + at163.result ≤ 233430 = omega (arith, at163.ensures.1) in
-    let place : 97 * loop.i + 11 ≤ 6356906 = omega (arith, loop-test.taken, at16.ensures.1) in
-    let most : (index-at.result % 4096 * 41 + at163.result) * (97 * loop.i + 11) ≤ 233430 * 6356906 = mul-le-mul block place in
-    omega (arith, most)
+    let place : loop.factor ≤ 4092 = omega (arith, loop.inv.1) in
+    let most : (index-at.result % 4096 * 41 + at163.result) * loop.factor ≤ 233430 * 4092 = mul-le-mul block place in
+    omega (arith, most, loop.inv.2, loop-test.taken, at16.ensures.1)
 
-add-sum-4 : tie.Need-add-sum-4 Inv-loop μ-loop
-add-sum-4 c =
-    let index-at = c .before .index-at in
-    let at163 = c .at163 in
+mul-factor : tie.Need-mul-factor Inv-loop μ-loop
+mul-factor c =
     let loop = c .before .before .before .before .loop in
-    let loop-test = c .before .before .before .loop-test in
-    let at16 = c .before .before .before .before .before .before .at16 in
-    let block : index-at.result % 4096 * 41 + at163.result ≤ 233430 = omega (arith, at163.ensures.1) in
-    let place : 97 * loop.i + 11 ≤ 6356906 = omega (arith, loop-test.taken, at16.ensures.1) in
-    let most : (index-at.result % 4096 * 41 + at163.result) * (97 * loop.i + 11) ≤ 233430 * 6356906 = mul-le-mul block place in
-    omega (arith, most, loop.inv.1, loop-test.taken, at16.ensures.1)
+    omega (arith, loop.inv.1)
 
 add-i : tie.Need-add-i Inv-loop μ-loop
 add-i c =
@@ -143,11 +135,10 @@ loop-again c =
     let at163 = c .at163 in
     let loop = c .before .before .before .before .loop in
     let loop-test = c .before .before .before .loop-test in
-    let at16 = c .before .before .before .before .before .before .at16 in
     let block : index-at.result % 4096 * 41 + at163.result ≤ 233430 = omega (arith, at163.ensures.1) in
-    let place : 97 * loop.i + 11 ≤ 6356906 = omega (arith, loop-test.taken, at16.ensures.1) in
-    let most : (index-at.result % 4096 * 41 + at163.result) * (97 * loop.i + 11) ≤ 233430 * 6356906 = mul-le-mul block place in
-    (omega (arith, loop-test.taken), omega (arith, most, loop.inv.1))
+    let place : loop.factor ≤ 4092 = omega (arith, loop.inv.1) in
+    let most : (index-at.result % 4096 * 41 + at163.result) * loop.factor ≤ 233430 * 4092 = mul-le-mul block place in
+    (omega (arith, loop-test.taken), omega arith, omega (arith, most, loop.inv.2))
 
 returns : tie.Need-returns Inv-loop μ-loop
 returns c = omega arith
@@ -177,8 +168,7 @@ sign-edge-spec =
     add-sum-2
     mul-sum-3
     add-sum-3
-    mul-sum-4
-    add-sum-4
+    mul-factor
     add-i
     loop-less
     loop-again
