@@ -50,13 +50,13 @@ divisor w = cond (eqb w 0) 1 w
 unfoldable pub shareOf : (weight whole : ℕ) → ℕ
 shareOf weight whole = (weight * 2147483648) / divisor whole
 
--- The fifth power modulo a prime.
-unfoldable pub fifth : ℕ → ℕ
-fifth t = (((t * t) % 2147483629 * ((t * t) % 2147483629)) % 2147483629 * t) % 2147483629
+-- The third power modulo a prime.
+unfoldable pub cube : ℕ → ℕ
+cube t = (t * t * t) % 2147483629
 
--- A block's number and a share, mixed.
+-- A block's number and a share, mixed: cut by one prime, and the third power by another.
 unfoldable pub mixed : (v share : ℕ) → ℕ
-mixed v share = fifth ((share + v * 524309 + 12345) % 2147483629)
+mixed v share = cube ((share + v * 524309 + 12345) % 2097143)
 
 -- No branch of edge e at x below branch i leads to the block of c.
 unfoldable pub isFirstInto : (list resets spots rows : List ℕ) → (c x e i : ℕ) → Bool

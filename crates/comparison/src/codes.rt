@@ -5,8 +5,8 @@ ghost use mathlib.Core.Path.{_≡_};
 ghost use mathlib.Core.Bool.{true, _&&_};
 ghost use lib.ListN.{length, getD};
 ghost use Rattle.comparison.specs.Held.{mostItems, mostEdges, countAt, isOpen, Opened};
-ghost use Rattle.comparison.specs.Compare.{Gathered, edgesAlike, someAnswers, edgesAnswered};
-ghost use Rattle.comparison.specs.Keys.{scatter, divisor, shareOf, fifth, mixed, isFirstInto, blockCode};
+ghost use Rattle.comparison.specs.Compare.{Gathered, edgesAlike, answers, someAnswers, edgesAnswered};
+ghost use Rattle.comparison.specs.Keys.{scatter, divisor, shareOf, cube, mixed, isFirstInto, blockCode};
 ghost use Rattle.comparison.specs.Keys.{landedBy, landed, joined, codeOf, Coded, ToldBy, Told, Found, Met};
 use crate::compare::edges_alike;
 use crate::compare::gather;
@@ -44,13 +44,11 @@ fn share_of(weight: u64, whole: usize) -> u64
     weight * 2147483648 / divisor_of(whole)
 }
 
-fn fifth_of(t: u64) -> u64
-    requires { ⌜ t < 2147483629 ⌝ }
-    ensures { λ r. ⌜ (r ≡ fifth t) × (r < 2147483629) ⌝ }
+fn cube_of(t: u64) -> u64
+    requires { ⌜ t < 2097143 ⌝ }
+    ensures { λ r. ⌜ (r ≡ cube t) × (r < 2147483629) ⌝ }
 {
-    let square = t * t % 2147483629;
-    let fourth = square * square % 2147483629;
-    fourth * t % 2147483629
+    t * t * t % 2147483629
 }
 
 // The number of a block and a share, mixed.
@@ -58,7 +56,7 @@ fn mix_of(v: usize, share: u64) -> u64
     requires { ⌜ (v < mostItems) × (share < 9223372036854775808) ⌝ }
     ensures { λ r. ⌜ (r ≡ mixed v share) × (r < 2147483629) ⌝ }
 {
-    fifth_of((share + (v as u64) * 524309 + 12345) % 2147483629)
+    cube_of((share + (v as u64) * 524309 + 12345) % 2097143)
 }
 
 // Does no branch of edge e at item x below branch i lead to the block with number v? The promise speaks of any c whose
@@ -229,8 +227,34 @@ fn is_answer(
     edges_alike(x, e, y, f, list, resets, spots, rows)
 }
 
+// Is edge e available at y too, and does it answer to itself at x? Nothing is said where the answer is no.
+fn is_own_answer(
+    x: usize,
+    e: usize,
+    y: usize,
+    code: u64,
+    list: &[u64],
+    flags: &[u8],
+    resets: &[u16],
+    spots: &[u16],
+    rows: &[u16],
+    codes: &[u64],
+) -> bool
+    requires { ⌜ (x < mostItems) × (e < mostEdges) × (y < mostItems) ⌝ }
+    ensures { λ r. ⌜ (r ≡ true → (n k : ℕ) → Opened n k (now (flags .entry)) → y < n → e < k
+        → answers (now (list .entry)) (now (flags .entry)) (now (resets .entry)) (now (spots .entry)) (now (rows .entry)) x e y e ≡ true) ⌝ }
+{
+    if at64(codes, e) != code {
+        return false;
+    }
+    if open_below(y, e + 1, flags) != e + 1 {
+        return false;
+    }
+    is_answer(x, e, y, e, list, resets, spots, rows)
+}
+
 // Looks for an edge at y that answers to edge e at x: the number after it, and 0 where there is none. Only edges with the code given
-// are compared with it.
+// are compared with it, and the same edge first.
 fn find_answer(
     k: usize,
     x: usize,
@@ -244,13 +268,16 @@ fn find_answer(
     rows: &[u16],
     codes: &[u64],
 ) -> usize
-    requires { ⌜ (k ≤ mostEdges) × (x < mostItems) × (e < mostEdges) × (y < mostItems) ⌝ }
+    requires { ⌜ (k ≤ mostEdges) × (x < mostItems) × (e < k) × (y < mostItems) ⌝ }
     ensures { λ r. ⌜ ((n : ℕ) → Opened n k (now (flags .entry)) → y < n
         → Coded k y (now (list .entry)) (now (flags .entry)) (now (resets .entry)) (now (spots .entry)) (now (rows .entry))
         (now (codes .entry))
         → ToldBy k (now (list .entry)) (now (flags .entry)) (now (resets .entry)) (now (spots .entry)) (now (rows .entry)) x e y code
         → Found k (now (list .entry)) (now (flags .entry)) (now (resets .entry)) (now (spots .entry)) (now (rows .entry)) x e y r) ⌝ }
 {
+    if is_own_answer(x, e, y, code, list, flags, resets, spots, rows, codes) {
+        return e + 1;
+    }
     let mut f = open_below(y, k, flags);
     while 0 < f {
         if at64(codes, f - 1) == code {
@@ -332,8 +359,8 @@ fn is_met(
     others: &[u64],
     met: &[u8],
 ) -> bool
-    requires { ⌜ (k ≤ mostEdges) × (x < mostItems) × (e < mostEdges) × (y < mostItems) ⌝ }
-    ensures { λ r. ⌜ ((n : ℕ) → Opened n k (now (flags .entry)) → x < n → y < n → e < k → isOpen (now (flags .entry)) x e ≡ true
+    requires { ⌜ (k ≤ mostEdges) × (x < mostItems) × (e < k) × (y < mostItems) ⌝ }
+    ensures { λ r. ⌜ ((n : ℕ) → Opened n k (now (flags .entry)) → x < n → y < n → isOpen (now (flags .entry)) x e ≡ true
         → Coded k x (now (list .entry)) (now (flags .entry)) (now (resets .entry)) (now (spots .entry))
         (now (rows .entry)) (now (ones .entry))
         → Coded k y (now (list .entry)) (now (flags .entry)) (now (resets .entry)) (now (spots .entry))

@@ -55,7 +55,7 @@ returns c =
     let ready = loop.inv.1 n opened hx hy one other told met .at loop-test.taken in
     sym (one-unanswered args.k args.list.now args.flags.now args.resets.now args.spots.now args.rows.now args.x args.y (loop.e - 1)
     below ready
-    (sym (is-met.ensures n opened hx hy below ready one other told met) ∙ not-true is-met.result if1.taken))
+    (sym (is-met.ensures n opened hx hy ready one other told met) ∙ not-true is-met.result if1.taken))
 
 sub-open-below : tie.Need-sub-open-below Inv-loop μ-loop
 sub-open-below c = search needs
@@ -81,7 +81,7 @@ loop-again c =
           let ready = down .at loop-test.taken in
           down-on (isOpen args.flags.now args.x) (HasAnswer args.k args.list.now args.flags.now args.resets.now args.spots.now
           args.rows.now args.x args.y) args.k loop.e open-below2.result loop-test.taken down
-          (sym (is-met.ensures n opened hx hy below ready one other told met) ∙ not-false is-met.result if1.left)
+          (sym (is-met.ensures n opened hx hy ready one other told met) ∙ not-false is-met.result if1.left)
           (open-below2.ensures.1 n args.k opened hx (omega (arith, loop.inv.0))),
     )
 
