@@ -42,6 +42,8 @@ pub fn all() -> Vec<Family> {
         family("thresholds", thresholds(40, 3)),
         family("positions", positions(60)),
         family("positions, two laps", positions_two_laps(60)),
+        family("doubles", doubles(60, 38)),
+        family("doubles, two laps", doubles_two_laps(60, 34)),
     ]
 }
 
@@ -661,6 +663,30 @@ fn positions(hubs: u8) -> Model {
 fn positions_two_laps(hubs: u8) -> Model {
     let guards = position_guards();
     with_two_laps(hubs, &grouped(&to_both_laps(hubs, guards.len() as u16), &guards))
+}
+
+/// Edges that all regions have, and among them, for each of these guards, a double of one of them with its branches in reverse order and its
+/// weights doubled: a region has it where the guard holds. So there are over a thousand sets of edges, and all regions are related, since
+/// edges answer to their doubles.
+fn with_doubles<'a>(all: &[Vec<Branch>], guards: &'a [[Guard; 2]]) -> Vec<(&'a [Guard], Vec<Vec<Branch>>)> {
+    let mut lists: Vec<(&[Guard], Vec<Vec<Branch>>)> = Vec::new();
+    for (place, [guard, _]) in guards.iter().enumerate() {
+        let double = all[place].iter().rev().map(|&(weight, target, mask)| (2 * weight, target, mask)).collect();
+        lists.push((std::slice::from_ref(guard), vec![double]));
+        let part = place * all.len() / guards.len()..(place + 1) * all.len() / guards.len();
+        lists.push((&[], all[part].to_vec()));
+    }
+    lists
+}
+
+/// The hub with doubles.
+fn doubles(hubs: u8, edges: u16) -> Model {
+    with_hubs(hubs, &with_doubles(&to_hubs(hubs, edges), &position_guards()))
+}
+
+/// The same with two laps.
+fn doubles_two_laps(hubs: u8, edges: u16) -> Model {
+    with_two_laps(hubs, &with_doubles(&to_both_laps(hubs, edges), &position_guards()))
 }
 
 /// Eight ends from location `first_end` on, and `edges` edges to them with equal shares, but no two with the same weights. The first one is

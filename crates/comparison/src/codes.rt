@@ -227,34 +227,8 @@ fn is_answer(
     edges_alike(x, e, y, f, list, resets, spots, rows)
 }
 
-// Is edge e available at y too, and does it answer to itself at x? Nothing is said where the answer is no.
-fn is_own_answer(
-    x: usize,
-    e: usize,
-    y: usize,
-    code: u64,
-    list: &[u64],
-    flags: &[u8],
-    resets: &[u16],
-    spots: &[u16],
-    rows: &[u16],
-    codes: &[u64],
-) -> bool
-    requires { ⌜ (x < mostItems) × (e < mostEdges) × (y < mostItems) ⌝ }
-    ensures { λ r. ⌜ (r ≡ true → (n k : ℕ) → Opened n k (now (flags .entry)) → y < n → e < k
-        → answers (now (list .entry)) (now (flags .entry)) (now (resets .entry)) (now (spots .entry)) (now (rows .entry)) x e y e ≡ true) ⌝ }
-{
-    if at64(codes, e) != code {
-        return false;
-    }
-    if open_below(y, e + 1, flags) != e + 1 {
-        return false;
-    }
-    is_answer(x, e, y, e, list, resets, spots, rows)
-}
-
 // Looks for an edge at y that answers to edge e at x: the number after it, and 0 where there is none. Only edges with the code given
-// are compared with it, and the same edge first.
+// are compared with it.
 fn find_answer(
     k: usize,
     x: usize,
@@ -275,9 +249,6 @@ fn find_answer(
         → ToldBy k (now (list .entry)) (now (flags .entry)) (now (resets .entry)) (now (spots .entry)) (now (rows .entry)) x e y code
         → Found k (now (list .entry)) (now (flags .entry)) (now (resets .entry)) (now (spots .entry)) (now (rows .entry)) x e y r) ⌝ }
 {
-    if is_own_answer(x, e, y, code, list, flags, resets, spots, rows, codes) {
-        return e + 1;
-    }
     let mut f = open_below(y, k, flags);
     while 0 < f {
         if at64(codes, f - 1) == code {
@@ -290,8 +261,58 @@ fn find_answer(
     0
 }
 
-// Has each edge available at x an answer at y? The codes at both are given, and the edges at y that are found to
-// answer are marked in `met`.
+// Is edge e available at y too, and paired with itself at x? Nothing is said where the answer is no.
+fn is_own_pair(
+    x: usize,
+    e: usize,
+    y: usize,
+    list: &[u64],
+    flags: &[u8],
+    resets: &[u16],
+    spots: &[u16],
+    rows: &[u16],
+) -> bool
+    requires { ⌜ (x < mostItems) × (e < mostEdges) × (y < mostItems) ⌝ }
+    ensures { λ r. ⌜ (r ≡ true → (n k : ℕ) → Opened n k (now (flags .entry)) → y < n → e < k
+        → answers (now (list .entry)) (now (flags .entry)) (now (resets .entry)) (now (spots .entry))
+        (now (rows .entry)) x e y e ≡ true) ⌝ }
+{
+    if open_below(y, e + 1, flags) != e + 1 {
+        return false;
+    }
+    is_paired(x, e, y, e, list, resets, spots, rows)
+}
+
+// The number after an edge at y that answers to edge e at x, and 0 where there is none. The same edge is tried first, for which no code is
+// needed.
+fn seek_answer(
+    k: usize,
+    x: usize,
+    e: usize,
+    y: usize,
+    list: &[u64],
+    flags: &[u8],
+    resets: &[u16],
+    spots: &[u16],
+    rows: &[u16],
+    codes: &[u64],
+) -> usize
+    requires { ⌜ (k ≤ mostEdges) × (x < mostItems) × (e < k) × (y < mostItems) ⌝ }
+    ensures { λ r. ⌜ ((n : ℕ) → Opened n k (now (flags .entry)) → y < n
+        → Coded k y (now (list .entry)) (now (flags .entry)) (now (resets .entry)) (now (spots .entry)) (now (rows .entry))
+        (now (codes .entry))
+        → ToldBy k (now (list .entry)) (now (flags .entry)) (now (resets .entry)) (now (spots .entry)) (now (rows .entry)) x e y (codeOf
+        (now (list .entry)) (now (resets .entry)) (now (spots .entry)) (now (rows .entry)) x e)
+        → Found k (now (list .entry)) (now (flags .entry)) (now (resets .entry)) (now (spots .entry)) (now (rows .entry)) x e y r) ⌝ }
+{
+    if is_own_pair(x, e, y, list, flags, resets, spots, rows) {
+        return e + 1;
+    }
+    let code = code_of(x, e, list, resets, spots, rows);
+    find_answer(k, x, e, y, code, list, flags, resets, spots, rows, codes)
+}
+
+// Has each edge available at x an answer at y? The codes at y are given, and the edges at y that are found to answer are marked in `met`.
 fn edges_match(
     k: usize,
     x: usize,
@@ -301,17 +322,14 @@ fn edges_match(
     resets: &[u16],
     spots: &[u16],
     rows: &[u16],
-    ones: &[u64],
-    others: &[u64],
+    codes: &[u64],
     met: &mut [u8],
 ) -> bool
     requires { ⌜ (k ≤ mostEdges) × (x < mostItems) × (y < mostItems) ⌝ }
     ensures { λ _. ⌜ length (now (met .exit)) ≡ length (now (met .entry)) ⌝ }
     ensures { λ r. ⌜ ((n : ℕ) → Opened n k (now (flags .entry)) → x < n → y < n
-        → Coded k x (now (list .entry)) (now (flags .entry)) (now (resets .entry)) (now (spots .entry))
-        (now (rows .entry)) (now (ones .entry))
-        → Coded k y (now (list .entry)) (now (flags .entry)) (now (resets .entry)) (now (spots .entry))
-        (now (rows .entry)) (now (others .entry))
+        → Coded k y (now (list .entry)) (now (flags .entry)) (now (resets .entry)) (now (spots .entry)) (now (rows .entry))
+        (now (codes .entry))
         → Told k (now (list .entry)) (now (flags .entry)) (now (resets .entry)) (now (spots .entry)) (now (rows .entry)) x y
         → Met k (now (list .entry)) (now (flags .entry)) (now (resets .entry)) (now (spots .entry)) (now (rows .entry)) y x
         (now (met .entry))
@@ -321,24 +339,27 @@ fn edges_match(
 {
     let mut e = open_below(x, k, flags);
     while 0 < e {
-        let code = at64(ones, e - 1);
-        let f = find_answer(
-            k,
-            x,
-            e - 1,
-            y,
-            code,
-            list,
-            flags,
-            resets,
-            spots,
-            rows,
-            others,
-        );
+        let f = seek_answer(k, x, e - 1, y, list, flags, resets, spots, rows, codes);
         if f == 0 {
             return false;
         }
         set_mark(f - 1, met);
+        e = open_below(x, e - 1, flags);
+    }
+    true
+}
+
+// Are all edges that are available at x marked? Nothing is said where the answer is no.
+fn are_all_met(k: usize, x: usize, flags: &[u8], met: &[u8]) -> bool
+    requires { ⌜ (k ≤ mostEdges) × (x < mostItems) ⌝ }
+    ensures { λ r. ⌜ (r ≡ true → (n : ℕ) → Opened n k (now (flags .entry)) → x < n
+        → (e : ℕ) → e < k → isOpen (now (flags .entry)) x e ≡ true → getD (now (met .entry)) e 0 ≡ 1) ⌝ }
+{
+    let mut e = open_below(x, k, flags);
+    while 0 < e {
+        if !is_set(met, e - 1) {
+            return false;
+        }
         e = open_below(x, e - 1, flags);
     }
     true
@@ -448,24 +469,15 @@ pub(crate) fn edges_agree(
         → r ≡ (edgesAnswered k (now (list .entry)) (now (flags .entry)) (now (resets .entry)) (now (spots .entry)) (now (rows .entry)) x y
         && edgesAnswered k (now (list .entry)) (now (flags .entry)) (now (resets .entry)) (now (spots .entry)) (now (rows .entry)) y x)) ⌝ }
 {
-    let mut ones = [0u64; 128];
     let mut met = [0u8; 128];
-    list_codes(k, x, list, flags, resets, spots, rows, &mut ones);
-    if !edges_match(
-        k,
-        x,
-        y,
-        list,
-        flags,
-        resets,
-        spots,
-        rows,
-        &ones,
-        others,
-        &mut met,
-    ) {
+    if !edges_match(k, x, y, list, flags, resets, spots, rows, others, &mut met) {
         return false;
     }
+    if are_all_met(k, y, flags, &met) {
+        return true;
+    }
+    let mut ones = [0u64; 128];
+    list_codes(k, x, list, flags, resets, spots, rows, &mut ones);
     rest_match(
         k,
         y,

@@ -8,7 +8,6 @@ use Rattle.comparison.specs.Keys.{Coded, ToldBy}
 use Rattle.comparison.specs.Laws.Compare.{answers-on}
 use Rattle.comparison.specs.Laws.Down.{Down, down-first, down-on, down-over}
 use Rattle.comparison.specs.Laws.Codes.{NoAnswer, other-code, none-answers}
-use native.Mathlib.Numerals.{add-one}
 use borrow.Author.Needs.{needs}
 use Rattle.comparison.proofs.codes.find_answer.Statement.{statement}
 use Rattle.comparison.proofs.codes.find_answer.Tie as tie
@@ -21,29 +20,13 @@ Inv-loop k x e y code list flags resets spots rows codes f₀ f =
 abbrev μ-loop : tie.MeasureT-loop
 μ-loop k x e y code list flags resets spots rows codes f₀ f = f
 
-is-own-answer-requires : tie.Need-is-own-answer-requires Inv-loop μ-loop
-is-own-answer-requires c κs =
-    let pre = c .before .before .before .before .before .before .pre in
-    (pre.1, omega (arith, pre.0, pre.2), pre.3)
-
-add-result : tie.Need-add-result Inv-loop μ-loop
-add-result c = search needs
-
-returns : tie.Need-returns Inv-loop μ-loop
-returns c =
-    let args = c .before .before .before .before .before .before .before .before .args in
-    let pre = c .before .before .before .before .before .before .before .before .pre in
-    let is-own-answer = c .before .is-own-answer in
-    let if1 = c .if1 in
-    λ n opened hy coded told. inr (args.e, add-one args.e, pre.2, is-own-answer.ensures if1.taken n args.k opened hy pre.2)
-
 open-below-requires : tie.Need-open-below-requires Inv-loop μ-loop
 open-below-requires c κs = search needs
 
 loop-holds : tie.Need-loop-holds Inv-loop μ-loop
 loop-holds c =
     let open-below = c .open-below in
-    let args = c .before .before .before .before .before .before .before .before .before .args in (
+    let args = c .before .before .before .before .before .before .before .args in (
       open-below.ensures.0,
       λ n opened hy coded told. down-first (isOpen args.flags.now args.y) (NoAnswer args.list.now args.flags.now
           args.resets.now args.spots.now args.rows.now args.x args.e args.y) args.k open-below.result (open-below.ensures.1 n args.k opened
@@ -61,25 +44,24 @@ sub-is-answer c = search needs
 
 is-answer-requires : tie.Need-is-answer-requires Inv-loop μ-loop
 is-answer-requires c κs =
-    let pre = c .before .before .before .before .before .before .before .before .before .before .before .before .before .pre in
+    let pre = c .before .before .before .before .before .before .before .before .before .before .before .pre in
     let loop = c .before .before .before .loop in
     let loop-test = c .before .before .loop-test in
     (pre.1, omega (arith, pre.0, pre.2), pre.3, omega (arith, loop.inv.0, pre.0, loop-test.taken))
 
-returns-2 : tie.Need-returns-2 Inv-loop μ-loop
-returns-2 c =
+returns : tie.Need-returns Inv-loop μ-loop
+returns c =
     let loop = c .before .before .before .before .before .loop in
     let loop-test = c .before .before .before .before .loop-test in
-    let args = c .before .before .before .before .before .before .before .before .before .before .before .before .before .before
-    .before .args in
+    let args = c .before .before .before .before .before .before .before .before .before .before .before .before .before .args in
     let is-answer = c .before .is-answer in
-    let if3 = c .if3 in
+    let if2 = c .if2 in
     λ n opened hy coded told. inr (
       loop.f - 1,
       omega (arith, loop-test.taken),
       omega (arith, loop.inv.0, loop-test.taken),
       answers-on args.list.now args.flags.now args.resets.now args.spots.now args.rows.now args.x args.e args.y (loop.f - 1) (loop.inv.1
-          n opened hy coded told .at loop-test.taken) ∙ sym is-answer.ensures ∙ if3.taken,
+          n opened hy coded told .at loop-test.taken) ∙ sym is-answer.ensures ∙ if2.taken,
     )
 
 sub-open-below : tie.Need-sub-open-below Inv-loop μ-loop
@@ -96,9 +78,9 @@ loop-again c =
     let open-below2 = c .open-below2 in
     let loop = c .before .before .before .before .loop in
     let loop-test = c .before .before .before .loop-test in
-    let args = c .before .before .before .before .before .before .before .before .before .before .before .before .before .before .args in
+    let args = c .before .before .before .before .before .before .before .before .before .before .before .before .args in
     let at64 = c .before .before .at64 in
-    let if2 = c .before .if2 in (
+    let if1 = c .before .if1 in (
       omega (arith, open-below2.ensures.0, loop.inv.0),
       λ n opened hy coded told.
           let down = loop.inv.1 n opened hy coded told in
@@ -109,13 +91,13 @@ loop-again c =
           1) ready ∙ sym (w .1 .ensures) ∙ w .2 .left)
           (λ w. other-code args.k args.list.now args.flags.now args.resets.now args.spots.now args.rows.now args.x args.e args.y args.code
           args.codes.now coded told (loop.f - 1) (omega (arith, loop.inv.0, loop-test.taken)) ready (λ s. w .left (at64.ensures ∙ s)))
-          if2.came)
+          if1.came)
           (open-below2.ensures.1 n args.k opened hy (omega (arith, loop.inv.0))),
     )
 
-returns-3 : tie.Need-returns-3 Inv-loop μ-loop
-returns-3 c =
-    let args = c .before .before .before .before .before .before .before .before .before .before .before .args in
+returns-2 : tie.Need-returns-2 Inv-loop μ-loop
+returns-2 c =
+    let args = c .before .before .before .before .before .before .before .before .before .args in
     let loop = c .before .loop in
     let loop-test = c .loop-test in
     λ n opened hy coded told. inl (
@@ -132,18 +114,15 @@ find-answer-spec =
     (tie.spec
     Inv-loop
     μ-loop
-    is-own-answer-requires
-    add-result
-    returns
     open-below-requires
     loop-holds
     sub-at64
     at64-requires
     sub-is-answer
     is-answer-requires
-    returns-2
+    returns
     sub-open-below
     open-below-requires-2
     loop-less
     loop-again
-    returns-3)
+    returns-2)
