@@ -623,14 +623,18 @@ fn many_orders(hubs: u8) -> Model {
     model
 }
 
-/// Edges in as many groups as there are guards in a list. Where the guard holds, a group's edges stand in one order; where its opposite
+/// A list of branches in reverse order, with weights doubled.
+fn doubled(branches: &[Branch]) -> Vec<Branch> {
+    branches.iter().rev().map(|&(weight, target, mask)| (2 * weight, target, mask)).collect()
+}
+
+/// Edges in as many groups as there are pairs of guards in a list. Where the guard holds, a group's edges stand in one order; where its opposite
 /// does, in the reverse order, with branches in reverse order and weights doubled.
 fn grouped<'a>(all: &[Vec<Branch>], guards: &'a [[Guard; 2]]) -> Vec<(&'a [Guard], Vec<Vec<Branch>>)> {
     let mut lists: Vec<(&[Guard], Vec<Vec<Branch>>)> = Vec::new();
     for (group, [one, opposite]) in all.chunks(all.len() / guards.len()).zip(guards) {
-        let doubled = |branches: &Vec<Branch>| branches.iter().rev().map(|&(weight, target, mask)| (2 * weight, target, mask)).collect();
         lists.push((std::slice::from_ref(one), group.to_vec()));
-        lists.push((std::slice::from_ref(opposite), group.iter().rev().map(doubled).collect()));
+        lists.push((std::slice::from_ref(opposite), group.iter().rev().map(|branches| doubled(branches)).collect()));
     }
     lists
 }
@@ -653,7 +657,7 @@ fn position_guards() -> Vec<[Guard; 2]> {
     clock_values().flat_map(pairs).collect()
 }
 
-/// An edge for each of these guards.
+/// A group of one edge for each of these pairs.
 fn positions(hubs: u8) -> Model {
     let guards = position_guards();
     with_hubs(hubs, &grouped(&to_hubs(hubs, guards.len() as u16), &guards))
@@ -665,21 +669,20 @@ fn positions_two_laps(hubs: u8) -> Model {
     with_two_laps(hubs, &grouped(&to_both_laps(hubs, guards.len() as u16), &guards))
 }
 
-/// Edges that all regions have, and among them, for each of these guards, a double of one of them with its branches in reverse order and its
-/// weights doubled: a region has it where the guard holds. So there are over a thousand sets of edges, and all regions are related, since
-/// edges answer to their doubles.
+/// Edges that all regions have, and between them, for each pair of guards, a double of one of them: a region has it where the first guard
+/// holds, or in every second pair the other one. Regions with different doubles are related, since an edge answers to its double. There are
+/// at least as many edges as guards.
 fn with_doubles<'a>(all: &[Vec<Branch>], guards: &'a [[Guard; 2]]) -> Vec<(&'a [Guard], Vec<Vec<Branch>>)> {
     let mut lists: Vec<(&[Guard], Vec<Vec<Branch>>)> = Vec::new();
-    for (place, [guard, _]) in guards.iter().enumerate() {
-        let double = all[place].iter().rev().map(|&(weight, target, mask)| (2 * weight, target, mask)).collect();
-        lists.push((std::slice::from_ref(guard), vec![double]));
+    for (place, pair) in guards.iter().enumerate() {
+        lists.push((std::slice::from_ref(&pair[place % 2]), vec![doubled(&all[place])]));
         let part = place * all.len() / guards.len()..(place + 1) * all.len() / guards.len();
         lists.push((&[], all[part].to_vec()));
     }
     lists
 }
 
-/// The hub with doubles.
+/// The hub with doubles: over a thousand sets of edges.
 fn doubles(hubs: u8, edges: u16) -> Model {
     with_hubs(hubs, &with_doubles(&to_hubs(hubs, edges), &position_guards()))
 }

@@ -50,13 +50,13 @@ divisor w = cond (eqb w 0) 1 w
 unfoldable pub shareOf : (weight whole : ℕ) → ℕ
 shareOf weight whole = (weight * 2147483648) / divisor whole
 
--- The third power modulo a prime.
+-- The third power modulo a prime. No two numbers below it have the same, since it is not 1 modulo 3.
 unfoldable pub cube : ℕ → ℕ
-cube t = (t * t * t) % 2147483629
+cube t = ((t * t) % 2147483579 * t) % 2147483579
 
--- A block's number and a share, mixed: cut by one prime, and the third power by another.
+-- A block's number and a share, mixed: in no linear way, so that a change of shares seldom makes up for a change of blocks.
 unfoldable pub mixed : (v share : ℕ) → ℕ
-mixed v share = cube ((share + v * 524309 + 12345) % 2097143)
+mixed v share = cube ((share + v * (v * 131 + 524309) + 12345) % 2147483579)
 
 -- No branch of edge e at x below branch i leads to the block of c.
 unfoldable pub isFirstInto : (list resets spots rows : List ℕ) → (c x e i : ℕ) → Bool

@@ -45,10 +45,11 @@ fn share_of(weight: u64, whole: usize) -> u64
 }
 
 fn cube_of(t: u64) -> u64
-    requires { ⌜ t < 2097143 ⌝ }
-    ensures { λ r. ⌜ (r ≡ cube t) × (r < 2147483629) ⌝ }
+    requires { ⌜ t < 2147483579 ⌝ }
+    ensures { λ r. ⌜ (r ≡ cube t) × (r < 2147483579) ⌝ }
 {
-    t * t * t % 2147483629
+    let square = t * t % 2147483579;
+    square * t % 2147483579
 }
 
 // The number of a block and a share, mixed.
@@ -56,7 +57,8 @@ fn mix_of(v: usize, share: u64) -> u64
     requires { ⌜ (v < mostItems) × (share < 9223372036854775808) ⌝ }
     ensures { λ r. ⌜ (r ≡ mixed v share) × (r < 2147483629) ⌝ }
 {
-    cube_of((share + (v as u64) * 524309 + 12345) % 2097143)
+    let w = v as u64;
+    cube_of((share + w * (w * 131 + 524309) + 12345) % 2147483579)
 }
 
 // Does no branch of edge e at item x below branch i lead to the block with number v? The promise speaks of any c whose

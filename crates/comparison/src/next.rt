@@ -8,7 +8,7 @@ ghost use Rattle.bisimulation.specs.Structures.{Closed};
 ghost use Rattle.bisimulation.specs.Finite.{Finite, structure, related, next};
 ghost use Rattle.comparison.specs.Held.{mostItems, mostEdges, Held, Onward};
 ghost use Rattle.comparison.specs.Compare.{Below, delaysAnswered};
-ghost use Rattle.comparison.specs.Keys.{keyOf, Coded, Known, AskedFor, Keyed, BothAsked};
+ghost use Rattle.comparison.specs.Keys.{keyOf, Known, AskedFor, Keyed, BothAsked};
 use crate::codes::edges_agree;
 use crate::codes::list_codes;
 use crate::compare::are_items;
@@ -130,8 +130,8 @@ fn is_newly_keyed_next(
 
 // Is item y related to item x in the next round? Where the key of y is not known, the two may be plainly alike; else different keys say
 // that it is not. Only the keys of x and y may become known, and a key that is known stays. Numbers that are not below n are never related,
-// and no key becomes known then. Which of the two become known else, and both the key and the answer where nothing is held, are choices of
-// the code.
+// and no key becomes known then. Which of the two become known otherwise, and both the key and the answer where the slices hold no closed
+// structure, a name is 4,096 or more or a key that stands there is wrong, are choices of the code.
 pub fn is_keyed_next(
     n: usize,
     k: usize,

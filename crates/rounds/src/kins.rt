@@ -23,7 +23,7 @@ const SIGN_PRIME: usize = 4093;
 const SIGN_BASE: usize = 37;
 
 // Takes an edge of item x into a sign: its action, and the weight and the block of each of its branches. Each branch counts by its place,
-// so that another order gives another sign.
+// so that another order gives another sign as a rule.
 fn sign_edge(
     x: usize,
     e: usize,

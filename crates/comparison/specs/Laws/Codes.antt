@@ -163,14 +163,14 @@ module _ (k : ℕ) (list flags resets spots rows : List ℕ) where
 -- ---- The next round: first this round and the delays of both, then the edges of both
 
 module _ (n k : ℕ) (list nexts flags resets spots rows : List ℕ) (x y : ℕ) where
-  abbrev delaysBoth : Bool
-  delaysBoth = related list x y && (delaysAnswered n list nexts x y && delaysAnswered n list nexts y x)
+  abbrev firstBoth : Bool
+  firstBoth = related list x y && (delaysAnswered n list nexts x y && delaysAnswered n list nexts y x)
 
   abbrev edgesBoth : Bool
   edgesBoth = edgesAnswered k list flags resets spots rows x y && edgesAnswered k list flags resets spots rows y x
 
   -- Both conditions both ways, sorted otherwise.
-  next-sorted : nextIn n k list nexts flags resets spots rows x y ≡ (delaysBoth && edgesBoth)
+  next-sorted : nextIn n k list nexts flags resets spots rows x y ≡ (firstBoth && edgesBoth)
   unfolding nextIn answered
   next-sorted =
       sort (related list x y) (delaysAnswered n list nexts x y) (edgesAnswered k list flags resets spots rows x y)
@@ -183,8 +183,8 @@ module _ (n k : ℕ) (list nexts flags resets spots rows : List ℕ) (x y : ℕ)
       sort true true false false d = refl
       sort true false b c d = refl
 
-  pub next-fails : delaysBoth ≡ false → nextIn n k list nexts flags resets spots rows x y ≡ false
+  pub next-fails : firstBoth ≡ false → nextIn n k list nexts flags resets spots rows x y ≡ false
   next-fails none = next-sorted ∙ ap (λ (b : Bool). b && edgesBoth) none
 
-  pub next-edges : delaysBoth ≡ true → nextIn n k list nexts flags resets spots rows x y ≡ edgesBoth
+  pub next-edges : firstBoth ≡ true → nextIn n k list nexts flags resets spots rows x y ≡ edgesBoth
   next-edges all = next-sorted ∙ ap (λ (b : Bool). b && edgesBoth) all

@@ -64,11 +64,8 @@ pub scatter-outer : (v : ℕ) → v < mostItems → (v + 77) * ((v + 1003) * (v 
 scatter-outer v h =
     mul-le-mul {n₁ = v + 77} {m₁ = (v + 1003) * (v + 2001)} {n₂ = 4172} {m₂ = 31077408} (omega arith) (scatter-inner v h)
 
-pub cube-inner : (t : ℕ) → t < 2097143 → t * t ≤ 4398004568164
-cube-inner t h = mul-le-mul {n₁ = t} {m₁ = t} {n₂ = 2097142} {m₂ = 2097142} (omega arith) (omega arith)
-
-pub cube-outer : (t : ℕ) → t < 2097143 → t * t * t ≤ 9223240096088587288
-cube-outer t h = mul-le-mul {n₁ = t * t} {m₁ = t} {n₂ = 4398004568164} {m₂ = 2097142} (cube-inner t h) (omega arith)
+pub mix-inner : (v : ℕ) → v < mostItems → v * (v * 131 + 524309) ≤ 4343787630
+mix-inner v h = mul-le-mul {n₁ = v} {m₁ = v * 131 + 524309} {n₂ = 4095} {m₂ = 1060754} (omega arith) (omega arith)
 
 pub product-small : (a b : ℕ) → a < 2147483629 → b < 2147483629 → a * b ≤ 4611685932528042384
 product-small a b h k = mul-le-mul {n₁ = a} {m₁ = b} {n₂ = 2147483628} {m₂ = 2147483628} (omega arith) (omega arith)
