@@ -6,10 +6,10 @@ use mathlib.Core.Bool.{Bool, true, false, cond, not, _&&_}
 use mathlib.Core.List.{List}
 use mathlib.Core.Logic.{_⊎_}
 use lib.Dec.{eqb}
-use lib.ListN.{getD, set}
+use lib.ListN.{length, getD, set}
 use Rattle.bisimulation.specs.Structures.{Closed}
 use Rattle.bisimulation.specs.Finite.{Finite, structure, related, someBelow, anyOf}
-use Rattle.comparison.specs.Held.{mostItems, chain, actionAt, wholeAt, countAt, targetAt}
+use Rattle.comparison.specs.Held.{mostItems, mostEdges, chain, actionAt, wholeAt, countAt, targetAt}
 use Rattle.comparison.specs.Held.{Held, isOpen}
 use Rattle.comparison.specs.Compare.{Below, weighed, answers, someAnswers}
 
@@ -127,6 +127,10 @@ abbrev pub Told : (k : ℕ) → (list flags resets spots rows : List ℕ) → (x
 Told k list flags resets spots rows x y =
     (e : ℕ) → e < k → isOpen flags x e ≡ true → ToldBy k list flags resets spots rows x e y (codeOf list resets spots rows x e)
 
+-- Each edge that is marked answers at y to itself at x.
+abbrev pub Own : (k : ℕ) → (list flags resets spots rows : List ℕ) → (x y : ℕ) → (own : List ℕ) → Type 0
+Own k list flags resets spots rows x y own = (e : ℕ) → e < k → getD own e 0 ≡ 1 → answers list flags resets spots rows x e y e ≡ true
+
 -- What a search tells: 0 where no edge at y answers to edge e at x, and else the number after one that does.
 abbrev pub Found : (k : ℕ) → (list flags resets spots rows : List ℕ) → (x e y r : ℕ) → Type 0
 Found k list flags resets spots rows x e y r =
@@ -146,6 +150,17 @@ pub record Keyed (F : Finite) (n k : ℕ) (names keys labels nexts flags resets 
   pub closed : Closed (structure F)
   pub below : Below n names
   pub keyed : Known n k names keys nexts flags resets spots rows
+
+-- A shelf keeps the codes of one item's edges from comparison to comparison. After them stands the number after that item, and 0 where
+-- no codes are kept.
+abbrev pub Shelved : (k : ℕ) → (list flags resets spots rows shelf : List ℕ) → Type 0
+Shelved k list flags resets spots rows shelf =
+    (mostEdges < length shelf) × ((x : ℕ) → getD shelf mostEdges 0 ≡ suc x → Coded k x list flags resets spots rows shelf)
+
+-- The same with a shelf.
+pub record Equipped (F : Finite) (n k : ℕ) (names keys shelf labels nexts flags resets spots rows : List ℕ) : Type 0 where
+  pub keyed : Keyed F n k names keys labels nexts flags resets spots rows
+  pub shelved : Shelved k names flags resets spots rows shelf
 
 -- The keys of the items below n that are stirred are forgotten; all others stay.
 abbrev pub ForgottenAt : (keys keys′ stirred : List ℕ) → ℕ → Type 0

@@ -2,12 +2,12 @@
 // equal codes, so that an answer to an edge is looked for among the edges of its code alone.
 ghost use Prim.Native.Nat.{ℕ, _≤_, _<_};
 ghost use mathlib.Core.Path.{_≡_};
-ghost use mathlib.Core.Bool.{true, _&&_};
-ghost use lib.ListN.{length, getD};
+ghost use mathlib.Core.Bool.{true, cond, _&&_};
+ghost use lib.ListN.{length, getD, set};
 ghost use Rattle.comparison.specs.Held.{mostItems, mostEdges, countAt, isOpen, Opened};
 ghost use Rattle.comparison.specs.Compare.{Gathered, edgesAlike, answers, someAnswers, edgesAnswered};
 ghost use Rattle.comparison.specs.Keys.{scatter, divisor, shareOf, cube, mixed, isFirstInto, blockCode};
-ghost use Rattle.comparison.specs.Keys.{landedBy, landed, joined, codeOf, Coded, ToldBy, Told, Found, Met};
+ghost use Rattle.comparison.specs.Keys.{landedBy, landed, joined, codeOf, Coded, ToldBy, Told, Own, Found, Met, Shelved};
 use crate::compare::edges_alike;
 use crate::compare::gather;
 use crate::compare::number_at;
@@ -17,6 +17,7 @@ use crate::slices::at16;
 use crate::slices::at64;
 use crate::slices::is_set;
 use crate::slices::open_below;
+use crate::slices::put64;
 use crate::twins::is_paired;
 
 // What the number of a block is scattered to.
@@ -194,15 +195,15 @@ pub(crate) fn list_codes(
     rows: &[u16],
     codes: &mut [u64],
 )
-    requires { ⌜ (k ≤ mostEdges) × (x < mostItems) × (length (now codes) ≡ mostEdges) ⌝ }
-    ensures { λ _. ⌜ length (now (codes .exit)) ≡ mostEdges ⌝ }
-    ensures { λ _. ⌜ ((n : ℕ) → Opened n k (now (flags .entry)) → x < n → Coded k x (now (list .entry)) (now (flags .entry))
-        (now (resets .entry)) (now (spots .entry)) (now (rows .entry)) (now (codes .exit))) ⌝ }
+    requires { ⌜ (k ≤ mostEdges) × (x < mostItems) ⌝ }
+    ensures { λ _. ⌜ length (now (codes .exit)) ≡ length (now (codes .entry)) ⌝ }
+    ensures { λ _. ⌜ ((n : ℕ) → Opened n k (now (flags .entry)) → x < n → mostEdges ≤ length (now (codes .entry))
+        → Coded k x (now (list .entry)) (now (flags .entry)) (now (resets .entry)) (now (spots .entry)) (now (rows .entry))
+        (now (codes .exit))) ⌝ }
 {
     let mut e = open_below(x, k, flags);
     while 0 < e {
-        let code = code_of(x, e - 1, list, resets, spots, rows);
-        codes[e - 1] = code;
+        put64(e - 1, code_of(x, e - 1, list, resets, spots, rows), codes);
         e = open_below(x, e - 1, flags);
     }
 }
@@ -285,8 +286,109 @@ fn is_own_pair(
     is_paired(x, e, y, e, list, resets, spots, rows)
 }
 
-// The number after an edge at y that answers to edge e at x, and 0 where there is none. The same edge is tried first, for which no code is
-// needed.
+// The code of edge e at item y. Where the edge is paired with itself at an item whose codes are given, it is the code there.
+fn own_code(
+    paired: bool,
+    y: usize,
+    e: usize,
+    list: &[u64],
+    resets: &[u16],
+    spots: &[u16],
+    rows: &[u16],
+    ones: &[u64],
+) -> u64
+    requires { ⌜ (y < mostItems) × (e < mostEdges) ⌝ }
+    ensures { λ r. ⌜ ((paired ≡ true → getD (now (ones .entry)) e 0
+        ≡ codeOf (now (list .entry)) (now (resets .entry)) (now (spots .entry)) (now (rows .entry)) y e)
+        → r ≡ codeOf (now (list .entry)) (now (resets .entry)) (now (spots .entry)) (now (rows .entry)) y e) ⌝ }
+{
+    if paired {
+        return at64(ones, e);
+    }
+    code_of(y, e, list, resets, spots, rows)
+}
+
+// Sets a mark, or leaves it.
+fn mark_if(marked: bool, e: usize, marks: &mut [u8])
+    ensures { λ _. ⌜ length (now (marks .exit)) ≡ length (now (marks .entry)) ⌝ }
+    ensures { λ _. ⌜ now (marks .exit) ≡ cond marked (set (now (marks .entry)) e 1) (now (marks .entry)) ⌝ }
+{
+    if marked {
+        set_mark(e, marks);
+    }
+}
+
+// The codes of the edges that are available at y, where those at x are given. An edge that is paired with itself has the code that it has
+// at x, and is marked in `own`.
+pub(crate) fn borrow_codes(
+    k: usize,
+    x: usize,
+    y: usize,
+    list: &[u64],
+    flags: &[u8],
+    resets: &[u16],
+    spots: &[u16],
+    rows: &[u16],
+    ones: &[u64],
+    codes: &mut [u64],
+    own: &mut [u8],
+)
+    requires { ⌜ (k ≤ mostEdges) × (x < mostItems) × (y < mostItems) ⌝ }
+    ensures { λ _. ⌜ (length (now (codes .exit)) ≡ length (now (codes .entry))) × (length (now (own .exit)) ≡ length (now (own .entry))) ⌝ }
+    ensures { λ _. ⌜ ((n : ℕ) → Opened n k (now (flags .entry)) → x < n → y < n → mostEdges ≤ length (now (codes .entry))
+        → Coded k x (now (list .entry)) (now (flags .entry)) (now (resets .entry)) (now (spots .entry)) (now (rows .entry))
+        (now (ones .entry))
+        → Told k (now (list .entry)) (now (flags .entry)) (now (resets .entry)) (now (spots .entry)) (now (rows .entry)) y x
+        → Own k (now (list .entry)) (now (flags .entry)) (now (resets .entry)) (now (spots .entry)) (now (rows .entry)) x y
+        (now (own .entry))
+        → Coded k y (now (list .entry)) (now (flags .entry)) (now (resets .entry)) (now (spots .entry)) (now (rows .entry))
+        (now (codes .exit))
+        × Own k (now (list .entry)) (now (flags .entry)) (now (resets .entry)) (now (spots .entry)) (now (rows .entry)) x y
+        (now (own .exit))) ⌝ }
+{
+    let mut e = open_below(y, k, flags);
+    while 0 < e {
+        let paired = is_own_pair(y, e - 1, x, list, flags, resets, spots, rows);
+        put64(
+            e - 1,
+            own_code(paired, y, e - 1, list, resets, spots, rows, ones),
+            codes,
+        );
+        mark_if(paired, e - 1, own);
+        e = open_below(y, e - 1, flags);
+    }
+}
+
+// The codes of the edges that are available at x are put on the shelf, unless they are there.
+pub(crate) fn shelve(
+    k: usize,
+    x: usize,
+    list: &[u64],
+    flags: &[u8],
+    resets: &[u16],
+    spots: &[u16],
+    rows: &[u16],
+    shelf: &mut [u64],
+)
+    requires { ⌜ (k ≤ mostEdges) × (x < mostItems) ⌝ }
+    ensures { λ _. ⌜ length (now (shelf .exit)) ≡ length (now (shelf .entry)) ⌝ }
+    ensures { λ _. ⌜ ((n : ℕ) → Opened n k (now (flags .entry)) → x < n
+        → Shelved k (now (list .entry)) (now (flags .entry)) (now (resets .entry)) (now (spots .entry)) (now (rows .entry))
+        (now (shelf .entry))
+        → Shelved k (now (list .entry)) (now (flags .entry)) (now (resets .entry)) (now (spots .entry)) (now (rows .entry))
+        (now (shelf .exit))
+        × Coded k x (now (list .entry)) (now (flags .entry)) (now (resets .entry)) (now (spots .entry)) (now (rows .entry))
+        (now (shelf .exit))) ⌝ }
+{
+    let owner = (x as u64) + 1;
+    if at64(shelf, 128) == owner {
+        return;
+    }
+    list_codes(k, x, list, flags, resets, spots, rows, shelf);
+    put64(128, owner, shelf);
+}
+
+// The number after an edge at y that answers to edge e at x, and 0 where there is none: the same edge, where it is marked as its own pair.
 fn seek_answer(
     k: usize,
     x: usize,
@@ -297,24 +399,41 @@ fn seek_answer(
     resets: &[u16],
     spots: &[u16],
     rows: &[u16],
-    codes: &[u64],
+    ones: &[u64],
+    others: &[u64],
+    own: &[u8],
 ) -> usize
     requires { ⌜ (k ≤ mostEdges) × (x < mostItems) × (e < k) × (y < mostItems) ⌝ }
-    ensures { λ r. ⌜ ((n : ℕ) → Opened n k (now (flags .entry)) → y < n
+    ensures { λ r. ⌜ ((n : ℕ) → Opened n k (now (flags .entry)) → y < n → isOpen (now (flags .entry)) x e ≡ true
+        → Coded k x (now (list .entry)) (now (flags .entry)) (now (resets .entry)) (now (spots .entry)) (now (rows .entry))
+        (now (ones .entry))
         → Coded k y (now (list .entry)) (now (flags .entry)) (now (resets .entry)) (now (spots .entry)) (now (rows .entry))
-        (now (codes .entry))
-        → ToldBy k (now (list .entry)) (now (flags .entry)) (now (resets .entry)) (now (spots .entry)) (now (rows .entry)) x e y (codeOf
-        (now (list .entry)) (now (resets .entry)) (now (spots .entry)) (now (rows .entry)) x e)
+        (now (others .entry))
+        → Told k (now (list .entry)) (now (flags .entry)) (now (resets .entry)) (now (spots .entry)) (now (rows .entry)) x y
+        → Own k (now (list .entry)) (now (flags .entry)) (now (resets .entry)) (now (spots .entry)) (now (rows .entry)) x y
+        (now (own .entry))
         → Found k (now (list .entry)) (now (flags .entry)) (now (resets .entry)) (now (spots .entry)) (now (rows .entry)) x e y r) ⌝ }
 {
-    if is_own_pair(x, e, y, list, flags, resets, spots, rows) {
+    if is_set(own, e) {
         return e + 1;
     }
-    let code = code_of(x, e, list, resets, spots, rows);
-    find_answer(k, x, e, y, code, list, flags, resets, spots, rows, codes)
+    find_answer(
+        k,
+        x,
+        e,
+        y,
+        at64(ones, e),
+        list,
+        flags,
+        resets,
+        spots,
+        rows,
+        others,
+    )
 }
 
-// Has each edge available at x an answer at y? The codes at y are given, and the edges at y that are found to answer are marked in `met`.
+// Has each edge available at x an answer at y? The codes are given, and which edges are their own pairs. The edges at y that are found to
+// answer are marked in `met`.
 fn edges_match(
     k: usize,
     x: usize,
@@ -324,15 +443,21 @@ fn edges_match(
     resets: &[u16],
     spots: &[u16],
     rows: &[u16],
-    codes: &[u64],
+    ones: &[u64],
+    others: &[u64],
+    own: &[u8],
     met: &mut [u8],
 ) -> bool
     requires { ⌜ (k ≤ mostEdges) × (x < mostItems) × (y < mostItems) ⌝ }
     ensures { λ _. ⌜ length (now (met .exit)) ≡ length (now (met .entry)) ⌝ }
     ensures { λ r. ⌜ ((n : ℕ) → Opened n k (now (flags .entry)) → x < n → y < n
+        → Coded k x (now (list .entry)) (now (flags .entry)) (now (resets .entry)) (now (spots .entry)) (now (rows .entry))
+        (now (ones .entry))
         → Coded k y (now (list .entry)) (now (flags .entry)) (now (resets .entry)) (now (spots .entry)) (now (rows .entry))
-        (now (codes .entry))
+        (now (others .entry))
         → Told k (now (list .entry)) (now (flags .entry)) (now (resets .entry)) (now (spots .entry)) (now (rows .entry)) x y
+        → Own k (now (list .entry)) (now (flags .entry)) (now (resets .entry)) (now (spots .entry)) (now (rows .entry)) x y
+        (now (own .entry))
         → Met k (now (list .entry)) (now (flags .entry)) (now (resets .entry)) (now (spots .entry)) (now (rows .entry)) y x
         (now (met .entry))
         → (r ≡ edgesAnswered k (now (list .entry)) (now (flags .entry)) (now (resets .entry)) (now (spots .entry)) (now (rows .entry)) x y)
@@ -341,7 +466,20 @@ fn edges_match(
 {
     let mut e = open_below(x, k, flags);
     while 0 < e {
-        let f = seek_answer(k, x, e - 1, y, list, flags, resets, spots, rows, codes);
+        let f = seek_answer(
+            k,
+            x,
+            e - 1,
+            y,
+            list,
+            flags,
+            resets,
+            spots,
+            rows,
+            ones,
+            others,
+            own,
+        );
         if f == 0 {
             return false;
         }
@@ -450,7 +588,7 @@ fn rest_match(
     true
 }
 
-// Has each edge available at x an answer at y, and each one at y one at x? The codes at y are given.
+// Has each edge available at x an answer at y, and each one at y one at x? The codes are given, and which edges are their own pairs.
 pub(crate) fn edges_agree(
     k: usize,
     x: usize,
@@ -460,26 +598,43 @@ pub(crate) fn edges_agree(
     resets: &[u16],
     spots: &[u16],
     rows: &[u16],
+    ones: &[u64],
     others: &[u64],
+    own: &[u8],
 ) -> bool
     requires { ⌜ (k ≤ mostEdges) × (x < mostItems) × (y < mostItems) ⌝ }
     ensures { λ r. ⌜ ((n : ℕ) → Opened n k (now (flags .entry)) → x < n → y < n
+        → Coded k x (now (list .entry)) (now (flags .entry)) (now (resets .entry)) (now (spots .entry)) (now (rows .entry))
+        (now (ones .entry))
         → Coded k y (now (list .entry)) (now (flags .entry)) (now (resets .entry)) (now (spots .entry)) (now (rows .entry))
         (now (others .entry))
         → Told k (now (list .entry)) (now (flags .entry)) (now (resets .entry)) (now (spots .entry)) (now (rows .entry)) x y
         → Told k (now (list .entry)) (now (flags .entry)) (now (resets .entry)) (now (spots .entry)) (now (rows .entry)) y x
+        → Own k (now (list .entry)) (now (flags .entry)) (now (resets .entry)) (now (spots .entry)) (now (rows .entry)) x y
+        (now (own .entry))
         → r ≡ (edgesAnswered k (now (list .entry)) (now (flags .entry)) (now (resets .entry)) (now (spots .entry)) (now (rows .entry)) x y
         && edgesAnswered k (now (list .entry)) (now (flags .entry)) (now (resets .entry)) (now (spots .entry)) (now (rows .entry)) y x)) ⌝ }
 {
     let mut met = [0u8; 128];
-    if !edges_match(k, x, y, list, flags, resets, spots, rows, others, &mut met) {
+    if !edges_match(
+        k,
+        x,
+        y,
+        list,
+        flags,
+        resets,
+        spots,
+        rows,
+        ones,
+        others,
+        own,
+        &mut met,
+    ) {
         return false;
     }
     if are_all_met(k, y, flags, &met) {
         return true;
     }
-    let mut ones = [0u64; 128];
-    list_codes(k, x, list, flags, resets, spots, rows, &mut ones);
     rest_match(
         k,
         y,
@@ -490,7 +645,7 @@ pub(crate) fn edges_agree(
         spots,
         rows,
         others,
-        &ones,
+        ones,
         &met,
     )
 }

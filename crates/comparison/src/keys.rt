@@ -8,11 +8,12 @@ ghost use lib.Dec.{eqb};
 ghost use lib.ListN.{length, getD, set};
 ghost use Rattle.bisimulation.specs.Finite.{someBelow};
 ghost use Rattle.comparison.specs.Held.{mostItems, mostEdges, Opened};
-ghost use Rattle.comparison.specs.Keys.{scatter, delayRoom, delayMark, delayKey, edgeKey, keyOf, Known, Coded};
+ghost use Rattle.comparison.specs.Keys.{scatter, delayRoom, delayMark, delayKey, edgeKey, keyOf, Known, Coded, Told, Own, Shelved};
 ghost use Rattle.comparison.specs.Keys.{AskedFor, Forgotten, keysAfter};
 ghost use Rattle.comparison.specs.Laws.KeyLoops.{Clear, hasCode};
-use crate::codes::list_codes;
+use crate::codes::borrow_codes;
 use crate::codes::scatter_of;
+use crate::codes::shelve;
 use crate::slices::at16;
 use crate::slices::at64;
 use crate::slices::is_clear;
@@ -142,34 +143,6 @@ fn key_by(
     edges * 65536 + delays_key(n, x, list, nexts) + 1
 }
 
-// The key of item x is computed and stored; the codes of its edges are left in `codes`.
-pub(crate) fn coded_key(
-    n: usize,
-    k: usize,
-    x: usize,
-    names: &[u64],
-    nexts: &[u16],
-    flags: &[u8],
-    resets: &[u16],
-    spots: &[u16],
-    rows: &[u16],
-    keys: &mut [u64],
-    codes: &mut [u64],
-) -> u64
-    requires { ⌜ (k ≤ mostEdges) × (x < mostItems) × (length (now codes) ≡ mostEdges) ⌝ }
-    ensures { λ r. ⌜ (now (keys .exit) ≡ set (now (keys .entry)) x r) × (length (now (codes .exit)) ≡ mostEdges) ⌝ }
-    ensures { λ r. ⌜ (Opened n k (now (flags .entry)) → x < n
-        → (r ≡ keyOf n k (now (names .entry)) (now (nexts .entry)) (now (flags .entry)) (now (resets .entry)) (now (spots .entry))
-        (now (rows .entry)) x)
-        × Coded k x (now (names .entry)) (now (flags .entry)) (now (resets .entry)) (now (spots .entry)) (now (rows .entry))
-        (now (codes .exit))) ⌝ }
-{
-    list_codes(k, x, names, flags, resets, spots, rows, codes);
-    let key = key_by(n, k, x, names, nexts, flags, codes);
-    put64(x, key, keys);
-    key
-}
-
 // The key of item x, which is stored where it was not known.
 pub(crate) fn known_key(
     n: usize,
@@ -182,36 +155,89 @@ pub(crate) fn known_key(
     spots: &[u16],
     rows: &[u16],
     keys: &mut [u64],
+    shelf: &mut [u64],
 ) -> u64
     requires { ⌜ (k ≤ mostEdges) × (x < mostItems) ⌝ }
-    ensures { λ _. ⌜ length (now (keys .exit)) ≡ length (now (keys .entry)) ⌝ }
+    ensures { λ _. ⌜ (length (now (keys .exit)) ≡ length (now (keys .entry)))
+        × (length (now (shelf .exit)) ≡ length (now (shelf .entry))) ⌝ }
     ensures { λ r. ⌜ (Opened n k (now (flags .entry)) → x < n
         → Known n k (now (names .entry)) (now (keys .entry)) (now (nexts .entry)) (now (flags .entry))
         (now (resets .entry)) (now (spots .entry)) (now (rows .entry))
+        → Shelved k (now (names .entry)) (now (flags .entry)) (now (resets .entry)) (now (spots .entry)) (now (rows .entry))
+        (now (shelf .entry))
         → (r ≡ keyOf n k (now (names .entry)) (now (nexts .entry)) (now (flags .entry)) (now (resets .entry)) (now (spots .entry))
         (now (rows .entry)) x)
         × Known n k (now (names .entry)) (now (keys .exit)) (now (nexts .entry)) (now (flags .entry))
-        (now (resets .entry)) (now (spots .entry)) (now (rows .entry))) ⌝ }
+        (now (resets .entry)) (now (spots .entry)) (now (rows .entry))
+        × Shelved k (now (names .entry)) (now (flags .entry)) (now (resets .entry)) (now (spots .entry)) (now (rows .entry))
+        (now (shelf .exit))) ⌝ }
     ensures { λ _. ⌜ AskedFor x (now (keys .entry)) (now (keys .exit)) ⌝ }
 {
     let old = at64(keys, x);
     if old != 0 {
         return old;
     }
-    let mut codes = [0u64; 128];
-    coded_key(
-        n,
+    shelve(k, x, names, flags, resets, spots, rows, shelf);
+    let key = key_by(n, k, x, names, nexts, flags, shelf);
+    put64(x, key, keys);
+    key
+}
+
+// The key of item y is computed and stored. The codes of the edges of x are put on the shelf; those of y are left in `codes`, and the edges
+// that are their own pairs are marked in `own`.
+pub(crate) fn coded_key(
+    n: usize,
+    k: usize,
+    x: usize,
+    y: usize,
+    names: &[u64],
+    nexts: &[u16],
+    flags: &[u8],
+    resets: &[u16],
+    spots: &[u16],
+    rows: &[u16],
+    keys: &mut [u64],
+    shelf: &mut [u64],
+    codes: &mut [u64],
+    own: &mut [u8],
+) -> u64
+    requires { ⌜ (k ≤ mostEdges) × (x < mostItems) × (y < mostItems) ⌝ }
+    ensures { λ r. ⌜ (now (keys .exit) ≡ set (now (keys .entry)) y r) × (length (now (shelf .exit)) ≡ length (now (shelf .entry)))
+        × (length (now (codes .exit)) ≡ length (now (codes .entry))) × (length (now (own .exit)) ≡ length (now (own .entry))) ⌝ }
+    ensures { λ r. ⌜ (Opened n k (now (flags .entry)) → x < n → y < n → mostEdges ≤ length (now (codes .entry))
+        → Shelved k (now (names .entry)) (now (flags .entry)) (now (resets .entry)) (now (spots .entry)) (now (rows .entry))
+        (now (shelf .entry))
+        → Told k (now (names .entry)) (now (flags .entry)) (now (resets .entry)) (now (spots .entry)) (now (rows .entry)) y x
+        → Own k (now (names .entry)) (now (flags .entry)) (now (resets .entry)) (now (spots .entry)) (now (rows .entry)) x y
+        (now (own .entry))
+        → (r ≡ keyOf n k (now (names .entry)) (now (nexts .entry)) (now (flags .entry)) (now (resets .entry)) (now (spots .entry))
+        (now (rows .entry)) y)
+        × Shelved k (now (names .entry)) (now (flags .entry)) (now (resets .entry)) (now (spots .entry)) (now (rows .entry))
+        (now (shelf .exit))
+        × Coded k x (now (names .entry)) (now (flags .entry)) (now (resets .entry)) (now (spots .entry)) (now (rows .entry))
+        (now (shelf .exit))
+        × Coded k y (now (names .entry)) (now (flags .entry)) (now (resets .entry)) (now (spots .entry)) (now (rows .entry))
+        (now (codes .exit))
+        × Own k (now (names .entry)) (now (flags .entry)) (now (resets .entry)) (now (spots .entry)) (now (rows .entry)) x y
+        (now (own .exit))) ⌝ }
+{
+    shelve(k, x, names, flags, resets, spots, rows, shelf);
+    borrow_codes(
         k,
         x,
+        y,
         names,
-        nexts,
         flags,
         resets,
         spots,
         rows,
-        keys,
-        &mut codes,
-    )
+        shelf,
+        codes,
+        own,
+    );
+    let key = key_by(n, k, y, names, nexts, flags, codes);
+    put64(y, key, keys);
+    key
 }
 
 // The key of item x is forgotten, where x is stirred.

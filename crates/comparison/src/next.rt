@@ -8,7 +8,8 @@ ghost use Rattle.bisimulation.specs.Structures.{Closed};
 ghost use Rattle.bisimulation.specs.Finite.{Finite, structure, related, next};
 ghost use Rattle.comparison.specs.Held.{mostItems, mostEdges, Held, Onward};
 ghost use Rattle.comparison.specs.Compare.{Below, delaysAnswered};
-ghost use Rattle.comparison.specs.Keys.{keyOf, Known, AskedFor, Keyed, BothAsked};
+ghost use Rattle.comparison.specs.Keys.{keyOf, AskedFor, Equipped, BothAsked};
+use crate::codes::borrow_codes;
 use crate::codes::edges_agree;
 use crate::codes::list_codes;
 use crate::compare::are_items;
@@ -75,12 +76,40 @@ pub fn is_next(
     if !may_be_next(n, x, y, list, nexts) {
         return false;
     }
-    let mut codes = [0u64; 128];
-    list_codes(k, y, list, flags, resets, spots, rows, &mut codes);
-    edges_agree(k, x, y, list, flags, resets, spots, rows, &codes)
+    let mut ones = [0u64; 128];
+    let mut others = [0u64; 128];
+    let mut own = [0u8; 128];
+    list_codes(k, x, list, flags, resets, spots, rows, &mut ones);
+    borrow_codes(
+        k,
+        x,
+        y,
+        list,
+        flags,
+        resets,
+        spots,
+        rows,
+        &ones,
+        &mut others,
+        &mut own,
+    );
+    edges_agree(
+        k,
+        x,
+        y,
+        list,
+        flags,
+        resets,
+        spots,
+        rows,
+        &ones,
+        &others,
+        &own,
+    )
 }
 
-// Is item y related to item x in the next round? `one` is the key of x; that of y is not known, and becomes known.
+// Is item y related to item x in the next round? `one` is the key of x; that of y is not known, and becomes known. The codes of x are on the
+// shelf afterwards.
 fn is_newly_keyed_next(
     n: usize,
     k: usize,
@@ -94,21 +123,25 @@ fn is_newly_keyed_next(
     spots: &[u16],
     rows: &[u16],
     keys: &mut [u64],
+    shelf: &mut [u64],
 ) -> bool
     requires { ⌜ (k ≤ mostEdges) × (x < mostItems) × (y < mostItems) ⌝ }
-    ensures { λ _. ⌜ length (now (keys .exit)) ≡ length (now (keys .entry)) ⌝ }
-    ensures { λ r. ⌜ ((F : Finite) (labels : List ℕ) → Keyed F n k (now (names .entry)) (now (keys .entry)) labels (now (nexts .entry))
-        (now (flags .entry)) (now (resets .entry)) (now (spots .entry)) (now (rows .entry)) → x < n → y < n
+    ensures { λ _. ⌜ (length (now (keys .exit)) ≡ length (now (keys .entry)))
+        × (length (now (shelf .exit)) ≡ length (now (shelf .entry))) ⌝ }
+    ensures { λ r. ⌜ ((F : Finite) (labels : List ℕ) → Equipped F n k (now (names .entry)) (now (keys .entry)) (now (shelf .entry)) labels
+        (now (nexts .entry)) (now (flags .entry)) (now (resets .entry)) (now (spots .entry)) (now (rows .entry)) → x < n → y < n
         → one ≡ keyOf n k (now (names .entry)) (now (nexts .entry)) (now (flags .entry)) (now (resets .entry)) (now (spots .entry))
         (now (rows .entry)) x → (r ≡ next F (now (names .entry)) x y)
-        × Known n k (now (names .entry)) (now (keys .exit)) (now (nexts .entry)) (now (flags .entry))
+        × Equipped F n k (now (names .entry)) (now (keys .exit)) (now (shelf .exit)) labels (now (nexts .entry)) (now (flags .entry))
         (now (resets .entry)) (now (spots .entry)) (now (rows .entry))) ⌝ }
     ensures { λ _. ⌜ (getD (now (keys .entry)) y 0 ≡ 0 → AskedFor y (now (keys .entry)) (now (keys .exit))) ⌝ }
 {
     let mut codes = [0u64; 128];
+    let mut own = [0u8; 128];
     let other = coded_key(
         n,
         k,
+        x,
         y,
         names,
         nexts,
@@ -117,7 +150,9 @@ fn is_newly_keyed_next(
         spots,
         rows,
         keys,
+        shelf,
         &mut codes,
+        &mut own,
     );
     if one != other {
         return false;
@@ -125,13 +160,27 @@ fn is_newly_keyed_next(
     if !may_be_next(n, x, y, names, nexts) {
         return false;
     }
-    edges_agree(k, x, y, names, flags, resets, spots, rows, &codes)
+    edges_agree(
+        k,
+        x,
+        y,
+        names,
+        flags,
+        resets,
+        spots,
+        rows,
+        shelf,
+        &codes,
+        &own,
+    )
 }
 
 // Is item y related to item x in the next round? Where the key of y is not known, the two may be plainly alike; else different keys say
-// that it is not. Only the keys of x and y may become known, and a key that is known stays. Numbers that are not below n are never related,
-// and no key becomes known then. Which of the two become known otherwise, and both the key and the answer where the slices hold no closed
-// structure, a name is 4,096 or more or a key that stands there is wrong, are choices of the code.
+// that it is not. Only the keys of x and y may become known, and a key that is known stays. The codes of x may be put on the shelf, so that
+// they are there when the next item is compared with x. Numbers that are not below n are never related, and no key becomes known then, nor
+// does the shelf change. Which of the two become known otherwise and whose codes are on the shelf, and keys, shelf and answer where the
+// slices hold no closed structure, a name is 4,096 or more, a key or a code that stands there is wrong or the shelf has no room for 129
+// numbers, are choices of the code.
 pub fn is_keyed_next(
     n: usize,
     k: usize,
@@ -145,16 +194,18 @@ pub fn is_keyed_next(
     spots: &[u16],
     rows: &[u16],
     keys: &mut [u64],
+    shelf: &mut [u64],
 ) -> bool
-    ensures { λ _. ⌜ length (now (keys .exit)) ≡ length (now (keys .entry)) ⌝ }
-    ensures { λ r. ⌜ ((F : Finite) → Keyed F n k (now (names .entry)) (now (keys .entry)) (now (labels .entry)) (now (nexts .entry))
-        (now (flags .entry)) (now (resets .entry)) (now (spots .entry)) (now (rows .entry))
+    ensures { λ _. ⌜ (length (now (keys .exit)) ≡ length (now (keys .entry)))
+        × (length (now (shelf .exit)) ≡ length (now (shelf .entry))) ⌝ }
+    ensures { λ r. ⌜ ((F : Finite) → Equipped F n k (now (names .entry)) (now (keys .entry)) (now (shelf .entry)) (now (labels .entry))
+        (now (nexts .entry)) (now (flags .entry)) (now (resets .entry)) (now (spots .entry)) (now (rows .entry))
         → x < n → y < n → (r ≡ next F (now (names .entry)) x y)
-        × Keyed F n k (now (names .entry)) (now (keys .exit)) (now (labels .entry)) (now (nexts .entry))
+        × Equipped F n k (now (names .entry)) (now (keys .exit)) (now (shelf .exit)) (now (labels .entry)) (now (nexts .entry))
         (now (flags .entry)) (now (resets .entry)) (now (spots .entry)) (now (rows .entry))) ⌝ }
     ensures { λ r. ⌜ BothAsked x y (now (keys .entry)) (now (keys .exit))
-        × (n ≤ x → (r ≡ false) × (now (keys .exit) ≡ now (keys .entry)))
-        × (n ≤ y → (r ≡ false) × (now (keys .exit) ≡ now (keys .entry))) ⌝ }
+        × (n ≤ x → (r ≡ false) × (now (keys .exit) ≡ now (keys .entry)) × (now (shelf .exit) ≡ now (shelf .entry)))
+        × (n ≤ y → (r ≡ false) × (now (keys .exit) ≡ now (keys .entry)) × (now (shelf .exit) ≡ now (shelf .entry))) ⌝ }
 {
     if !are_items(n, k, x, y) {
         return false;
@@ -164,7 +215,19 @@ pub fn is_keyed_next(
             return true;
         }
     }
-    let one = known_key(n, k, x, names, nexts, flags, resets, spots, rows, keys);
+    let one = known_key(
+        n,
+        k,
+        x,
+        names,
+        nexts,
+        flags,
+        resets,
+        spots,
+        rows,
+        keys,
+        shelf,
+    );
     let known = at64(keys, y);
     if known == 0 {
         return is_newly_keyed_next(
@@ -180,6 +243,7 @@ pub fn is_keyed_next(
             spots,
             rows,
             keys,
+            shelf,
         );
     }
     if one != known {

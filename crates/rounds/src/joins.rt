@@ -8,7 +8,7 @@ ghost use Rattle.bisimulation.specs.Laws.Leads.{Reps};
 ghost use Rattle.comparison.specs.Held.{mostItems};
 ghost use Rattle.rounds.specs.Changes.{Settled};
 ghost use Rattle.rounds.specs.Rounds.{Anchored, joinedBy, joinMark, MarkedTo, Step, Kins};
-ghost use Rattle.comparison.specs.Keys.{Keyed};
+ghost use Rattle.comparison.specs.Keys.{Keyed, Equipped};
 use crate::kins::find_kin;
 use crate::kins::put_kin;
 use crate::kins::sign_of;
@@ -74,23 +74,24 @@ fn is_joined(
     rows: &[u16],
     marks: &[u16],
     keys: &mut [u64],
+    shelf: &mut [u64],
     older: &mut [u16],
     kins: &mut [u16],
 ) -> bool
     requires { ⌜ x < 4096 ⌝ }
-    ensures { λ _. ⌜ (length (now (keys .exit)) ≡ length (now (keys .entry))) × (length (now (older .exit)) ≡ length (now (older .entry)))
-        × (length (now (kins .exit)) ≡ length (now (kins .entry))) ⌝ }
+    ensures { λ _. ⌜ (length (now (keys .exit)) ≡ length (now (keys .entry))) × (length (now (shelf .exit)) ≡ length (now (shelf .entry)))
+        × (length (now (older .exit)) ≡ length (now (older .entry))) × (length (now (kins .exit)) ≡ length (now (kins .entry))) ⌝ }
     ensures { λ _. ⌜ (Kins x (now (older .entry)) → Kins x (now (kins .entry))
         → Kins (x + 1) (now (older .exit)) × Kins (x + 1) (now (kins .exit))) ⌝ }
-    ensures { λ r. ⌜ ((F : Finite) → Keyed F n k (now (names .entry)) (now (keys .entry)) (now (labels .entry)) (now (nexts .entry))
-        (now (flags .entry)) (now (resets .entry)) (now (spots .entry)) (now (rows .entry))
+    ensures { λ r. ⌜ ((F : Finite) → Equipped F n k (now (names .entry)) (now (keys .entry)) (now (shelf .entry)) (now (labels .entry))
+        (now (nexts .entry)) (now (flags .entry)) (now (resets .entry)) (now (spots .entry)) (now (rows .entry))
         → Settled (next F (now (names .entry))) (related (now (old .entry))) n (now (stirred .entry))
         → Anchored n (now (old .entry)) (now (stirred .entry)) (now (anchors .entry))
         → Step (next F (now (names .entry))) n (now (old .entry))
         → MarkedTo x (next F (now (names .entry))) (now (anchors .entry)) (now (old .entry)) (now (marks .entry))
         → Kins x (now (older .entry)) → Kins x (now (kins .entry)) → x < n
         → (r ≡ joinedBy (next F (now (names .entry))) (now (anchors .entry)) (now (old .entry)) x)
-        × Keyed F n k (now (names .entry)) (now (keys .exit)) (now (labels .entry)) (now (nexts .entry))
+        × Equipped F n k (now (names .entry)) (now (keys .exit)) (now (shelf .exit)) (now (labels .entry)) (now (nexts .entry))
         (now (flags .entry)) (now (resets .entry)) (now (spots .entry)) (now (rows .entry))) ⌝ }
 {
     if is_clear(stirred, x) {
@@ -136,6 +137,7 @@ fn is_joined(
         spots,
         rows,
         keys,
+        shelf,
     );
     put_kin(x, sign, keys, older, kins);
     joins
@@ -180,6 +182,8 @@ pub(crate) fn fill_marks(
         × Keyed F n k (now (names .entry)) (now (keys .exit)) (now (labels .entry)) (now (nexts .entry))
         (now (flags .entry)) (now (resets .entry)) (now (spots .entry)) (now (rows .entry))) ⌝ }
 {
+    // The codes of the anchor compared with last, and the number after it.
+    let mut shelf = [0u64; 129];
     let mut older = [0u16; 4096];
     let mut kins = [0u16; 4096];
     let mut x = 0;
@@ -200,6 +204,7 @@ pub(crate) fn fill_marks(
             rows,
             marks,
             keys,
+            &mut shelf,
             &mut older,
             &mut kins,
         );

@@ -12,7 +12,7 @@ ghost use Rattle.comparison.specs.Compare.{Below};
 ghost use Rattle.rounds.specs.Names.{Tagged, Named, LeadersKept};
 ghost use Rattle.rounds.specs.Changes.{Classed, Settled};
 ghost use Rattle.rounds.specs.Rounds.{Led, Seen, labelRoom, leadBy, Step, Sorted, Chains, Searched};
-ghost use Rattle.comparison.specs.Keys.{Keyed};
+ghost use Rattle.comparison.specs.Keys.{Keyed, Equipped};
 ghost use Rattle.rounds.specs.Rounds.{Kins, LedByKin, NoRoom};
 ghost use Rattle.rounds.specs.Rounds.{Turned, Prepared, Followed, Rested};
 use crate::changes::is_classed;
@@ -104,15 +104,17 @@ fn find_lead(
     spots: &[u16],
     rows: &[u16],
     keys: &mut [u64],
+    shelf: &mut [u64],
 ) -> Search
-    ensures { λ _. ⌜ length (now (keys .exit)) ≡ length (now (keys .entry)) ⌝ }
-    ensures { λ r. ⌜ ((F : Finite) → Keyed F n k (now (names .entry)) (now (keys .entry)) (now (labels .entry)) (now (nexts .entry))
-        (now (flags .entry)) (now (resets .entry)) (now (spots .entry)) (now (rows .entry))
+    ensures { λ _. ⌜ (length (now (keys .exit)) ≡ length (now (keys .entry)))
+        × (length (now (shelf .exit)) ≡ length (now (shelf .entry))) ⌝ }
+    ensures { λ r. ⌜ ((F : Finite) → Equipped F n k (now (names .entry)) (now (keys .entry)) (now (shelf .entry)) (now (labels .entry))
+        (now (nexts .entry)) (now (flags .entry)) (now (resets .entry)) (now (spots .entry)) (now (rows .entry))
         → Step (next F (now (names .entry))) n (now (mid .entry))
         → Chains (next F (now (names .entry))) (related (now (mid .entry))) (now (links .entry)) x
         → x < n → start ≡ getD (now (mid .entry)) x 0 → start < x
         → Searched (next F (now (names .entry))) (related (now (mid .entry))) x (r .hit) (r .at)
-        × Keyed F n k (now (names .entry)) (now (keys .exit)) (now (labels .entry)) (now (nexts .entry))
+        × Equipped F n k (now (names .entry)) (now (keys .exit)) (now (shelf .exit)) (now (labels .entry)) (now (nexts .entry))
         (now (flags .entry)) (now (resets .entry)) (now (spots .entry)) (now (rows .entry))) ⌝ }
 {
     let mut y = start;
@@ -130,6 +132,7 @@ fn find_lead(
             spots,
             rows,
             keys,
+            shelf,
         ) {
             return Search { hit: true, at: y };
         }
@@ -197,20 +200,21 @@ fn search_lead(
     spots: &[u16],
     rows: &[u16],
     keys: &mut [u64],
+    shelf: &mut [u64],
     links: &mut [u16],
 ) -> usize
     requires { ⌜ (x < n) × (n ≤ 4096) × (n ≤ length (now links)) ⌝ }
-    ensures { λ _. ⌜ (length (now (keys .exit)) ≡ length (now (keys .entry)))
+    ensures { λ _. ⌜ (length (now (keys .exit)) ≡ length (now (keys .entry))) × (length (now (shelf .exit)) ≡ length (now (shelf .entry)))
         × (length (now (links .exit)) ≡ length (now (links .entry))) ⌝ }
-    ensures { λ r. ⌜ ((F : Finite) (before : List ℕ) → Keyed F n k (now (names .entry)) (now (keys .entry)) (now (labels .entry))
-        (now (nexts .entry)) (now (flags .entry)) (now (resets .entry)) (now (spots .entry)) (now (rows .entry))
+    ensures { λ r. ⌜ ((F : Finite) (before : List ℕ) → Equipped F n k (now (names .entry)) (now (keys .entry)) (now (shelf .entry))
+        (now (labels .entry)) (now (nexts .entry)) (now (flags .entry)) (now (resets .entry)) (now (spots .entry)) (now (rows .entry))
         → Step (next F (now (names .entry))) n (now (mid .entry))
         → Chains (next F (now (names .entry))) (related (now (mid .entry))) before x
         → now (links .entry) ≡ set before x 0 → n ≤ length before
         → start ≡ getD (now (mid .entry)) x 0 → start < x
         → (r ≡ lead (next F (now (names .entry))) x)
         × Chains (next F (now (names .entry))) (related (now (mid .entry))) (now (links .exit)) (x + 1)
-        × Keyed F n k (now (names .entry)) (now (keys .exit)) (now (labels .entry)) (now (nexts .entry))
+        × Equipped F n k (now (names .entry)) (now (keys .exit)) (now (shelf .exit)) (now (labels .entry)) (now (nexts .entry))
         (now (flags .entry)) (now (resets .entry)) (now (spots .entry)) (now (rows .entry))) ⌝ }
 {
     let found = find_lead(
@@ -228,6 +232,7 @@ fn search_lead(
         spots,
         rows,
         keys,
+        shelf,
     );
     let at = found.at;
     if found.hit {
@@ -256,21 +261,23 @@ fn next_lead(
     older: &mut [u16],
     kins: &mut [u16],
     keys: &mut [u64],
+    shelf: &mut [u64],
     links: &mut [u16],
 ) -> usize
     requires { ⌜ (x < n) × (n ≤ 4096) × (n ≤ length (now links)) ⌝ }
     ensures { λ _. ⌜ (length (now (older .exit)) ≡ length (now (older .entry))) × (length (now (kins .exit)) ≡ length (now (kins .entry)))
-        × (length (now (keys .exit)) ≡ length (now (keys .entry))) × (length (now (links .exit)) ≡ length (now (links .entry))) ⌝ }
+        × (length (now (keys .exit)) ≡ length (now (keys .entry))) × (length (now (shelf .exit)) ≡ length (now (shelf .entry)))
+        × (length (now (links .exit)) ≡ length (now (links .entry))) ⌝ }
     ensures { λ _. ⌜ (Kins x (now (older .entry)) → Kins x (now (kins .entry))
         → Kins (x + 1) (now (older .exit)) × Kins (x + 1) (now (kins .exit))) ⌝ }
-    ensures { λ r. ⌜ ((F : Finite) → Keyed F n k (now (names .entry)) (now (keys .entry)) (now (labels .entry)) (now (nexts .entry))
-        (now (flags .entry)) (now (resets .entry)) (now (spots .entry)) (now (rows .entry))
+    ensures { λ r. ⌜ ((F : Finite) → Equipped F n k (now (names .entry)) (now (keys .entry)) (now (shelf .entry)) (now (labels .entry))
+        (now (nexts .entry)) (now (flags .entry)) (now (resets .entry)) (now (spots .entry)) (now (rows .entry))
         → Sorted (next F (now (names .entry))) n (now (marks .entry)) (now (mid .entry))
         → Chains (next F (now (names .entry))) (related (now (mid .entry))) (now (links .entry)) x
         → Reps (next F (now (names .entry))) x (now (new .entry)) → Kins x (now (older .entry)) → Kins x (now (kins .entry))
         → (r ≡ lead (next F (now (names .entry))) x)
         × Chains (next F (now (names .entry))) (related (now (mid .entry))) (now (links .exit)) (x + 1)
-        × Keyed F n k (now (names .entry)) (now (keys .exit)) (now (labels .entry)) (now (nexts .entry))
+        × Equipped F n k (now (names .entry)) (now (keys .exit)) (now (shelf .exit)) (now (labels .entry)) (now (nexts .entry))
         (now (flags .entry)) (now (resets .entry)) (now (spots .entry)) (now (rows .entry))) ⌝ }
 {
     put_link(x, 0, links);
@@ -333,6 +340,7 @@ fn next_lead(
         spots,
         rows,
         keys,
+        shelf,
         links,
     );
     put_kin(x, sign, keys, older, kins);
@@ -367,6 +375,8 @@ fn next_round(
         × Keyed F n k (now (names .entry)) (now (keys .exit)) (now (labels .entry)) (now (nexts .entry))
         (now (flags .entry)) (now (resets .entry)) (now (spots .entry)) (now (rows .entry))) ⌝ }
 {
+    // The codes of the leader compared with last, and the number after it.
+    let mut shelf = [0u64; 129];
     let mut older = [0u16; 4096];
     let mut kins = [0u16; 4096];
     let mut count = 0;
@@ -389,6 +399,7 @@ fn next_round(
             &mut older,
             &mut kins,
             keys,
+            &mut shelf,
             links,
         );
         put_index(x, lead, new);

@@ -1,22 +1,22 @@
 -- Edges are matched by their codes: in a closed structure those that answer have the code of the edge that they answer to
 -- (`answers-tell`), so that only edges of that code need to be compared with it. Then the test of the next round from its parts.
-use Prim.Native.Nat.{ℕ, suc, _*_, _-_, _<_}
+use Prim.Native.Nat.{ℕ, suc, _+_, _*_, _-_, _≤_, _<_}
 use native.Mathlib.Omega.{arith}
 use mathlib.Core.Path.{_≡_, refl, sym, _∙_, ap, subst}
-use mathlib.Core.Bool.{Bool, true, false, _&&_}
+use mathlib.Core.Bool.{Bool, true, false, cond, _&&_}
 use mathlib.Core.List.{List}
 use mathlib.Core.Logic.{_⊎_, inl, inr}
 use lib.Dec.{eqb, ltb}
-use lib.ListN.{getD, set, replicate}
-use lib.Seq.{getD-set-other}
+use lib.ListN.{length, getD, set, replicate, length-set, length-replicate}
+use lib.Seq.{getD-set-same, getD-set-other}
 use borrow.Author.Tests.{eq-eqb, eqb-true, lt-ltb, le-ltb}
 use Rattle.bisimulation.specs.Structures.{Closed}
 use Rattle.bisimulation.specs.Finite.{Finite, structure, related}
 use Rattle.bisimulation.specs.Laws.Tests.{fails, and-iff, below-some, same?, same-test}
-use Rattle.comparison.specs.Held.{Held, isOpen, actionAt, wholeAt, countAt, targetAt}
+use Rattle.comparison.specs.Held.{mostEdges, Held, isOpen, actionAt, wholeAt, countAt, targetAt}
 use Rattle.comparison.specs.Compare.{weighed, balanced, balancedOver, delaysAnswered, edgesAlike}
 use Rattle.comparison.specs.Compare.{answers, someAnswers, edgeAnswered, edgesAnswered, answered, nextIn}
-use Rattle.comparison.specs.Keys.{Coded, ToldBy, Told, Found, Met}
+use Rattle.comparison.specs.Keys.{codeOf, Coded, ToldBy, Told, Own, Found, Met, Shelved}
 use Rattle.comparison.specs.Laws.Steps.{zeros-at}
 use Rattle.comparison.specs.Laws.Compare.{answers-fails, answered-free, answered-on, all-fails, all-agree}
 use Rattle.comparison.specs.Laws.Keys.{code-same, whole-positive}
@@ -141,24 +141,76 @@ module _ (k : ℕ) (list flags resets spots rows : List ℕ) where
   found-tells x e y r (inr (f, at, below, t)) =
       lt-ltb 0 r (omega (arith, at)) ∙ sym (one-answers k list flags resets spots rows x e y f below t)
 
+  -- What answers at x is answered to there.
+  answers-back : (x e y f : ℕ) → isOpen flags x e ≡ true → answers list flags resets spots rows x e y f ≡ true
+      → answers list flags resets spots rows y f x e ≡ true
+  unfolding answers
+  answers-back x e y f ready t =
+      and-iff (isOpen flags x e) (edgesAlike list resets spots rows y f x e) .1 (
+        ready,
+        alike-back list resets spots rows x e y f (and-iff (isOpen flags y f) (edgesAlike list resets spots rows x e y f) .0 t .1),
+      )
+
   -- Nothing is marked at first. Then an edge at y may be marked that answers to one available at x, since that one answers to it.
   pub met-none : (x y n : ℕ) → Met k list flags resets spots rows x y (replicate {A = ℕ} n 0)
   met-none x y n e t = absurd (omega (arith, sym (zeros-at n e) ∙ t))
 
   pub met-on : (x e y f : ℕ) (met : List ℕ) → Met k list flags resets spots rows y x met → e < k → isOpen flags x e ≡ true
       → answers list flags resets spots rows x e y f ≡ true → Met k list flags resets spots rows y x (set met f 1)
-  unfolding answers
   met-on x e y f met all h ready t g marked = go (same? g f)
     where
       go : (g ≡ f) ⊎ (¬ (g ≡ f)) → someAnswers k list flags resets spots rows y g x ≡ true
       go (inl same) =
           subst (λ (g : ℕ). someAnswers k list flags resets spots rows y g x ≡ true) (sym same)
-          (one-answers k list flags resets spots rows y f x e h
-          (and-iff (isOpen flags x e) (edgesAlike list resets spots rows y f x e) .1 (
-            ready,
-            alike-back list resets spots rows x e y f (and-iff (isOpen flags y f) (edgesAlike list resets spots rows x e y f) .0 t .1),
-          )))
+          (one-answers k list flags resets spots rows y f x e h (answers-back x e y f ready t))
       go (inr other) = all g (sym (getD-set-other met f g 1 0 other) ∙ marked)
+
+  -- No edge is marked as its own pair at first. Then an edge available at y may be that answers to itself there.
+  pub own-none : (x y n : ℕ) → Own k list flags resets spots rows x y (replicate {A = ℕ} n 0)
+  own-none x y n e h t = absurd (omega (arith, sym (zeros-at n e) ∙ t))
+
+  pub own-on : (x y e : ℕ) (paired : Bool) (own : List ℕ) → Own k list flags resets spots rows x y own → isOpen flags y e ≡ true
+      → (paired ≡ true → answers list flags resets spots rows y e x e ≡ true)
+      → Own k list flags resets spots rows x y (cond paired (set own e 1) own)
+  own-on x y e false own all ready t g h marked = all g h marked
+  own-on x y e true own all ready t g h marked = go (same? g e)
+    where
+      go : (g ≡ e) ⊎ (¬ (g ≡ e)) → answers list flags resets spots rows x g y g ≡ true
+      go (inl same) =
+          subst (λ (g : ℕ). answers list flags resets spots rows x g y g ≡ true) (sym same) (answers-back y e x e ready (t refl))
+      go (inr other) = all g h (sym (getD-set-other own e g 1 0 other) ∙ marked)
+
+  -- Then the code at x is that at y.
+  pub own-told : (x y e : ℕ) (ones : List ℕ) → Coded k x list flags resets spots rows ones → Told k list flags resets spots rows y x
+      → e < k → isOpen flags y e ≡ true → answers list flags resets spots rows y e x e ≡ true
+      → getD ones e 0 ≡ codeOf list resets spots rows y e
+  unfolding answers
+  own-told x y e ones coded told h ready t =
+      coded e h (and-iff (isOpen flags x e) (edgesAlike list resets spots rows y e x e) .0 t .0) ∙ told e h ready e h t
+
+  -- A shelf that is empty, and one on which codes were put.
+  pub shelf-none : Shelved k list flags resets spots rows (replicate {A = ℕ} 129 0)
+  shelf-none = (
+    omega (arith, length-replicate {A = ℕ} 129 0),
+    λ x e. absurd (omega (arith, sym (zeros-at 129 mostEdges) ∙ e)),
+  )
+
+  pub shelf-on : (x : ℕ) (codes : List ℕ) → k ≤ mostEdges → mostEdges < length codes → Coded k x list flags resets spots rows codes
+      → Shelved k list flags resets spots rows (set codes mostEdges (x + 1))
+      × Coded k x list flags resets spots rows (set codes mostEdges (x + 1))
+  shelf-on x codes few room coded = (
+    (
+      omega (arith, room, length-set codes mostEdges (x + 1)),
+      λ z e.
+          let same : z ≡ x = omega (arith, sym (getD-set-same codes mostEdges (x + 1) 0 room) ∙ e) in
+          subst (λ (z : ℕ). Coded k z list flags resets spots rows (set codes mostEdges (x + 1))) (sym same) kept,
+    ),
+    kept,
+  )
+    where
+      kept : Coded k x list flags resets spots rows (set codes mostEdges (x + 1))
+      kept f h ready =
+          getD-set-other codes mostEdges f (x + 1) 0 (λ s. absurd (omega (arith, s, h, few))) ∙ coded f h ready
 
 -- ---- The next round: first this round and the delays of both, then the edges of both
 

@@ -16,13 +16,14 @@ edges-match-requires c κs = search needs
 
 returns : tie.Need-returns
 returns c =
-    let args = c .before .before .before .before .before .before .before .before .before .before .args in
+    let args = c .before .before .before .before .before .before .before .before .before .before .before .before .args in
     let edges-match = c .before .before .edges-match in
     let if1 = c .if1 in
-    λ n opened hx hy other there back.
+    λ n opened hx hy one other there back own.
     sym (and-no (edgesAnswered args.k args.list.now args.flags.now args.resets.now args.spots.now args.rows.now args.x args.y)
     (edgesAnswered args.k args.list.now args.flags.now args.resets.now args.spots.now args.rows.now args.y args.x) (sym
-    (edges-match.ensures.1 n opened hx hy other there (met-none args.k args.list.now args.flags.now args.resets.now args.spots.now
+    (edges-match.ensures.1 n opened hx hy one other there own (met-none args.k args.list.now args.flags.now args.resets.now
+    args.spots.now
     args.rows.now args.y args.x 128) .0) ∙ not-true edges-match.result if1.taken))
 
 slice-aggregate-are-all-met : tie.Need-slice-aggregate-are-all-met
@@ -34,12 +35,14 @@ are-all-met-requires c κs = search needs
 returns-2 : tie.Need-returns-2
 returns-2 c =
     let edges-match = c .before .before .before .before .before .edges-match in
-    let args = c .before .before .before .before .before .before .before .before .before .before .before .before .before .args in
+    let args = c .before .before .before .before .before .before .before .before .before .before .before .before .before .before
+    .before .args in
     let if1 = c .before .before .before .if1 in
     let are-all-met = c .before .are-all-met in
     let if2 = c .if2 in
-    λ n opened hx hy other there back.
-    let (same, met) = edges-match.ensures.1 n opened hx hy other there (met-none args.k args.list.now args.flags.now args.resets.now
+    λ n opened hx hy one other there back own.
+    let (same, met) = edges-match.ensures.1 n opened hx hy one other there own (met-none args.k args.list.now args.flags.now
+    args.resets.now
     args.spots.now args.rows.now args.y args.x 128) in
     sym (and-yes (edgesAnswered args.k args.list.now args.flags.now args.resets.now args.spots.now args.rows.now args.x args.y)
     (edgesAnswered args.k args.list.now args.flags.now args.resets.now args.spots.now args.rows.now args.y args.x) (sym same ∙
@@ -47,33 +50,24 @@ returns-2 c =
     ∙ all-answered args.k args.list.now args.flags.now args.resets.now args.spots.now args.rows.now args.y args.x (λ f hf ready. met f
     (are-all-met.ensures if2.taken n opened hy f hf ready)))
 
-slice-aggregate-list-codes : tie.Need-slice-aggregate-list-codes
-slice-aggregate-list-codes c = search needs
-
-list-codes-requires : tie.Need-list-codes-requires
-list-codes-requires c κs = search needs
-
 slice-aggregate-rest-match : tie.Need-slice-aggregate-rest-match
 slice-aggregate-rest-match c = search needs
-
-slice-aggregate-rest-match-2 : tie.Need-slice-aggregate-rest-match-2
-slice-aggregate-rest-match-2 c = search needs
 
 rest-match-requires : tie.Need-rest-match-requires
 rest-match-requires c κs = search needs
 
 returns-3 : tie.Need-returns-3
 returns-3 c =
-    let edges-match = c .before .before .before .before .before .before .before .before .before .before .before .edges-match in
+    let edges-match = c .before .before .before .before .before .before .before .edges-match in
     let args = c .before .before .before .before .before .before .before .before .before .before .before .before .before .before
-    .before .before .before .before .before .args in
+    .before .before .before .args in
     let rest-match = c .rest-match in
-    let list-codes = c .before .before .before .before .list-codes in
-    let if1 = c .before .before .before .before .before .before .before .before .before .if1 in
-    λ n opened hx hy other there back.
-    let (same, met) = edges-match.ensures.1 n opened hx hy other there (met-none args.k args.list.now args.flags.now args.resets.now
+    let if1 = c .before .before .before .before .before .if1 in
+    λ n opened hx hy one other there back own.
+    let (same, met) = edges-match.ensures.1 n opened hx hy one other there own (met-none args.k args.list.now args.flags.now
+    args.resets.now
     args.spots.now args.rows.now args.y args.x 128) in
-    rest-match.ensures n opened hy hx other (list-codes.ensures.1 n opened hx) back met
+    rest-match.ensures n opened hy hx other one back met
     ∙ sym (and-yes (edgesAnswered args.k args.list.now args.flags.now args.resets.now args.spots.now args.rows.now args.x args.y)
     (edgesAnswered args.k args.list.now args.flags.now args.resets.now args.spots.now args.rows.now args.y args.x) (sym same ∙
     not-false edges-match.result if1.left))
@@ -88,9 +82,6 @@ edges-agree-spec =
     slice-aggregate-are-all-met
     are-all-met-requires
     returns-2
-    slice-aggregate-list-codes
-    list-codes-requires
     slice-aggregate-rest-match
-    slice-aggregate-rest-match-2
     rest-match-requires
     returns-3)

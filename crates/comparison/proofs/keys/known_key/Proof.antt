@@ -16,44 +16,60 @@ same-length c = search needs
 returns : tie.Need-returns
 returns c =
     let at64 = c .before .at64 in
-    let args = c .before .before .before .before .before .before .before .before .before .before .args in
+    let args = c .before .before .before .before .before .before .before .before .before .before .before .args in
     let if1 = c .if1 in (
-      refl,
+      (refl, refl),
       (
-        λ opened hx known. (
-          at64.ensures ∙ known-old args.n args.k args.names.now args.keys.now args.nexts.now args.flags.now
-              args.resets.now args.spots.now args.rows.now known args.x hx (λ none. if1.taken (at64.ensures ∙ none)),
+        λ opened hx known shelved. (
+          at64.ensures ∙ known-old args.n args.k args.names.now args.keys.now args.nexts.now args.flags.now args.resets.now
+              args.spots.now args.rows.now known args.x hx (λ none. if1.taken (at64.ensures ∙ none)),
           known,
+          shelved,
         ),
         λ z. inl refl,
       ),
     )
 
-slice-aggregate-coded-key : tie.Need-slice-aggregate-coded-key
-slice-aggregate-coded-key c = search needs
+shelve-requires : tie.Need-shelve-requires
+shelve-requires c κs = search needs
 
-coded-key-requires : tie.Need-coded-key-requires
-coded-key-requires c κs = search needs
+key-by-requires : tie.Need-key-by-requires
+key-by-requires c κs = search needs
+
+put64-requires : tie.Need-put64-requires
+put64-requires c κs = search needs
 
 same-length-2 : tie.Need-same-length-2
-same-length-2 c = search needs
+same-length-2 c =
+    let put64 = c .before .before .put64 in
+    let args = c .before .before .before .before .before .before .before .before .before .before .before .before .before .before
+    .before .before .before .before .before .before .before .args in
+    let key-by = c .before .before .before .before .key-by in
+    ap length put64.ensures ∙ length-set args.keys.now args.x key-by.result
+
+same-length-3 : tie.Need-same-length-3
+same-length-3 c = search needs
 
 returns-2 : tie.Need-returns-2
 returns-2 c =
-    let coded-key = c .before .before .before .coded-key in
+    let put64 = c .before .before .put64 in
     let args = c .before .before .before .before .before .before .before .before .before .before .before .before .before .before
-    .before .before .args in
-    let at64 = c .before .before .before .before .before .before .before .at64 in
-    let if1 = c .before .before .before .before .before .before .if1 in (
-      ap length coded-key.ensures.0.0 ∙ length-set args.keys.now args.x coded-key.result,
+    .before .before .before .before .before .before .before .args in
+    let key-by = c .before .before .before .before .key-by in
+    let shelve = c .before .before .before .before .before .before .before .before .shelve in
+    let at64 = c .before .before .before .before .before .before .before .before .before .before .before .at64 in
+    let if1 = c .before .before .before .before .before .before .before .before .before .before .if1 in (
+      (ap length put64.ensures ∙ length-set args.keys.now args.x key-by.result, shelve.ensures.0),
       (
-        λ opened hx known.
-            let (key, _) = coded-key.ensures.1 opened hx in (
+        λ opened hx known shelved.
+            let (shelved′, coded) = shelve.ensures.1 args.n opened hx shelved in
+            let key = key-by.ensures args.resets.now args.spots.now args.rows.now opened hx coded in (
               key,
-              rw coded-key.ensures.0.0 (known-new args.n args.k args.names.now args.keys.now args.nexts.now args.flags.now args.resets.now
-                  args.spots.now args.rows.now known args.x coded-key.result key),
+              rw put64.ensures (known-new args.n args.k args.names.now args.keys.now args.nexts.now args.flags.now args.resets.now
+                  args.spots.now args.rows.now known args.x key-by.result key),
+              shelved′,
             ),
-        rw coded-key.ensures.0.0 (asked-put args.x coded-key.result args.keys.now (sym at64.ensures ∙ if1.left)),
+        rw put64.ensures (asked-put args.x key-by.result args.keys.now (sym at64.ensures ∙ if1.left)),
       ),
     )
 
@@ -64,7 +80,9 @@ known-key-spec =
     at64-requires
     same-length
     returns
-    slice-aggregate-coded-key
-    coded-key-requires
+    shelve-requires
+    key-by-requires
+    put64-requires
     same-length-2
+    same-length-3
     returns-2)

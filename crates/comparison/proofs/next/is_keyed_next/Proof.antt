@@ -16,11 +16,12 @@ returns : tie.Need-returns
 returns c =
     let are-items = c .before .are-items in
     let if1 = c .if1 in (
-      refl,
+      (refl, refl),
       (
-        λ F keyed hx hy. absurd (clash (are-items.ensures.1.0 (keyed .held .few) (keyed .held .few-edges) hx hy) (not-true
+        λ F equipped hx hy. let keyed = equipped .keyed in absurd (clash (are-items.ensures.1.0 (keyed .held .few) (keyed .held
+            .few-edges) hx hy) (not-true
             are-items.result if1.taken)),
-        (λ z. inl refl, λ h. (refl, refl), λ h. (refl, refl)),
+        (λ z. inl refl, λ h. (refl, refl, refl), λ h. (refl, refl, refl)),
       ),
     )
 
@@ -38,16 +39,16 @@ returns-2 c =
     let are-items = c .before .before .before .before .before .before .are-items in
     let if1 = c .before .before .before .before .before .if1 in
     let args = c .before .before .before .before .before .before .before .before .before .before .before .before .before .before
-    .before .args in
+    .before .before .args in
     let is-twin = c .before .is-twin in
     let if3 = c .if3 in
     let items = not-false are-items.result if1.left in (
-      refl,
+      (refl, refl),
       (
-        λ F keyed hx hy. (
+        λ F equipped hx hy. let keyed = equipped .keyed in (
           sym (twins-meet (keyed .held) (keyed .closed) args.names.now args.x args.y hx hy (is-twin.ensures.0
               if3.taken (keyed .held .onward) (keyed .held .opened) hx hy)),
-          keyed,
+          equipped,
         ),
         (
           λ z. inl refl,
@@ -60,8 +61,8 @@ returns-2 c =
 
 known-key-requires : tie.Need-known-key-requires
 known-key-requires c κs =
-    let are-items = c .before .before .before .before .before .are-items in
-    let if1 = c .before .before .before .before .if1 in
+    let are-items = c .before .before .before .before .before .before .are-items in
+    let if1 = c .before .before .before .before .before .if1 in
     let items = are-items.ensures.0 (not-false are-items.result if1.left) in (items .0, items .1)
 
 at64-requires-2 : tie.Need-at64-requires-2
@@ -69,32 +70,43 @@ at64-requires-2 c κs = search needs
 
 is-newly-keyed-next-requires : tie.Need-is-newly-keyed-next-requires
 is-newly-keyed-next-requires c κs =
-    let are-items = c .before .before .before .before .before .before .before .before .before .before .before .before .are-items in
-    let if1 = c .before .before .before .before .before .before .before .before .before .before .before .if1 in
+    let are-items = c .before .before .before .before .before .before .before .before .before .before .before .before .before .before
+    .before .before .are-items in
+    let if1 = c .before .before .before .before .before .before .before .before .before .before .before .before .before .before .before
+    .if1 in
     are-items.ensures.0 (not-false are-items.result if1.left)
 
 same-length-2 : tie.Need-same-length-2
 same-length-2 c = search needs
 
+same-length-3 : tie.Need-same-length-3
+same-length-3 c = search needs
+
 returns-3 : tie.Need-returns-3
 returns-3 c =
     let are-items = c .before .before .before .before .before .before .before .before .before .before .before .before .before .before
-    .before .are-items in
-    let if1 = c .before .before .before .before .before .before .before .before .before .before .before .before .before .before .if1 in
-    let is-newly-keyed-next = c .before .before .is-newly-keyed-next in
-    let known-key = c .before .before .before .before .before .before .before .before .before .known-key in
+    .before .before .before .before .before .before .before .are-items in
+    let if1 = c .before .before .before .before .before .before .before .before .before .before .before .before .before .before .before
+    .before .before .before .before .before .if1 in
+    let is-newly-keyed-next = c .before .before .before .before .is-newly-keyed-next in
+    let known-key = c .before .before .before .before .before .before .before .before .before .before .before .before .before .before
+    .known-key in
     let args = c .before .before .before .before .before .before .before .before .before .before .before .before .before .before
-    .before .before .before .before .before .before .before .before .before .before .args in
-    let at642 = c .before .before .before .before .before .at642 in
-    let if4 = c .before .before .before .before .if4 in
+    .before .before .before .before .before .before .before .before .before .before .before .before .before .before .before .before
+    .before .args in
+    let at642 = c .before .before .before .before .before .before .before .before .at642 in
+    let if4 = c .before .before .before .before .before .before .before .if4 in
     let items = not-false are-items.result if1.left in (
-      is-newly-keyed-next.ensures.0 ∙ known-key.ensures.0,
+      (is-newly-keyed-next.ensures.0.0 ∙ known-key.ensures.0.0, is-newly-keyed-next.ensures.0.1 ∙ known-key.ensures.0.1),
       (
-        λ F keyed hx hy.
-            let (one, known) = known-key.ensures.1.0 (keyed .held .opened) hx (keyed .keyed) in
-            let (same, known′) = is-newly-keyed-next.ensures.1.0 F args.labels.now (keyed-on keyed known-key.last.1.1.1.1.1.1.1.1.1.0 known) hx
-            hy one in
-            (same, keyed-on keyed is-newly-keyed-next.last.1.1.1.1.1.1.1.1.1.1.1.0 known′),
+        λ F equipped hx hy.
+            let keyed = equipped .keyed in
+            let (one, known, shelved) = known-key.ensures.1.0 (keyed .held .opened) hx (keyed .keyed) (equipped .shelved) in
+            is-newly-keyed-next.ensures.1.0 F args.labels.now (record {
+              keyed = keyed-on keyed known-key.last.1.1.1.1.1.1.1.1.1.0
+                  known;
+              shelved = shelved;
+            }) hx hy one,
         (
           asked-both args.x args.y args.keys.now known-key.last.1.1.1.1.1.1.1.1.1.0 is-newly-keyed-next.last.1.1.1.1.1.1.1.1.1.1.1.0
               known-key.ensures.1.1 (is-newly-keyed-next.ensures.1.1 (sym at642.ensures ∙ if4.taken)),
@@ -105,32 +117,42 @@ returns-3 c =
       ),
     )
 
-same-length-3 : tie.Need-same-length-3
-same-length-3 c = search needs
+same-length-4 : tie.Need-same-length-4
+same-length-4 c = search needs
+
+same-length-5 : tie.Need-same-length-5
+same-length-5 c = search needs
 
 returns-4 : tie.Need-returns-4
 returns-4 c =
-    let are-items = c .before .before .before .before .before .before .before .before .before .before .before .before .are-items in
-    let if1 = c .before .before .before .before .before .before .before .before .before .before .before .if1 in
-    let known-key = c .before .before .before .before .before .before .known-key in
+    let are-items = c .before .before .before .before .before .before .before .before .before .before .before .before .before .before
+    .before .are-items in
+    let if1 = c .before .before .before .before .before .before .before .before .before .before .before .before .before .before .if1 in
+    let known-key = c .before .before .before .before .before .before .before .before .known-key in
     let at642 = c .before .before .at642 in
     let args = c .before .before .before .before .before .before .before .before .before .before .before .before .before .before
-    .before .before .before .before .before .before .before .args in
+    .before .before .before .before .before .before .before .before .before .before .before .args in
     let if4 = c .before .if4 in
     let if5 = c .if5 in
     let items = not-false are-items.result if1.left in (
       known-key.ensures.0,
       (
-        λ F keyed hx hy.
-            let (one, known) = known-key.ensures.1.0 (keyed .held .opened) hx (keyed .keyed) in
-            let other = at642.ensures ∙ known-old args.n args.k args.names.now known-key.last.1.1.1.1.1.1.1.1.1.0 args.nexts.now args.flags.now
+        λ F equipped hx hy.
+            let keyed = equipped .keyed in
+            let (one, known, shelved) = known-key.ensures.1.0 (keyed .held .opened) hx (keyed .keyed) (equipped .shelved) in
+            let other = at642.ensures ∙ known-old args.n args.k args.names.now known-key.last.1.1.1.1.1.1.1.1.1.0 args.nexts.now
+            args.flags.now
             args.resets.now args.spots.now args.rows.now known args.y hy (λ none. if4.left (at642.ensures ∙ none)) in (
               sym (keys-part keyed args.x args.y known-key.result at642.result hx hy one other if5.taken),
-              keyed-on keyed
-                  known-key.last.1.1.1.1.1.1.1.1.1.0 known,
+              record {
+                keyed = keyed-on keyed
+                    known-key.last.1.1.1.1.1.1.1.1.1.0 known;
+                shelved = shelved;
+              },
             ),
         (
-          asked-both args.x args.y args.keys.now known-key.last.1.1.1.1.1.1.1.1.1.0 known-key.last.1.1.1.1.1.1.1.1.1.0 known-key.ensures.1.1
+          asked-both args.x args.y args.keys.now known-key.last.1.1.1.1.1.1.1.1.1.0 known-key.last.1.1.1.1.1.1.1.1.1.0
+              known-key.ensures.1.1
               (λ z. inl refl),
           λ h. absurd (clash items (are-items.ensures.1.1.0 h)),
           λ h. absurd (clash items (are-items.ensures.1.1.1 h)),
@@ -141,25 +163,38 @@ returns-4 c =
 is-next-requires : tie.Need-is-next-requires
 is-next-requires c κs = search needs
 
-same-length-4 : tie.Need-same-length-4
-same-length-4 c = search needs
+same-length-6 : tie.Need-same-length-6
+same-length-6 c = search needs
+
+same-length-7 : tie.Need-same-length-7
+same-length-7 c = search needs
 
 returns-5 : tie.Need-returns-5
 returns-5 c =
-    let are-items = c .before .before .before .before .before .before .before .before .before .before .before .before .before .are-items in
-    let if1 = c .before .before .before .before .before .before .before .before .before .before .before .before .if1 in
-    let known-key = c .before .before .before .before .before .before .before .known-key in
+    let are-items = c .before .before .before .before .before .before .before .before .before .before .before .before .before .before
+    .before .before .are-items in
+    let if1 = c .before .before .before .before .before .before .before .before .before .before .before .before .before .before .before
+    .if1 in
+    let known-key = c .before .before .before .before .before .before .before .before .before .known-key in
     let is-next = c .is-next in
     let args = c .before .before .before .before .before .before .before .before .before .before .before .before .before .before
-    .before .before .before .before .before .before .before .before .args in
+    .before .before .before .before .before .before .before .before .before .before .before .before .args in
     let items = not-false are-items.result if1.left in (
       known-key.ensures.0,
       (
-        λ F keyed hx hy.
-            let (_, known) = known-key.ensures.1.0 (keyed .held .opened) hx (keyed .keyed) in
-            (is-next.ensures.0 F (keyed .held) (keyed .closed) (keyed .below) hx hy, keyed-on keyed known-key.last.1.1.1.1.1.1.1.1.1.0 known),
+        λ F equipped hx hy.
+            let keyed = equipped .keyed in
+            let (_, known, shelved) = known-key.ensures.1.0 (keyed .held .opened) hx (keyed .keyed) (equipped .shelved) in (
+              is-next.ensures.0 F (keyed .held) (keyed .closed) (keyed .below) hx hy,
+              record {
+                keyed = keyed-on keyed
+                    known-key.last.1.1.1.1.1.1.1.1.1.0 known;
+                shelved = shelved;
+              },
+            ),
         (
-          asked-both args.x args.y args.keys.now known-key.last.1.1.1.1.1.1.1.1.1.0 known-key.last.1.1.1.1.1.1.1.1.1.0 known-key.ensures.1.1
+          asked-both args.x args.y args.keys.now known-key.last.1.1.1.1.1.1.1.1.1.0 known-key.last.1.1.1.1.1.1.1.1.1.0
+              known-key.ensures.1.1
               (λ z. inl refl),
           λ h. absurd (clash items (are-items.ensures.1.1.0 h)),
           λ h. absurd (clash items (are-items.ensures.1.1.1 h)),
@@ -181,9 +216,12 @@ is-keyed-next-spec =
     at64-requires-2
     is-newly-keyed-next-requires
     same-length-2
-    returns-3
     same-length-3
+    returns-3
+    same-length-4
+    same-length-5
     returns-4
     is-next-requires
-    same-length-4
+    same-length-6
+    same-length-7
     returns-5)

@@ -17,14 +17,17 @@ is-clear-requires c κs = search needs
 
 returns : tie.Need-returns
 returns c =
-    let args = c .before .before .before .before .before .before .before .before .before .before .before .before .before .before .before .before .args in (
-      (refl, refl, refl),
+    let args = c .before .before .before .before .before .before .before .before .before .before .before .before .before .before
+    .before .before .before .args in
+    let is-clear = c .before .is-clear in
+    let if1 = c .if1 in (
+      (refl, refl, refl, refl),
       (
-        λ olds kins. (kins-kept (args .older .now) (args .x) olds, kins-kept (args .kins .now) (args .x) kins),
-        λ F keyed settled anchored step marked olds kins hx. (
+        λ olds kins. (kins-kept args.older.now args.x olds, kins-kept args.kins.now args.x kins),
+        λ F equipped settled anchored step marked olds kins hx. (
           sym (joined-calm (next F args.names.now) args.n args.old.now args.stirred.now args.anchors.now anchored settled args.x hx
-              (eqb-true (getD args.stirred.now args.x 0) 0 (sym ((c .before .is-clear) .ensures) ∙ (c .if1) .taken))),
-          keyed,
+              (eqb-true (getD args.stirred.now args.x 0) 0 (sym (is-clear .ensures) ∙ if1 .taken))),
+          equipped,
         ),
       ),
     )
@@ -37,16 +40,18 @@ at16-requires c κs = search needs
 
 returns-2 : tie.Need-returns-2
 returns-2 c =
-    let args = c .before .before .before .before .before .before .before .before .before .before .before .before .before .before .before .before .before .before .before .args in
+    let args = c .before .before .before .before .before .before .before .before .before .before .before .before .before .before
+    .before .before .before .before .before .before .args in
+    let at16 = c .before .at16 in
     let index-at = c .before .before .index-at in
-    let at16 = (c .before .at16) in (
-      (refl, refl, refl),
+    let if2 = c .if2 in (
+      (refl, refl, refl, refl),
       (
-        λ olds kins. (kins-kept (args .older .now) (args .x) olds, kins-kept (args .kins .now) (args .x) kins),
-        λ F keyed settled anchored step marked olds kins hx. (
+        λ olds kins. (kins-kept args.older.now args.x olds, kins-kept args.kins.now args.x kins),
+        λ F equipped settled anchored step marked olds kins hx. (
           sym (joined-none (next F args.names.now) args.n args.old.now args.stirred.now args.anchors.now anchored args.x at16.result
-              (at16.ensures.0 ∙ ap (λ (b : ℕ). getD args.anchors.now b 0) (index-at .ensures)) ((c .if2) .taken)),
-          keyed,
+              (at16.ensures.0 ∙ ap (λ (b : ℕ). getD args.anchors.now b 0) index-at.ensures) (if2 .taken)),
+          equipped,
         ),
       ),
     )
@@ -59,22 +64,25 @@ is-twin-requires c κs = search needs
 
 returns-3 : tie.Need-returns-3
 returns-3 c =
-    let args = c .before .before .before .before .before .before .before .before .before .before .before .before .before .before .before .before .before .before .before .before .before .args in
     let at16 = c .before .before .before .at16 in
-    let if2 = c .before .before .if2 in
+    let args = c .before .before .before .before .before .before .before .before .before .before .before .before .before .before
+    .before .before .before .before .before .before .before .before .args in
     let index-at = c .before .before .before .before .index-at in
-    let link = at16.ensures.0 ∙ ap (λ (b : ℕ). getD args.anchors.now b 0) (index-at .ensures) in (
-      (refl, refl, refl),
+    let if2 = c .before .before .if2 in
+    let is-twin = c .before .is-twin in
+    let if3 = c .if3 in
+    let link = at16.ensures.0 ∙ ap (λ (b : ℕ). getD args.anchors.now b 0) index-at.ensures in (
+      (refl, refl, refl, refl),
       (
-        λ olds kins. (kins-kept (args .older .now) (args .x) olds, kins-kept (args .kins .now) (args .x) kins),
-        λ F keyed settled anchored step marked olds kins hx.
+        λ olds kins. (kins-kept args.older.now args.x olds, kins-kept args.kins.now args.x kins),
+        λ F equipped settled anchored step marked olds kins hx.
             let below = anchor-of (next F args.names.now) args.n args.old.now args.stirred.now args.anchors.now anchored args.x
             at16.result link if2.left .below in (
               sym (joined-some (next F args.names.now) args.n args.old.now args.stirred.now args.anchors.now anchored args.x
                   at16.result link if2.left
-                  ∙ twins-meet (keyed .held) (keyed .closed) args.names.now (at16.result - 1) args.x below hx
-                  ((c .before .is-twin) .ensures .0 ((c .if3) .taken) (keyed .held .onward) (keyed .held .opened) below hx)),
-              keyed,
+                  ∙ twins-meet (equipped .keyed .held) (equipped .keyed .closed) args.names.now (at16.result - 1) args.x below hx
+                  (is-twin .ensures .0 (if3 .taken) (equipped .keyed .held .onward) (equipped .keyed .held .opened) below hx)),
+              equipped,
             ),
       ),
     )
@@ -102,24 +110,27 @@ same-length-2 c = search needs
 
 returns-4 : tie.Need-returns-4
 returns-4 c =
-    let args = c .before .before .before .before .before .before .before .before .before .before .before .before .before .before .before .before .before .before .before .before .before .before .before .before .before .before .before .before .args in
     let find-kin = c .before .before .find-kin in
+    let args = c .before .before .before .before .before .before .before .before .before .before .before .before .before .before
+    .before .before .before .before .before .before .before .before .before .before .before .before .before .before .before .args in
+    let if4 = c .before .if4 in
     let sign-of = c .before .before .before .before .before .before .sign-of in
     let at162 = c .before .before .before .before .at162 in
-    let link = find-kin .result in
-    let if3 = (c .before .if4) in (
-      (refl, refl, refl),
+    let at163 = c .at163 in
+    let link = find-kin.result in (
+      (refl, refl, refl, refl),
       (
-        λ olds kins. (kins-kept (args .older .now) (args .x) olds, kins-kept (args .kins .now) (args .x) kins),
-        λ F keyed settled anchored step marked olds kins hx.
+        λ olds kins. (kins-kept args.older.now args.x olds, kins-kept args.kins.now args.x kins),
+        λ F equipped settled anchored step marked olds kins hx.
             let z : ℕ = link - 1 in
-            let some : link ≡ suc z = omega (arith, if3.taken) in
-            let (hz, t) = find-kin .ensures F (keyed .held) (keyed .closed) hx olds (λ y e. kins (sign-of .result) y (sym
-            (at162 .ensures .0) ∙ e)) z some in (
+            let some : link ≡ suc z = omega (arith, if4.taken) in
+            let (hz, t) = find-kin.ensures F (equipped .keyed .held) (equipped .keyed .closed) hx olds (λ y e. kins sign-of.result y
+            (sym
+            at162.ensures.0 ∙ e)) z some in (
               kin-joined (next F args.names.now) args.n args.old.now args.stirred.now args.anchors.now anchored (step .classes)
                   (step .finer)
-                  args.marks.now z args.x ((c .at163) .result) hz hx t marked ((c .at163) .ensures .0),
-              keyed,
+                  args.marks.now z args.x (at163 .result) hz hx t marked (at163 .ensures .0),
+              equipped,
             ),
       ),
     )
@@ -132,38 +143,43 @@ is-keyed-next-requires c κs = search needs
 
 put-kin-requires : tie.Need-put-kin-requires
 put-kin-requires c κs =
-    let pre = c .before .before .before .before .before .before .before .before .before .before .before .before .before .before .before .before .before .before .before .before .before .before .before .before .before .before .before .before .before .before .before .before .before .before .pre in
+    let pre = c .before .before .before .before .before .before .before .before .before .before .before .before .before .before .before
+    .before .before .before .before .before .before .before .before .before .before .before .before .before .before .before .before
+    .before .before .before .before .before .before .before .pre in
     pre
 
 same-length-3 : tie.Need-same-length-3
-same-length-3 c =
-    let is-keyed-next = c .before .before .before .before .before .before .before .before .before .before .is-keyed-next in
-    is-keyed-next .ensures .0
+same-length-3 c = search needs
 
 same-length-4 : tie.Need-same-length-4
-same-length-4 c =
-    let put-kin = c .before .before .before .before .put-kin in
-    put-kin .ensures .0 .0
+same-length-4 c = search needs
 
 same-length-5 : tie.Need-same-length-5
-same-length-5 c =
-    let put-kin = c .before .before .before .before .put-kin in
-    put-kin .ensures .0 .1
+same-length-5 c = search needs
+
+same-length-6 : tie.Need-same-length-6
+same-length-6 c = search needs
 
 returns-5 : tie.Need-returns-5
 returns-5 c =
-    let args = c .before .before .before .before .before .before .before .before .before .before .before .before .before .before .before .before .before .before .before .before .before .before .before .before .before .before .before .before .before .before .before .before .before .before .before .before .before .before .before .args in
-    let at16 = c .before .before .before .before .before .before .before .before .before .before .before .before .before .before .before .before .before .before .before .before .before .at16 in
-    let is-keyed-next = c .before .before .before .before .before .before .before .before .before .before .is-keyed-next in
-    let if2 = c .before .before .before .before .before .before .before .before .before .before .before .before .before .before .before .before .before .before .before .before .if2 in
-    let index-at = c .before .before .before .before .before .before .before .before .before .before .before .before .before .before .before .before .before .before .before .before .before .before .index-at in
+    let at16 = c .before .before .before .before .before .before .before .before .before .before .before .before .before .before
+    .before .before .before .before .before .before .before .before .before .before .at16 in
+    let args = c .before .before .before .before .before .before .before .before .before .before .before .before .before .before
+    .before .before .before .before .before .before .before .before .before .before .before .before .before .before .before .before
+    .before .before .before .before .before .before .before .before .before .before .before .before .before .args in
+    let index-at = c .before .before .before .before .before .before .before .before .before .before .before .before .before .before
+    .before .before .before .before .before .before .before .before .before .before .before .index-at in
+    let is-keyed-next = c .before .before .before .before .before .before .before .before .before .before .before .before
+    .is-keyed-next in
     let put-kin = c .before .before .before .before .put-kin in
-    let link = at16.ensures.0 ∙ ap (λ (b : ℕ). getD args.anchors.now b 0) (index-at .ensures) in (
-      (is-keyed-next.ensures.0, put-kin .ensures .0 .0, put-kin .ensures .0 .1),
+    let if2 = c .before .before .before .before .before .before .before .before .before .before .before .before .before .before .before
+    .before .before .before .before .before .before .before .before .if2 in
+    let link = at16.ensures.0 ∙ ap (λ (b : ℕ). getD args.anchors.now b 0) index-at.ensures in (
+      (is-keyed-next.ensures.0.0, is-keyed-next.ensures.0.1, put-kin.ensures.0.0, put-kin.ensures.0.1),
       (
-        put-kin .ensures .1,
-        λ F keyed settled anchored step marked olds kins hx.
-            let (same, kept) = is-keyed-next.ensures.1.0 F keyed
+        put-kin.ensures.1,
+        λ F equipped settled anchored step marked olds kins hx.
+            let (same, kept) = is-keyed-next.ensures.1.0 F equipped
             (anchor-of (next F args.names.now) args.n args.old.now args.stirred.now args.anchors.now anchored args.x
             at16.result link if2.left .below) hx in (
               same ∙ sym (joined-some (next F args.names.now) args.n args.old.now args.stirred.now args.anchors.now
@@ -199,4 +215,5 @@ is-joined-spec =
     same-length-3
     same-length-4
     same-length-5
+    same-length-6
     returns-5)
