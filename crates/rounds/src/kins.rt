@@ -1,5 +1,6 @@
 // Kins: earlier items that stand for others. What was found of a kin holds of every item that is plainly alike to it, and is not worked
-// out again. Items of one block may have their edges in different orders, and a kin stands for one order: kins are found by a sign of it.
+// out again. Items of one block may have different edges, or have them lead elsewhere, and a kin stands for one set of edges: kins are found
+// by a sign of it.
 ghost use Prim.Native.Nat.{ℕ, suc, _+_, _<_};
 ghost use mathlib.Core.Path.{_≡_};
 ghost use lib.ListN.{length};
@@ -16,11 +17,14 @@ use comparison::open_edge;
 use comparison::target_of;
 
 // How many kins of one sign are tried for an item. Only the speed depends on it.
-const KIN_COUNT: usize = 8;
+const KIN_COUNT: usize = 3;
 
 const SIGN_PRIME: usize = 4093;
 
 const SIGN_BASE: usize = 37;
+
+// How far apart in the table the edges are that count in a sign by where they lead. All count by their numbers.
+const SIGN_STEP: usize = 8;
 
 // Takes an edge of item x into a sign: its action, and the weight and the block of each of its branches. Each branch counts by its place,
 // so that another order gives another sign as a rule.
@@ -50,9 +54,30 @@ fn sign_edge(
     sum % SIGN_PRIME
 }
 
-// The sign of item x: a number of its available edges, from the last down, under which its kins are found. Items that are plainly alike
-// have the same; others seldom do, but for those that differ in their delays or denominators alone. Nothing is said of it, and only the
-// speed depends on it.
+// Takes an edge of item x into a sign by its number, and every eighth one also by where it leads: that of each edge would take as long as
+// to compare it.
+fn sign_one(
+    x: usize,
+    e: usize,
+    names: &[u64],
+    resets: &[u16],
+    spots: &[u16],
+    rows: &[u16],
+    sign: usize,
+) -> usize
+    requires { ⌜ (e < 128) × (sign < 4096) ⌝ }
+    ensures { λ r. ⌜ r < 4096 ⌝ }
+{
+    let numbered = (sign * SIGN_BASE + e) % SIGN_PRIME;
+    if e % SIGN_STEP == 0 {
+        return sign_edge(x, e, names, resets, spots, rows, numbered);
+    }
+    numbered
+}
+
+// The sign of item x: a number of its available edges, from the last down, under which its kins are found. Items that are plainly alike by
+// the same edges have the same; others seldom do, but for those that differ in their delays, or in where edges lead that do not count.
+// Nothing is said of it, and only the speed depends on it.
 pub(crate) fn sign_of(
     k: usize,
     x: usize,
@@ -70,7 +95,7 @@ pub(crate) fn sign_of(
     let mut sign = 0;
     let mut e = open_edge(x, k, flags);
     while 0 < e {
-        sign = sign_edge(x, e - 1, names, resets, spots, rows, sign);
+        sign = sign_one(x, e - 1, names, resets, spots, rows, sign);
         e = open_edge(x, e - 1, flags);
     }
     sign

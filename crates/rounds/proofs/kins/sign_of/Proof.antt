@@ -20,23 +20,26 @@ open-edge-requires c κs = search needs
 
 loop-holds : tie.Need-loop-holds Inv-loop μ-loop
 loop-holds c =
-    let args = c .before .before .before .before .before .before .before .args in (
+    let open-edge = c .open-edge in
+    let args = c .before .before .before .before .before .before .before .args in
+    let if1 = c .before .if1 in (
       omega arith,
       omega (
         arith,
-        (c .open-edge) .ensures,
-        edge-most (args .flags .now) (args .x) (args .k),
-        (c .before .if1) .left,
+        open-edge .ensures,
+        edge-most args.flags.now args.x args.k,
+        if1 .left,
       ),
     )
 
-sub-sign-edge : tie.Need-sub-sign-edge Inv-loop μ-loop
-sub-sign-edge c = search needs
+sub-sign-one : tie.Need-sub-sign-one Inv-loop μ-loop
+sub-sign-one c = search needs
 
-sign-edge-requires : tie.Need-sign-edge-requires Inv-loop μ-loop
-sign-edge-requires c κs =
+sign-one-requires : tie.Need-sign-one-requires Inv-loop μ-loop
+sign-one-requires c κs =
     let loop = c .before .loop in
-    (omega (arith, loop .inv .1, (c .loop-test) .taken), loop .inv .0)
+    let loop-test = c .loop-test in
+    (omega (arith, loop.inv.1, loop-test .taken), loop.inv.0)
 
 sub-open-edge : tie.Need-sub-open-edge Inv-loop μ-loop
 sub-open-edge c = search needs
@@ -46,27 +49,32 @@ open-edge-requires-2 c κs = search needs
 
 loop-less : tie.Need-loop-less Inv-loop μ-loop
 loop-less c =
+    let open-edge2 = c .open-edge2 in
     let args = c .before .before .before .before .before .before .before .before .before .before .before .args in
     let loop = c .before .before .before .loop in
     let loop-test = c .before .before .loop-test in
-    omega (arith, (c .open-edge2) .ensures, edge-most (args .flags .now) (args .x) (loop .e - 1), loop-test .taken)
+    omega (arith, open-edge2 .ensures, edge-most args.flags.now args.x (loop.e - 1), loop-test.taken)
 
 loop-again : tie.Need-loop-again Inv-loop μ-loop
 loop-again c =
+    let sign-one = c .before .sign-one in
+    let open-edge2 = c .open-edge2 in
     let args = c .before .before .before .before .before .before .before .before .before .before .before .args in
     let loop = c .before .before .before .loop in (
-      (c .before .sign-edge) .ensures,
+      sign-one .ensures,
       omega (
         arith,
-        (c .open-edge2) .ensures,
-        edge-most (args .flags .now) (args .x) (loop .e
+        open-edge2 .ensures,
+        edge-most args.flags.now args.x (loop.e
             - 1),
-        loop .inv .1,
+        loop.inv.1,
       ),
     )
 
 returns-2 : tie.Need-returns-2 Inv-loop μ-loop
-returns-2 c = (c .before .loop) .inv .0
+returns-2 c =
+    let loop = c .before .loop in
+    loop .inv .0
 
 pub sign-of-spec : {M : Type 1} → statement M
 sign-of-spec =
@@ -77,8 +85,8 @@ sign-of-spec =
     returns
     open-edge-requires
     loop-holds
-    sub-sign-edge
-    sign-edge-requires
+    sub-sign-one
+    sign-one-requires
     sub-open-edge
     open-edge-requires-2
     loop-less
