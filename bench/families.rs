@@ -44,6 +44,8 @@ pub fn all() -> Vec<Family> {
         family("positions, two laps", positions_two_laps(60)),
         family("doubles", doubles(60, 38)),
         family("doubles, two laps", doubles_two_laps(60, 34)),
+        family("doubles, parted", doubles_parted(60, 33)),
+        family("equal signs", equal_signs(60, 12, 36)),
     ]
 }
 
@@ -690,6 +692,47 @@ fn doubles(hubs: u8, edges: u16) -> Model {
 /// The same with two laps.
 fn doubles_two_laps(hubs: u8, edges: u16) -> Model {
     with_two_laps(hubs, &with_doubles(&to_both_laps(hubs, edges), &position_guards()))
+}
+
+/// The same in two blocks that take turns from region to region: an edge of its own tells those of one block. So an item is seldom compared
+/// with the one that the item before it was compared with.
+fn doubles_parted(hubs: u8, edges: u16) -> Model {
+    let guards = position_guards();
+    let mut lists = with_doubles(&to_both_laps(hubs, edges), &guards);
+    lists.push((&[(1, LESS, 2)], vec![vec![(1, 0, 15)]]));
+    with_two_laps(hubs, &lists)
+}
+
+/// An edge with another last weight, so that the weights times 11 · 961^i, where i is the branch, have a sum that 4,093 divides.
+fn without_sum(branches: &[Branch]) -> Vec<Branch> {
+    let factors: Vec<u64> = std::iter::successors(Some(11), |factor| Some(factor * 961 % 4093)).take(branches.len()).collect();
+    let (&(_, target, mask), others) = branches.split_last().expect("an edge has branches");
+    let sum: u64 = others.iter().zip(&factors).map(|(branch, factor)| u64::from(branch.0) * factor).sum();
+    let last = (1..4093).find(|&weight| (sum + weight * factors[others.len()]) % 4093 == 0).expect("a prime has inverses");
+    let mut all = others.to_vec();
+    all.push((last as u16, target, mask));
+    all
+}
+
+/// Made against a sign of an item that is a sum of the weights and blocks of its edges: all regions have the same sign, but few the same
+/// edges. For each of `groups` guards there is an edge, and where the guard does not hold one with weights twice as large, which
+/// adds the same to the sign (`without_sum`). After them stand `edges` that all regions have; the last ones are two equal edges,
+/// of which a region has one, so that a quick look at the last place where two regions differ says nothing.
+fn equal_signs(hubs: u8, groups: usize, edges: usize) -> Model {
+    let guards = position_guards();
+    let all: Vec<Vec<Branch>> = to_both_laps(hubs, (groups + edges + 1) as u16).iter().map(|branches| without_sum(branches)).collect();
+    let twice = |branches: &[Branch]| branches.iter().map(|&(weight, target, mask)| (2 * weight, target, mask)).collect();
+    let mut lists: Vec<(&[Guard], Vec<Vec<Branch>>)> = Vec::new();
+    for (group, branches) in all[..groups].iter().enumerate() {
+        let [one, opposite] = &guards[group * guards.len() / groups];
+        lists.push((std::slice::from_ref(one), vec![branches.clone()]));
+        lists.push((std::slice::from_ref(opposite), vec![twice(branches)]));
+    }
+    lists.push((&[], all[groups..groups + edges].to_vec()));
+    for guard in &guards[guards.len() / 2] {
+        lists.push((std::slice::from_ref(guard), vec![all[groups + edges].clone()]));
+    }
+    with_two_laps(hubs, &lists)
 }
 
 /// Eight ends from location `first_end` on, and `edges` edges to them with equal shares, but no two with the same weights. The first one is

@@ -38,7 +38,7 @@
  * Memory. The library takes none but the stack. How much of it is measured (x86-64, Linux), not proved (KB are 1,024 bytes):
  *
  *   terkwabu_graph, terkwabu_place                     32 KB
- *   terkwabu_reduce, terkwabu_pair, terkwabu_judge     1,460 KB
+ *   terkwabu_reduce, terkwabu_pair, terkwabu_judge     1,464 KB
  *   terkwabu_part                                      112 KB
  *   terkwabu_refusal_line                              4 KB
  *
