@@ -151,13 +151,17 @@ pub record Keyed (F : Finite) (n k : ℕ) (names keys labels nexts flags resets 
   pub below : Below n names
   pub keyed : Known n k names keys nexts flags resets spots rows
 
--- A shelf keeps the codes of one item's edges from comparison to comparison. After them stands the number after that item, and 0 where
--- no codes are kept.
+-- A shelf keeps the codes of one item's edges from comparison to comparison, each at the place of its edge. At place 128 stands the number
+-- after that item, and 0 where no codes are kept.
 abbrev pub Shelved : (k : ℕ) → (list flags resets spots rows shelf : List ℕ) → Type 0
 Shelved k list flags resets spots rows shelf =
     (mostEdges < length shelf) × ((x : ℕ) → getD shelf mostEdges 0 ≡ suc x → Coded k x list flags resets spots rows shelf)
 
--- The same with a shelf.
+-- What stands past these places stays.
+abbrev pub KeptPast : (shelf shelf′ : List ℕ) → Type 0
+KeptPast shelf shelf′ = (i : ℕ) → mostEdges < i → getD shelf′ i 0 ≡ getD shelf i 0
+
+-- What comparisons with a shelf go by.
 pub record Equipped (F : Finite) (n k : ℕ) (names keys shelf labels nexts flags resets spots rows : List ℕ) : Type 0 where
   pub keyed : Keyed F n k names keys labels nexts flags resets spots rows
   pub shelved : Shelved k names flags resets spots rows shelf

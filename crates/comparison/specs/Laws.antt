@@ -4,7 +4,7 @@
 --   Open      going from one available edge to the one before
 --   Down      loops that go over the available edges of an item from the last down
 --   Keys      items that the next round relates have equal keys
---   Codes     edges are matched by their codes
+--   Codes     edges are matched by their codes; the shelf
 --   Twins     items that are plainly alike are related in the next round
 --   KeyLoops  what the loops that compute keys keep
 --   Keyed     comparing by keys

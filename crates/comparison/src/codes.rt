@@ -1,5 +1,6 @@
 // Codes of edges: a number for each edge at an item under a block list, of its action and of where it leads. Edges that are alike have
-// equal codes, so that an answer to an edge is looked for among the edges of its code alone.
+// equal codes, so that an answer to an edge is looked for among the edges of its code alone. The codes of one item stay on a shelf from
+// comparison to comparison, and an edge that is paired with itself has one code at both items.
 ghost use Prim.Native.Nat.{ℕ, _≤_, _<_};
 ghost use mathlib.Core.Path.{_≡_};
 ghost use mathlib.Core.Bool.{true, cond, _&&_};
@@ -7,7 +8,8 @@ ghost use lib.ListN.{length, getD, set};
 ghost use Rattle.comparison.specs.Held.{mostItems, mostEdges, countAt, isOpen, Opened};
 ghost use Rattle.comparison.specs.Compare.{Gathered, edgesAlike, answers, someAnswers, edgesAnswered};
 ghost use Rattle.comparison.specs.Keys.{scatter, divisor, shareOf, cube, mixed, isFirstInto, blockCode};
-ghost use Rattle.comparison.specs.Keys.{landedBy, landed, joined, codeOf, Coded, ToldBy, Told, Own, Found, Met, Shelved};
+ghost use Rattle.comparison.specs.Keys.{landedBy, landed, joined, codeOf, Coded, ToldBy, Told, Own, Found, Met};
+ghost use Rattle.comparison.specs.Keys.{Shelved, KeptPast};
 use crate::compare::edges_alike;
 use crate::compare::gather;
 use crate::compare::number_at;
@@ -200,6 +202,7 @@ pub(crate) fn list_codes(
     ensures { λ _. ⌜ ((n : ℕ) → Opened n k (now (flags .entry)) → x < n → mostEdges ≤ length (now (codes .entry))
         → Coded k x (now (list .entry)) (now (flags .entry)) (now (resets .entry)) (now (spots .entry)) (now (rows .entry))
         (now (codes .exit))) ⌝ }
+    ensures { λ _. ⌜ ((i : ℕ) → k ≤ i → getD (now (codes .exit)) i 0 ≡ getD (now (codes .entry)) i 0) ⌝ }
 {
     let mut e = open_below(x, k, flags);
     while 0 < e {
@@ -286,8 +289,8 @@ fn is_own_pair(
     is_paired(x, e, y, e, list, resets, spots, rows)
 }
 
-// The code of edge e at item y. Where the edge is paired with itself at an item whose codes are given, it is the code there.
-fn own_code(
+// The code of edge e at item y. Where the edge is paired with itself at an item whose codes are given, it is borrowed from there.
+fn borrow_code(
     paired: bool,
     y: usize,
     e: usize,
@@ -351,7 +354,7 @@ pub(crate) fn borrow_codes(
         let paired = is_own_pair(y, e - 1, x, list, flags, resets, spots, rows);
         put64(
             e - 1,
-            own_code(paired, y, e - 1, list, resets, spots, rows, ones),
+            borrow_code(paired, y, e - 1, list, resets, spots, rows, ones),
             codes,
         );
         mark_if(paired, e - 1, own);
@@ -379,16 +382,18 @@ pub(crate) fn shelve(
         (now (shelf .exit))
         × Coded k x (now (list .entry)) (now (flags .entry)) (now (resets .entry)) (now (spots .entry)) (now (rows .entry))
         (now (shelf .exit))) ⌝ }
+    ensures { λ _. ⌜ KeptPast (now (shelf .entry)) (now (shelf .exit)) ⌝ }
 {
-    let owner = (x as u64) + 1;
-    if at64(shelf, 128) == owner {
+    let after = (x as u64) + 1;
+    if at64(shelf, 128) == after {
         return;
     }
     list_codes(k, x, list, flags, resets, spots, rows, shelf);
-    put64(128, owner, shelf);
+    put64(128, after, shelf);
 }
 
-// The number after an edge at y that answers to edge e at x, and 0 where there is none: the same edge, where it is marked as its own pair.
+// The number after an edge at y that answers to edge e at x, and 0 where there is none. Where edge e is marked as its own pair, it is
+// itself the answer.
 fn seek_answer(
     k: usize,
     x: usize,

@@ -9,7 +9,7 @@ ghost use lib.ListN.{length, getD, set};
 ghost use Rattle.bisimulation.specs.Finite.{someBelow};
 ghost use Rattle.comparison.specs.Held.{mostItems, mostEdges, Opened};
 ghost use Rattle.comparison.specs.Keys.{scatter, delayRoom, delayMark, delayKey, edgeKey, keyOf, Known, Coded, Told, Own, Shelved};
-ghost use Rattle.comparison.specs.Keys.{AskedFor, Forgotten, keysAfter};
+ghost use Rattle.comparison.specs.Keys.{KeptPast, AskedFor, Forgotten, keysAfter};
 ghost use Rattle.comparison.specs.Laws.KeyLoops.{Clear, hasCode};
 use crate::codes::borrow_codes;
 use crate::codes::scatter_of;
@@ -143,7 +143,7 @@ fn key_by(
     edges * 65536 + delays_key(n, x, list, nexts) + 1
 }
 
-// The key of item x, which is stored where it was not known.
+// The key of item x, which is stored where it was not known. The codes that it is computed of are put on the shelf.
 pub(crate) fn known_key(
     n: usize,
     k: usize,
@@ -171,7 +171,7 @@ pub(crate) fn known_key(
         (now (resets .entry)) (now (spots .entry)) (now (rows .entry))
         × Shelved k (now (names .entry)) (now (flags .entry)) (now (resets .entry)) (now (spots .entry)) (now (rows .entry))
         (now (shelf .exit))) ⌝ }
-    ensures { λ _. ⌜ AskedFor x (now (keys .entry)) (now (keys .exit)) ⌝ }
+    ensures { λ _. ⌜ AskedFor x (now (keys .entry)) (now (keys .exit)) × KeptPast (now (shelf .entry)) (now (shelf .exit)) ⌝ }
 {
     let old = at64(keys, x);
     if old != 0 {
@@ -183,8 +183,8 @@ pub(crate) fn known_key(
     key
 }
 
-// The key of item y is computed and stored. The codes of the edges of x are put on the shelf; those of y are left in `codes`, and the edges
-// that are their own pairs are marked in `own`.
+// The key of item y is computed and stored. The codes of the edges of x are put on the shelf, unless they are there; those of y are left in
+// `codes`, and the edges that are their own pairs are marked in `own`.
 pub(crate) fn coded_key(
     n: usize,
     k: usize,
@@ -203,7 +203,8 @@ pub(crate) fn coded_key(
 ) -> u64
     requires { ⌜ (k ≤ mostEdges) × (x < mostItems) × (y < mostItems) ⌝ }
     ensures { λ r. ⌜ (now (keys .exit) ≡ set (now (keys .entry)) y r) × (length (now (shelf .exit)) ≡ length (now (shelf .entry)))
-        × (length (now (codes .exit)) ≡ length (now (codes .entry))) × (length (now (own .exit)) ≡ length (now (own .entry))) ⌝ }
+        × (length (now (codes .exit)) ≡ length (now (codes .entry))) × (length (now (own .exit)) ≡ length (now (own .entry)))
+        × KeptPast (now (shelf .entry)) (now (shelf .exit)) ⌝ }
     ensures { λ r. ⌜ (Opened n k (now (flags .entry)) → x < n → y < n → mostEdges ≤ length (now (codes .entry))
         → Shelved k (now (names .entry)) (now (flags .entry)) (now (resets .entry)) (now (spots .entry)) (now (rows .entry))
         (now (shelf .entry))

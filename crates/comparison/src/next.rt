@@ -8,7 +8,7 @@ ghost use Rattle.bisimulation.specs.Structures.{Closed};
 ghost use Rattle.bisimulation.specs.Finite.{Finite, structure, related, next};
 ghost use Rattle.comparison.specs.Held.{mostItems, mostEdges, Held, Onward};
 ghost use Rattle.comparison.specs.Compare.{Below, delaysAnswered};
-ghost use Rattle.comparison.specs.Keys.{keyOf, AskedFor, Equipped, BothAsked};
+ghost use Rattle.comparison.specs.Keys.{keyOf, KeptPast, AskedFor, Equipped, BothAsked};
 use crate::codes::borrow_codes;
 use crate::codes::edges_agree;
 use crate::codes::list_codes;
@@ -108,8 +108,8 @@ pub fn is_next(
     )
 }
 
-// Is item y related to item x in the next round? `one` is the key of x; that of y is not known, and becomes known. The codes of x are on the
-// shelf afterwards.
+// Is item y related to item x in the next round? `one` is the key of x; that of y is not known, and becomes known. The codes of x are put
+// on the shelf.
 fn is_newly_keyed_next(
     n: usize,
     k: usize,
@@ -127,7 +127,7 @@ fn is_newly_keyed_next(
 ) -> bool
     requires { ⌜ (k ≤ mostEdges) × (x < mostItems) × (y < mostItems) ⌝ }
     ensures { λ _. ⌜ (length (now (keys .exit)) ≡ length (now (keys .entry)))
-        × (length (now (shelf .exit)) ≡ length (now (shelf .entry))) ⌝ }
+        × (length (now (shelf .exit)) ≡ length (now (shelf .entry))) × KeptPast (now (shelf .entry)) (now (shelf .exit)) ⌝ }
     ensures { λ r. ⌜ ((F : Finite) (labels : List ℕ) → Equipped F n k (now (names .entry)) (now (keys .entry)) (now (shelf .entry)) labels
         (now (nexts .entry)) (now (flags .entry)) (now (resets .entry)) (now (spots .entry)) (now (rows .entry)) → x < n → y < n
         → one ≡ keyOf n k (now (names .entry)) (now (nexts .entry)) (now (flags .entry)) (now (resets .entry)) (now (spots .entry))
@@ -177,10 +177,11 @@ fn is_newly_keyed_next(
 
 // Is item y related to item x in the next round? Where the key of y is not known, the two may be plainly alike; else different keys say
 // that it is not. Only the keys of x and y may become known, and a key that is known stays. The codes of x may be put on the shelf, so that
-// they are there when the next item is compared with x. Numbers that are not below n are never related, and no key becomes known then, nor
-// does the shelf change. Which of the two become known otherwise and whose codes are on the shelf, and keys, shelf and answer where the
-// slices hold no closed structure, a name is 4,096 or more, a key or a code that stands there is wrong or the shelf has no room for 129
-// numbers, are choices of the code.
+// they need not be computed when another item is compared with x. Numbers that are not below n are never related, and no key becomes known
+// then, nor does the shelf change; the same holds for keys and shelf where the shelf has no room for 129 numbers, and the two are compared
+// without them. Which of the two keys become known otherwise, whose codes are on the shelf then and what stands beside them are choices of
+// the code. So are keys, shelf and answer where the slices hold no closed structure, a name is 4,096 or more, or a key or a code that
+// stands there is wrong.
 pub fn is_keyed_next(
     n: usize,
     k: usize,
@@ -197,7 +198,7 @@ pub fn is_keyed_next(
     shelf: &mut [u64],
 ) -> bool
     ensures { λ _. ⌜ (length (now (keys .exit)) ≡ length (now (keys .entry)))
-        × (length (now (shelf .exit)) ≡ length (now (shelf .entry))) ⌝ }
+        × (length (now (shelf .exit)) ≡ length (now (shelf .entry))) × KeptPast (now (shelf .entry)) (now (shelf .exit)) ⌝ }
     ensures { λ r. ⌜ ((F : Finite) → Equipped F n k (now (names .entry)) (now (keys .entry)) (now (shelf .entry)) (now (labels .entry))
         (now (nexts .entry)) (now (flags .entry)) (now (resets .entry)) (now (spots .entry)) (now (rows .entry))
         → x < n → y < n → (r ≡ next F (now (names .entry)) x y)
@@ -206,9 +207,17 @@ pub fn is_keyed_next(
     ensures { λ r. ⌜ BothAsked x y (now (keys .entry)) (now (keys .exit))
         × (n ≤ x → (r ≡ false) × (now (keys .exit) ≡ now (keys .entry)) × (now (shelf .exit) ≡ now (shelf .entry)))
         × (n ≤ y → (r ≡ false) × (now (keys .exit) ≡ now (keys .entry)) × (now (shelf .exit) ≡ now (shelf .entry))) ⌝ }
+    ensures { λ r. ⌜ (length (now (shelf .entry)) ≤ mostEdges → (now (keys .exit) ≡ now (keys .entry))
+        × (now (shelf .exit) ≡ now (shelf .entry))
+        × ((F : Finite) → Held F n k (now (labels .entry)) (now (nexts .entry)) (now (flags .entry)) (now (resets .entry))
+        (now (spots .entry)) (now (rows .entry)) → Closed (structure F) → Below n (now (names .entry))
+        → x < n → y < n → r ≡ next F (now (names .entry)) x y)) ⌝ }
 {
     if !are_items(n, k, x, y) {
         return false;
+    }
+    if shelf.len() < 129 {
+        return is_next(n, k, x, y, names, labels, nexts, flags, resets, spots, rows);
     }
     if at64(keys, y) == 0 {
         if is_twin(n, k, x, y, names, nexts, flags, resets, spots, rows) {

@@ -182,7 +182,7 @@ pub(crate) fn fill_marks(
         × Keyed F n k (now (names .entry)) (now (keys .exit)) (now (labels .entry)) (now (nexts .entry))
         (now (flags .entry)) (now (resets .entry)) (now (spots .entry)) (now (rows .entry))) ⌝ }
 {
-    // The codes of the anchor compared with last, and the number after it.
+    // For the codes of an anchor that items are compared with; empty at first.
     let mut shelf = [0u64; 129];
     let mut older = [0u16; 4096];
     let mut kins = [0u16; 4096];

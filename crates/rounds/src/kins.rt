@@ -1,6 +1,6 @@
 // Kins: earlier items that stand for others. What was found of a kin holds of every item that is plainly alike to it, and is not worked
-// out again. Items of one block may have different edges, or have them lead elsewhere, and a kin stands for one set of edges: kins are found
-// by a sign of it.
+// out again. Items of one block may have different edges, or have them lead elsewhere, and a kin stands for one set of edges and for where
+// they lead: kins are found by a sign of these.
 ghost use Prim.Native.Nat.{ℕ, suc, _+_, _<_};
 ghost use mathlib.Core.Path.{_≡_};
 ghost use lib.ListN.{length};
@@ -54,8 +54,8 @@ fn sign_edge(
     sum % SIGN_PRIME
 }
 
-// Takes an edge of item x into a sign by its number, and every eighth one also by where it leads: that of each edge would take as long as
-// to compare it.
+// Takes an edge of item x into a sign by its number, and one whose number is a multiple of eight also by its action, its weights and where
+// it leads. To do so for every edge would take nearly as long as comparing them.
 fn sign_one(
     x: usize,
     e: usize,
@@ -76,8 +76,9 @@ fn sign_one(
 }
 
 // The sign of item x: a number of its available edges, from the last down, under which its kins are found. Items that are plainly alike by
-// the same edges have the same; others seldom do, but for those that differ in their delays, or in where edges lead that do not count.
-// Nothing is said of it, and only the speed depends on it.
+// the same edges have the same, while those that are alike by edges of other numbers have others as a rule and are not found. Others seldom
+// have the same, but for items that differ in their delays, or in where edges lead whose numbers alone count. Nothing but its bound is
+// promised, and only the speed depends on it.
 pub(crate) fn sign_of(
     k: usize,
     x: usize,

@@ -375,7 +375,7 @@ fn next_round(
         × Keyed F n k (now (names .entry)) (now (keys .exit)) (now (labels .entry)) (now (nexts .entry))
         (now (flags .entry)) (now (resets .entry)) (now (spots .entry)) (now (rows .entry))) ⌝ }
 {
-    // The codes of the leader compared with last, and the number after it.
+    // For the codes of a leader that items are compared with; empty at first.
     let mut shelf = [0u64; 129];
     let mut older = [0u16; 4096];
     let mut kins = [0u16; 4096];

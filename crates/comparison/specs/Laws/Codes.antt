@@ -1,5 +1,6 @@
 -- Edges are matched by their codes: in a closed structure those that answer have the code of the edge that they answer to
--- (`answers-tell`), so that only edges of that code need to be compared with it. Then the test of the next round from its parts.
+-- (`answers-tell`), so that only edges of that code need to be compared with it. Edges that are their own pairs, and the shelf. Then the
+-- test of the next round from its parts.
 use Prim.Native.Nat.{ℕ, suc, _+_, _*_, _-_, _≤_, _<_}
 use native.Mathlib.Omega.{arith}
 use mathlib.Core.Path.{_≡_, refl, sym, _∙_, ap, subst}
@@ -141,7 +142,7 @@ module _ (k : ℕ) (list flags resets spots rows : List ℕ) where
   found-tells x e y r (inr (f, at, below, t)) =
       lt-ltb 0 r (omega (arith, at)) ∙ sym (one-answers k list flags resets spots rows x e y f below t)
 
-  -- What answers at x is answered to there.
+  -- An available edge answers to each edge that answers to it.
   answers-back : (x e y f : ℕ) → isOpen flags x e ≡ true → answers list flags resets spots rows x e y f ≡ true
       → answers list flags resets spots rows y f x e ≡ true
   unfolding answers
@@ -165,7 +166,7 @@ module _ (k : ℕ) (list flags resets spots rows : List ℕ) where
           (one-answers k list flags resets spots rows y f x e h (answers-back x e y f ready t))
       go (inr other) = all g (sym (getD-set-other met f g 1 0 other) ∙ marked)
 
-  -- No edge is marked as its own pair at first. Then an edge available at y may be that answers to itself there.
+  -- No edge is marked as its own pair at first. Then an edge available at y may be marked that answers at x to itself at y.
   pub own-none : (x y n : ℕ) → Own k list flags resets spots rows x y (replicate {A = ℕ} n 0)
   own-none x y n e h t = absurd (omega (arith, sym (zeros-at n e) ∙ t))
 

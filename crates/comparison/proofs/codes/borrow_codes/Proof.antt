@@ -56,11 +56,11 @@ is-own-pair-requires c κs =
 sub-put64 : tie.Need-sub-put64 Inv-loop μ-loop
 sub-put64 c = search needs
 
-sub-own-code : tie.Need-sub-own-code Inv-loop μ-loop
-sub-own-code c = search needs
+sub-borrow-code : tie.Need-sub-borrow-code Inv-loop μ-loop
+sub-borrow-code c = search needs
 
-own-code-requires : tie.Need-own-code-requires Inv-loop μ-loop
-own-code-requires c κs =
+borrow-code-requires : tie.Need-borrow-code-requires Inv-loop μ-loop
+borrow-code-requires c κs =
     let pre = c .before .before .before .before .before .before .before .before .before .before .before .before .pre in
     let loop = c .before .before .loop in
     let loop-test = c .before .loop-test in
@@ -92,14 +92,14 @@ loop-again c =
     let loop-test = c .before .before .before .before .before .before .before .before .before .before .before .loop-test in
     let open-below2 = c .open-below2 in
     let put64 = c .before .before .before .before .before .before .before .put64 in
-    let own-code = c .before .before .before .before .before .before .before .before .before .own-code in
+    let borrow-code = c .before .before .before .before .before .before .before .before .before .borrow-code in
     let mark-if = c .before .before .before .mark-if in
     let is-own-pair = c .before .before .before .before .before .before .before .before .before .before .is-own-pair in
     let pre = c .before .before .before .before .before .before .before .before .before .before .before .before .before .before .before
     .before .before .before .before .before .before .before .pre in
     let below : loop.e - 1 < args.k = omega (arith, loop.inv.0, loop-test.taken) in (
       omega (arith, open-below2.ensures.0, loop.inv.0),
-      ap length put64.ensures ∙ length-set loop.codes (loop.e - 1) own-code.result ∙ loop.inv.1,
+      ap length put64.ensures ∙ length-set loop.codes (loop.e - 1) borrow-code.result ∙ loop.inv.1,
       mark-if.ensures.0 ∙ loop.inv.2,
       λ n opened hx hy room coded told own.
           let (down, own′) = loop.inv.3 n opened hx hy room coded told own in
@@ -107,10 +107,10 @@ loop-again c =
           let answer : is-own-pair.result ≡ true → answers args.list.now args.flags.now args.resets.now args.spots.now args.rows.now
           args.y (loop.e - 1) args.x (loop.e - 1) ≡ true =
           λ t. is-own-pair.ensures t n args.k opened hx below in (
-            rw put64.ensures (kept-on args.k args.y loop.e open-below2.result own-code.result args.list.now args.flags.now
+            rw put64.ensures (kept-on args.k args.y loop.e open-below2.result borrow-code.result args.list.now args.flags.now
                 args.resets.now args.spots.now args.rows.now
                 loop.codes loop-test.taken (omega (arith, loop.inv.0, loop.inv.1, pre.0, room)) down
-                (own-code.ensures (λ t. own-told args.k args.list.now args.flags.now args.resets.now args.spots.now args.rows.now args.x
+                (borrow-code.ensures (λ t. own-told args.k args.list.now args.flags.now args.resets.now args.spots.now args.rows.now args.x
                 args.y (loop.e - 1) args.ones.now coded told below ready (answer t)))
                 (open-below2.ensures.1 n args.k opened hy (omega (arith, loop.inv.0)))),
             rw mark-if.ensures.1 (own-on args.k args.list.now args.flags.now args.resets.now args.spots.now args.rows.now args.x args.y
@@ -149,8 +149,8 @@ borrow-codes-spec =
     sub-is-own-pair
     is-own-pair-requires
     sub-put64
-    sub-own-code
-    own-code-requires
+    sub-borrow-code
+    borrow-code-requires
     put64-requires
     sub-mark-if
     mark-if-requires

@@ -2,7 +2,8 @@
 use Prim.Native.Nat.{ℕ, _-_, _≤_, _<_}
 use native.Mathlib.Omega.{arith}
 use mathlib.Core.Path.{_≡_, refl, _∙_, ap}
-use lib.ListN.{length, length-set}
+use lib.ListN.{length, getD, length-set}
+use lib.Seq.{getD-set-other}
 use Rattle.comparison.specs.Held.{mostEdges, isOpen, Opened}
 use Rattle.comparison.specs.Laws.Down.{Down, down-first, down-over}
 use Rattle.comparison.specs.Laws.KeyLoops.{KeptAt, kept-on}
@@ -15,6 +16,7 @@ Inv-loop k x list flags resets spots rows codes₀ e₀ codes e = (e ≤ k)
     × (length codes ≡ length codes₀)
     × ((n : ℕ) → Opened n k flags → x < n → mostEdges ≤ length codes₀
     → Down (isOpen flags x) (KeptAt x list resets spots rows codes) k e)
+    × ((i : ℕ) → k ≤ i → getD codes i 0 ≡ getD codes₀ i 0)
 
 abbrev μ-loop : tie.MeasureT-loop
 μ-loop k x list flags resets spots rows codes₀ e₀ codes e = e
@@ -32,6 +34,7 @@ loop-holds c =
           down-first (isOpen args.flags.now args.x)
           (KeptAt args.x args.list.now args.resets.now args.spots.now args.rows.now args.codes.now) args.k open-below.result
           (open-below.ensures.1 n args.k opened hx (omega arith)),
+      λ i h. refl,
     )
 
 sub-put64 : tie.Need-sub-put64 Inv-loop μ-loop
@@ -73,6 +76,9 @@ loop-again c =
           args.spots.now
           args.rows.now loop.codes loop-test.taken (omega (arith, loop.inv.0, loop.inv.1, pre.0, room)) (loop.inv.2 n opened hx room)
           code-of.ensures.0 (open-below2.ensures.1 n args.k opened hx (omega (arith, loop.inv.0)))),
+      λ i h.
+          rw put64.ensures (getD-set-other loop.codes (loop.e - 1) i code-of.result 0
+          (λ s. absurd (omega (arith, s, h, loop.inv.0, loop-test.taken))) ∙ loop.inv.3 i h),
     )
 
 same-length : tie.Need-same-length Inv-loop μ-loop
@@ -84,9 +90,12 @@ returns c =
     let args = c .before .before .before .before .before .before .before .before .before .args in
     let loop-test = c .loop-test in (
       loop.inv.1,
-      λ n opened hx room.
-          down-over (isOpen args.flags.now args.x) (KeptAt args.x args.list.now args.resets.now args.spots.now args.rows.now loop.codes)
-          args.k loop.e loop-test.left (loop.inv.2 n opened hx room),
+      (
+        λ n opened hx room.
+            down-over (isOpen args.flags.now args.x) (KeptAt args.x args.list.now args.resets.now args.spots.now args.rows.now loop.codes)
+            args.k loop.e loop-test.left (loop.inv.2 n opened hx room),
+        loop.inv.3,
+      ),
     )
 
 pub list-codes-spec : {M : Type 1} → statement M

@@ -43,9 +43,9 @@ returns c =
     let args = c .before .before .before .before .before .before .before .before .before .before .before .before .before .before
     .before .before .before .before .before .before .before .before .before .before .before .before .before .before .args in
     let key-by = c .before .before .before .before .key-by in (
-      (put64.ensures, shelve.ensures.0, borrow-codes.ensures.0.0, borrow-codes.ensures.0.1),
+      (put64.ensures, shelve.ensures.0, borrow-codes.ensures.0.0, borrow-codes.ensures.0.1, shelve.ensures.1.1),
       λ opened hx hy room shelved told own.
-          let (shelved′, ones) = shelve.ensures.1 args.n opened hx shelved in
+          let (shelved′, ones) = shelve.ensures.1.0 args.n opened hx shelved in
           let (others, own′) = borrow-codes.ensures.1 args.n opened hx hy room ones told own in
           (key-by.ensures args.resets.now args.spots.now args.rows.now opened hy others, shelved′, ones, others, own′),
     )

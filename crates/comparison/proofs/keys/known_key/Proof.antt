@@ -26,7 +26,7 @@ returns c =
           known,
           shelved,
         ),
-        λ z. inl refl,
+        (λ z. inl refl, λ i h. refl),
       ),
     )
 
@@ -62,14 +62,14 @@ returns-2 c =
       (ap length put64.ensures ∙ length-set args.keys.now args.x key-by.result, shelve.ensures.0),
       (
         λ opened hx known shelved.
-            let (shelved′, coded) = shelve.ensures.1 args.n opened hx shelved in
+            let (shelved′, coded) = shelve.ensures.1.0 args.n opened hx shelved in
             let key = key-by.ensures args.resets.now args.spots.now args.rows.now opened hx coded in (
               key,
               rw put64.ensures (known-new args.n args.k args.names.now args.keys.now args.nexts.now args.flags.now args.resets.now
                   args.spots.now args.rows.now known args.x key-by.result key),
               shelved′,
             ),
-        rw put64.ensures (asked-put args.x key-by.result args.keys.now (sym at64.ensures ∙ if1.left)),
+        (rw put64.ensures (asked-put args.x key-by.result args.keys.now (sym at64.ensures ∙ if1.left)), shelve.ensures.1.1),
       ),
     )
 

@@ -33,7 +33,11 @@ returns c =
     let args = c .before .before .before .before .before .before .before .before .before .before .before .before .before .before
     .before .before .before .before .before .before .args in
     let if1 = c .if1 in (
-      (ap length coded-key.ensures.0.0 ∙ length-set args.keys.now args.y coded-key.result, coded-key.ensures.0.1),
+      (
+        ap length coded-key.ensures.0.0 ∙ length-set args.keys.now args.y coded-key.result,
+        coded-key.ensures.0.1,
+        coded-key.ensures.0.4,
+      ),
       (
         λ F labels equipped hx hy one.
             let keyed = equipped .keyed in
@@ -70,7 +74,11 @@ returns-2 c =
     .before .before .before .before .before .before .before .before .args in
     let may-be-next = c .before .may-be-next in
     let if2 = c .if2 in (
-      (ap length coded-key.ensures.0.0 ∙ length-set args.keys.now args.y coded-key.result, coded-key.ensures.0.1),
+      (
+        ap length coded-key.ensures.0.0 ∙ length-set args.keys.now args.y coded-key.result,
+        coded-key.ensures.0.1,
+        coded-key.ensures.0.4,
+      ),
       (
         λ F labels equipped hx hy one.
             let keyed = equipped .keyed in
@@ -120,7 +128,11 @@ returns-3 c =
     let edges-agree = c .edges-agree in
     let may-be-next = c .before .before .before .before .before .may-be-next in
     let if2 = c .before .before .before .before .if2 in (
-      (ap length coded-key.ensures.0.0 ∙ length-set args.keys.now args.y coded-key.result, coded-key.ensures.0.1),
+      (
+        ap length coded-key.ensures.0.0 ∙ length-set args.keys.now args.y coded-key.result,
+        coded-key.ensures.0.1,
+        coded-key.ensures.0.4,
+      ),
       (
         λ F labels equipped hx hy one.
             let keyed = equipped .keyed in

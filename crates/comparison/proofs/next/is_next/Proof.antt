@@ -95,7 +95,7 @@ returns-3 c =
     let if2 = c .before .before .before .before .before .before .before .before .before .before .before .before .before .if2 in
     let items = not-false are-items.result if1.left in (
       λ F held closed below hx hy.
-          let ones = list-codes.ensures.1 args.n (held .opened) hx (omega (arith, length-replicate {A = ℕ} 128 0)) in
+          let ones = list-codes.ensures.1.0 args.n (held .opened) hx (omega (arith, length-replicate {A = ℕ} 128 0)) in
           let back = (answers-tell F args.n args.k args.list.now args.labels.now args.nexts.now args.flags.now args.resets.now
           args.spots.now args.rows.now held closed args.y args.x hy hx) in
           let (others, own) = borrow-codes.ensures.1 args.n (held .opened) hx hy (omega (arith, length-replicate {A = ℕ} 128 0)) ones

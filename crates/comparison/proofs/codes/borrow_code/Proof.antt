@@ -1,8 +1,8 @@
--- `own_code` meets its contract. Assumes nothing.
+-- `borrow_code` meets its contract. Assumes nothing.
 use mathlib.Core.Path.{_∙_}
 use borrow.Author.Needs.{needs}
-use Rattle.comparison.proofs.codes.own_code.Statement.{statement}
-use Rattle.comparison.proofs.codes.own_code.Tie as tie
+use Rattle.comparison.proofs.codes.borrow_code.Statement.{statement}
+use Rattle.comparison.proofs.codes.borrow_code.Tie as tie
 
 at64-requires : tie.Need-at64-requires
 at64-requires c κs = search needs
@@ -21,5 +21,5 @@ returns-2 c =
     let code-of = c .code-of in
     λ given. code-of.ensures.0
 
-pub own-code-spec : {M : Type 1} → statement M
-own-code-spec = tie.close (tie.spec at64-requires returns code-of-requires returns-2)
+pub borrow-code-spec : {M : Type 1} → statement M
+borrow-code-spec = tie.close (tie.spec at64-requires returns code-of-requires returns-2)
