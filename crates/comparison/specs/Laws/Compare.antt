@@ -59,23 +59,10 @@ module _ (list flags resets spots rows : List ℕ) where
   answered-on k x y e t = rw t refl
 
 module _ (n k : ℕ) (list nexts flags resets spots rows : List ℕ) (x y : ℕ) where
-  pub matched-fails : delaysAnswered n list nexts x y ≡ false → answered n k list nexts flags resets spots rows x y ≡ false
-  unfolding answered
-  matched-fails t = rw t refl
-
   pub matched-on : delaysAnswered n list nexts x y ≡ true
       → answered n k list nexts flags resets spots rows x y ≡ edgesAnswered k list flags resets spots rows x y
   unfolding answered
   matched-on t = rw t refl
-
-  pub next-apart : related list x y ≡ false → nextIn n k list nexts flags resets spots rows x y ≡ false
-  unfolding nextIn
-  next-apart t = rw t refl
-
-  pub next-fails : related list x y ≡ true → answered n k list nexts flags resets spots rows x y ≡ false
-      → nextIn n k list nexts flags resets spots rows x y ≡ false
-  unfolding nextIn
-  next-fails t u = rw (t, u) refl
 
   pub next-on : related list x y ≡ true → answered n k list nexts flags resets spots rows x y ≡ true
       → nextIn n k list nexts flags resets spots rows x y ≡ answered n k list nexts flags resets spots rows y x

@@ -67,13 +67,13 @@ scatter-outer v h =
 pub mix-inner : (v : ℕ) → v < mostItems → v * (v * 131 + 524309) ≤ 4343787630
 mix-inner v h = mul-le-mul {n₁ = v} {m₁ = v * 131 + 524309} {n₂ = 4095} {m₂ = 1060754} (omega arith) (omega arith)
 
-pub product-small : (a b : ℕ) → a < 2147483629 → b < 2147483629 → a * b ≤ 4611685932528042384
-product-small a b h k = mul-le-mul {n₁ = a} {m₁ = b} {n₂ = 2147483628} {m₂ = 2147483628} (omega arith) (omega arith)
+pub remainders-small : (a b : ℕ) → a < 2147483629 → b < 2147483629 → a * b ≤ 4611685932528042384
+remainders-small a b h k = mul-le-mul {n₁ = a} {m₁ = b} {n₂ = 2147483628} {m₂ = 2147483628} (omega arith) (omega arith)
 
 pub square-small : (m : ℕ) → (m % 2147483629) * (m % 2147483629) ≤ 4611685932528042384
 square-small m =
     let below = mod-lt m {m = 2147483629} (omega arith) in
-    product-small (m % 2147483629) (m % 2147483629) below below
+    remainders-small (m % 2147483629) (m % 2147483629) below below
 
 -- ---- Delays: blocks are marked along a chain
 

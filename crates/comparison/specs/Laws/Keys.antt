@@ -14,7 +14,7 @@ use Rattle.bisimulation.specs.Finite.{Finite, structure, related, sum, someBelo
 use Rattle.bisimulation.specs.Laws.Tests.{both, clash, fails, same?, same-test, and-iff, cond-iff}
 use Rattle.bisimulation.specs.Laws.Tests.{all-below, some-below, below-some, all-of, any-of, of-any}
 use Rattle.comparison.specs.Held.{Held, mostItems, chain, actionAt, wholeAt, countAt, targetAt, branchesFrom}
-use Rattle.comparison.specs.Compare.{reachesRelated, delaysAnswered, weighed, balanced, balancedOver, edgesAlike}
+use Rattle.comparison.specs.Compare.{reachesRelated, delaysAnswered, weighed, balanced, balancedOver, edgesAlike, numberOf}
 use Rattle.comparison.specs.Held.{isOpen}
 use Rattle.comparison.specs.Compare.{answers, someAnswers, edgeAnswered, edgesAnswered, answered}
 use Rattle.comparison.specs.Keys.{sumBelow, scatter, delayRoom, delayMark, isReached, delayKey, joined, codeOf}
@@ -214,14 +214,14 @@ number-same v a b w z hw hz e =
 
 module _ (list resets spots rows : List ℕ) where
   -- The number of the block that branch i leads to, and the branches.
-  abbrev numberOf : (x e i : ℕ) → ℕ
-  numberOf x e i = getD list (targetAt resets spots rows x e i) 0
+  abbrev leadsTo : (x e i : ℕ) → ℕ
+  leadsTo x e i = numberOf list resets spots rows x e i
 
   abbrev branches : (x e : ℕ) → List (Branch ℕ)
   branches x e = branchesFrom resets spots rows x e 0 (countAt rows e)
 
   -- No weight lands in a block that no branch leads to.
-  into-none : (x e v i more : ℕ) → ((j : ℕ) → j < i + more → eqb (numberOf x e j) v ≡ false)
+  into-none : (x e v i more : ℕ) → ((j : ℕ) → j < i + more → eqb (leadsTo x e j) v ≡ false)
       → into list v (branchesFrom resets spots rows x e i more) ≡ 0
   into-none x e v i zero none = refl
   into-none x e v i (suc more) none =
@@ -233,7 +233,7 @@ module _ (list resets spots rows : List ℕ) where
 
   -- A branch leads to a block with number v.
   abbrev isLed : (x e v : ℕ) → Bool
-  isLed x e v = someHasCode (λ _. true) (numberOf x e) (blockAdds x e) (countAt rows e) v
+  isLed x e v = someHasCode (λ _. true) (leadsTo x e) (blockAdds x e) (countAt rows e) v
 
   led-adds : (x e v : ℕ) → cond (isLed x e v) (blockAdds x e v) 0 ≡ blockAdds x e v
   led-adds x e v = go (both (isLed x e v))
@@ -242,20 +242,20 @@ module _ (list resets spots rows : List ℕ) where
       go (inl t) = rw t refl
       go (inr f) =
           let none : into list v (branches x e) ≡ 0 =
-          into-none x e v 0 (countAt rows e) (λ j h. fails (eqb (numberOf x e j) v)
-          (λ t. clash (below-some (countAt rows e) (λ i. eqb (numberOf x e i) v) j (omega arith) t) f)) in
+          into-none x e v 0 (countAt rows e) (λ j h. fails (eqb (leadsTo x e j) v)
+          (λ t. clash (below-some (countAt rows e) (λ i. eqb (leadsTo x e i) v) j (omega arith) t) f)) in
           rw (f, none) refl
 
   -- The sum over the branches, block by block, where all numbers are below m.
-  landed-blocks : (x e m : ℕ) → ((i : ℕ) → i < countAt rows e → numberOf x e i < m)
+  landed-blocks : (x e m : ℕ) → ((i : ℕ) → i < countAt rows e → leadsTo x e i < m)
       → landed list resets spots rows x e ≡ sumBelow m (blockAdds x e)
   unfolding landed landedBy isFirstInto blockCode weighed
   landed-blocks x e m small =
       sum-agree (countAt rows e) (landedBy list resets spots rows x e)
-      (λ i. cond (isFirst (λ _. true) (numberOf x e) (blockAdds x e) i) (blockAdds x e (numberOf x e i)) 0)
-      (λ i _. ap (λ (s : ℕ). cond (isFirst (λ _. true) (numberOf x e) (blockAdds x e) i) (numberCode (numberOf x e i) s (wholeAt rows e)) 0)
+      (λ i. cond (isFirst (λ _. true) (leadsTo x e) (blockAdds x e) i) (blockAdds x e (leadsTo x e i)) 0)
+      (λ i _. ap (λ (s : ℕ). cond (isFirst (λ _. true) (leadsTo x e) (blockAdds x e) i) (numberCode (leadsTo x e i) s (wholeAt rows e)) 0)
       (sum-into list (targetAt resets spots rows x e i) (branches x e)))
-      ∙ codes-once (λ _. true) (numberOf x e) (blockAdds x e) (countAt rows e) m small
+      ∙ codes-once (λ _. true) (leadsTo x e) (blockAdds x e) (countAt rows e) m small
       ∙ sum-agree m (λ v. cond (isLed x e v) (blockAdds x e v) 0) (blockAdds x e) (λ v _. led-adds x e v)
 
   module _ (x e y f : ℕ) (same : edgesAlike list resets spots rows x e y f ≡ true) where
@@ -277,11 +277,11 @@ module _ (list resets spots rows : List ℕ) where
 
     landed-same : 0 < wholeAt rows e → 0 < wholeAt rows f → landed list resets spots rows x e ≡ landed list resets spots rows y f
     landed-same hw hz =
-        let m = suc (sumBelow (countAt rows e) (numberOf x e) + sumBelow (countAt rows f) (numberOf y f)) in
-        landed-blocks x e m (λ i h. let below = sum-above (countAt rows e) i (numberOf x e) h in omega arith)
+        let m = suc (sumBelow (countAt rows e) (leadsTo x e) + sumBelow (countAt rows f) (leadsTo y f)) in
+        landed-blocks x e m (λ i h. let below = sum-above (countAt rows e) i (leadsTo x e) h in omega arith)
         ∙ sum-agree m (blockAdds x e) (blockAdds y f) (λ v _. number-same v (into list v (branches x e)) (into list v (branches y f))
         (wholeAt rows e) (wholeAt rows f) hw hz (number-balanced v))
-        ∙ sym (landed-blocks y f m (λ i h. let below = sum-above (countAt rows f) i (numberOf y f) h in omega arith))
+        ∙ sym (landed-blocks y f m (λ i h. let below = sum-above (countAt rows f) i (leadsTo y f) h in omega arith))
 
     -- Edges that are alike have equal codes.
     pub code-same : 0 < wholeAt rows e → 0 < wholeAt rows f → codeOf list resets spots rows x e ≡ codeOf list resets spots rows y f
