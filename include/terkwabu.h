@@ -43,7 +43,7 @@
  *   terkwabu_refusal_line                              4 KB
  *
  * bench/stack.c runs each call on a painted stack, on tables up to the longest and with up to 4,096 regions, and prints how deep it went:
- * 25,656, 1,494,672, 96,168 and 200 bytes, rounded up above. The first call into a shared library takes about 3 KB more for the loader.
+ * 25,656, 1,497,104, 96,168 and 200 bytes, rounded up above. The first call into a shared library takes about 3 KB more for the loader.
  * So 2 MB should do for a thread that makes any of the calls. Some systems give threads less if nothing is said. On another system, or
  * with a library built otherwise, measure anew.
  *
