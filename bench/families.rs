@@ -699,7 +699,7 @@ fn doubles_two_laps(hubs: u8, edges: u16) -> Model {
 fn doubles_parted(hubs: u8, edges: u16) -> Model {
     let guards = position_guards();
     let mut lists = with_doubles(&to_both_laps(hubs, edges), &guards);
-    lists.push((&[(1, LESS, 2)], vec![vec![(1, 0, 15)]]));
+    lists.push((&[(1, LESS, 3)], vec![vec![(1, 0, 15)]]));
     with_two_laps(hubs, &lists)
 }
 
