@@ -694,8 +694,8 @@ fn doubles_two_laps(hubs: u8, edges: u16) -> Model {
     with_two_laps(hubs, &with_doubles(&to_both_laps(hubs, edges), &position_guards()))
 }
 
-/// The same in two blocks that take turns from region to region: an edge of its own tells those of one block. So an item is seldom compared
-/// with the one that the item before it was compared with.
+/// The same with one edge more, which only regions with clock 1 below 3 have. It parts the regions of location 1 into 90 blocks, and a region
+/// is seldom of the same block as the one before it. So an item is seldom compared with the one that the item before it was compared with.
 fn doubles_parted(hubs: u8, edges: u16) -> Model {
     let guards = position_guards();
     let mut lists = with_doubles(&to_both_laps(hubs, edges), &guards);
@@ -714,10 +714,10 @@ fn without_sum(branches: &[Branch]) -> Vec<Branch> {
     all
 }
 
-/// Made against a sign of an item that is a sum of the weights and blocks of its edges: all regions have the same sign, but few the same
-/// edges. For each of `groups` guards there is an edge, and where the guard does not hold one with weights twice as large, which
-/// adds the same to the sign (`without_sum`). After them stand `edges` that all regions have; the last ones are two equal edges,
-/// of which a region has one, so that a quick look at the last place where two regions differ says nothing.
+/// Made against a sign of an item that is a sum of the weights and blocks of its edges: all regions of location 1 have the same sign, but
+/// there are 125 sets of edges. For each of `groups` guards there is an edge, and where the guard does not hold one with weights twice as
+/// large, which adds the same to the sign (`without_sum`). After them stand `edges` that all regions have, and last two equal edges, of
+/// which each region has one: between regions with different ones, a quick look at the last place where they differ says nothing.
 fn equal_signs(hubs: u8, groups: usize, edges: usize) -> Model {
     let guards = position_guards();
     let all: Vec<Vec<Branch>> = to_both_laps(hubs, (groups + edges + 1) as u16).iter().map(|branches| without_sum(branches)).collect();
