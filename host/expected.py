@@ -3,10 +3,12 @@
 
 usage: expected.py VECTORS FOLDER [COUNT]
 
-Of each kind of vector COUNT lines are taken (40 if it is not given), half of them refused, spread over the file. Their tables, proposals
-and expected outputs are written into FOLDER; standard output gets one line a run: its name, the exit status, and the arguments of the host.
+Of each call COUNT lines are taken (40 if it is not given), half of them refused, spread over all lines of that call in the files of
+VECTORS. Their tables, proposals and expected outputs are written into FOLDER; standard output gets one line a run: its name, the exit
+status, and the arguments of the host.
 
-The host always lends the most: a vector that is refused because it lends less would get another answer from it, and is left out.
+The host always lends the most: a vector that is refused because it lends less would get another answer from it, and is left out. So is
+one that gives only a SHA-256 of what the host would print.
 """
 
 import json
@@ -45,33 +47,51 @@ def reduce(ask, answer):
     return [], "".join("{}\n".format(line) for line in lines + answer["list1"][:regions])
 
 
-# The command of the host for each kind of vector, and what makes the rest of its arguments and its output of a result.
-KINDS = {"pair": ("pair", pair), "place": ("place", place), "judge": ("judge", judge), "partition": ("reduce", reduce)}
+# The command of the host for each call, and what makes the rest of its arguments and its output of a result. The listing gives its
+# output itself, and the host has no command for the graph.
+COMMANDS = {"pair": ("pair", pair), "place": ("place", place), "judge": ("judge", judge), "partition": ("reduce", reduce)}
+KNOWN_CALLS = {*COMMANDS, "listing", "graph"}
 
 
-def calls(vectors, kind):
-    """The vectors of a kind that the host can be held to: table, arguments, output and status of each, and the proposal or None."""
-    command, text_of = KINDS[kind]
-    for line in open(vectors / (kind + ".jsonl"), encoding="utf-8"):
-        vector = json.loads(line)
-        ask, answer = vector["ask"], vector["answer"]
-        if depends_on_lend(ask, answer) or kind == "partition" and "result" in answer and "list1" not in answer:
+def every_line(vectors):
+    """Reads the lines of all files, which may mix calls: file and line of each, what is asked, and the answer."""
+    for path in sorted(vectors.glob("*.jsonl")):
+        with open(path, encoding="utf-8") as lines:
+            for number, line in enumerate(lines, start=1):
+                vector = json.loads(line)
+                yield "{}, line {}".format(path.name, number), vector["ask"], vector["answer"]
+
+
+def lines_by_call(vectors):
+    """Sorts what is asked, with the answer, by call. Stops at a call that is not known, which would go untested."""
+    found = {call: [] for call in KNOWN_CALLS}
+    for where, ask, answer in every_line(vectors):
+        if ask["call"] not in found:
+            sys.exit("{}: unknown call {}".format(where, ask["call"]))
+        found[ask["call"]].append((ask, answer))
+    return found
+
+
+def runs_of(call, lines):
+    """Yields the lines of a call that the host can be held to: table, arguments, output and status of each, and the proposal or None."""
+    command, text_of = COMMANDS[call]
+    for ask, answer in lines:
+        if depends_on_lend(ask, answer) or call == "partition" and "result" in answer and "list1" not in answer:
             continue
         if "refused" in answer:
-            rest = {"pair": ask.get("asked"), "place": ask.get("state")}.get(kind) or []
+            rest = {"pair": ask.get("asked"), "place": ask.get("state")}.get(call) or []
             yield ask["table"], command, rest, refusal(answer), 1, ask.get("proposal")
         else:
             rest, text = text_of(ask, answer)
             yield ask["table"], command, rest, text, 0, ask.get("proposal")
 
 
-def listings(vectors):
-    """The same of the listings. Those refused with 15 lent 2,048 entries."""
-    for line in open(vectors / "listing.jsonl", encoding="utf-8"):
-        vector = json.loads(line)
-        text = vector["answer"]["text"]
-        if not text.startswith("refused 15 "):
-            yield vector["ask"]["table"], "list", [], text, int(text.startswith("refused")), None
+def runs_of_listings(lines):
+    """Yields the same of the listings. None lends as many entries as the host, so that 15 depends on the lend."""
+    for ask, answer in lines:
+        if "text_sha256" in answer or answer["text"].startswith("refused 15 "):
+            continue
+        yield ask["table"], "list", [], answer["text"], int(answer["text"].startswith("refused")), None
 
 
 def spread(items, count):
@@ -99,11 +119,12 @@ def write_run(folder, name, run):
 
 
 def main(vectors, folder, count=40):
-    runs = {kind: list(calls(vectors, kind)) for kind in KINDS}
-    runs["listing"] = list(listings(vectors))
-    for kind, found in runs.items():
+    lines = lines_by_call(vectors)
+    runs = {call: list(runs_of(call, lines[call])) for call in COMMANDS}
+    runs["listing"] = list(runs_of_listings(lines["listing"]))
+    for call, found in runs.items():
         for i, run in enumerate(some(found, count)):
-            write_run(folder, "{}-{:02}".format(kind, i), run)
+            write_run(folder, "{}-{:02}".format(call, i), run)
 
 
 if __name__ == "__main__":

@@ -35,17 +35,20 @@
  * Threads. A call keeps no pointer and no state, and shares nothing with other calls. Calls may run side by side; while one runs,
  * nobody else may write what it was given, or touch what it may write. Any number of calls may read one table.
  *
- * Memory. The library takes none but the stack. How much of it is measured (x86-64, Linux), not proved (KB are 1,024 bytes):
+ * Memory. The library takes none but the stack. The constants TERKWABU_STACK_GRAPH and so on, one for each call, say how many bytes of it
+ * are enough: for the call, and for a small function that makes it and has the stack to itself. That is measured (x86-64, Linux), not
+ * proved. bench/stack.c runs each call on a painted stack, on tables up to the longest and with up to 4,096 regions, and prints how deep
+ * it went:
  *
- *   terkwabu_graph, terkwabu_place                     32 KB
- *   terkwabu_reduce, terkwabu_pair, terkwabu_judge     1,464 KB
- *   terkwabu_part                                      112 KB
- *   terkwabu_refusal_line                              4 KB
+ *   terkwabu_graph, terkwabu_place                     24,232 bytes
+ *   terkwabu_reduce, terkwabu_pair, terkwabu_judge     1,497,200 bytes
+ *   terkwabu_part                                      96,232 bytes
+ *   terkwabu_refusal_line                              296 bytes
  *
- * bench/stack.c runs each call on a painted stack, on tables up to the longest and with up to 4,096 regions, and prints how deep it went:
- * 25,656, 1,497,104, 96,168 and 200 bytes, rounded up above. The first call into a shared library takes about 3 KB more for the loader.
- * So 2 MB should do for a thread that makes any of the calls. Some systems give threads less if nothing is said. On another system, or
- * with a library built otherwise, measure anew.
+ * Where a process uses memcpy, memset or a call of the shared library for the first time, the loader takes about 3 KB more. The constants
+ * have room for it: host/test makes each call as the first of a process, on a stack of just that size. They have none for what a thread
+ * takes of its stack for itself, and for signals. So 2 MB should do for a thread that makes any of the calls; some systems give threads
+ * less if nothing is said. On another system, or with a library built otherwise, measure anew.
  *
  * Time. It depends on the table. Most models are reduced in some ten milliseconds, tables made to be slow take up to a few
  * seconds (bench/run prints both), and a call cannot be broken off.
@@ -131,6 +134,15 @@ extern "C" {
 /* A buffer of so many bytes is never too short: for a part of a listing, and for a refusal's line. */
 #define TERKWABU_PART_BYTES 65536
 #define TERKWABU_LINE_BYTES 128
+
+/* A stack of so many bytes is enough for the call of that name, as measured: see Memory, above. */
+#define TERKWABU_STACK_GRAPH (32 * 1024)
+#define TERKWABU_STACK_PLACE (32 * 1024)
+#define TERKWABU_STACK_REDUCE (1464 * 1024)
+#define TERKWABU_STACK_PAIR (1464 * 1024)
+#define TERKWABU_STACK_JUDGE (1464 * 1024)
+#define TERKWABU_STACK_PART (112 * 1024)
+#define TERKWABU_STACK_REFUSAL_LINE (4 * 1024)
 
 /* The refusals of the tables above by name. */
 enum terkwabu_refusal {

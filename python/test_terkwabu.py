@@ -26,6 +26,7 @@ from concurrent.futures import ThreadPoolExecutor
 from decimal import Decimal
 from fractions import Fraction
 from pathlib import Path
+from typing import NamedTuple
 from unittest import mock
 
 import terkwabu
@@ -61,11 +62,43 @@ EACH_FUNCTION = [
 ]
 
 
-def vectors(name):
-    """The lines of a file of vectors: what is asked, the table, and the answer."""
-    with open(ROOT / "tests" / "vectors" / f"{name}.jsonl", encoding="utf-8") as lines:
-        rows = [json.loads(line) for line in lines]
-    return [(row["ask"], bytes.fromhex(row["ask"]["table"]), row["answer"]) for row in rows]
+class Vector(NamedTuple):
+    """Holds a line of a file of vectors; messages say where it stands."""
+
+    where: str
+    ask: dict
+    answer: dict
+
+    @property
+    def table(self):
+        return bytes.fromhex(self.ask["table"])
+
+
+def vector_files():
+    """Returns the files by name, so that their lines come in the same order everywhere."""
+    return sorted((ROOT / "tests" / "vectors").glob("*.jsonl"))
+
+
+def vectors_in(path):
+    """Reads each line of a file; the note that some lines have is for people."""
+    with open(path, encoding="utf-8") as lines:
+        for number, line in enumerate(lines, start=1):
+            members = json.loads(line)
+            yield Vector(f"{path.name}, line {number}", members["ask"], members["answer"])
+
+
+def vectors(call):
+    """Returns the lines of a call from every file: a file may mix calls, and its name need not say which."""
+    return [vector for path in vector_files() for vector in vectors_in(path) if vector.ask["call"] == call]
+
+
+def expect_text(test, text, answer):
+    """Compares a listing or a refusal's line with an answer, which gives a long one by its length and SHA-256 only."""
+    if "text" in answer:
+        test.assertEqual(text, answer["text"])
+    else:
+        printed = text.encode("ascii")
+        test.assertEqual((len(printed), hashlib.sha256(printed).hexdigest()), (answer["text_bytes"], answer["text_sha256"]))
 
 
 def sample_models():
@@ -93,10 +126,27 @@ def run_python(program, **environment):
     return subprocess.run([sys.executable, "-c", program], stdout=subprocess.PIPE, stderr=subprocess.PIPE, env=known, text=True)
 
 
-class CallsAgainstVectors(unittest.TestCase):
-    """Each line of each file, with the lengths and fills that it asks for: the answer, and every byte of what was lent.
+class FilesOfVectors(unittest.TestCase):
+    def test_no_file_is_empty(self):
+        for path in vector_files():
+            with self.subTest(file=path.name):
+                self.assertNotEqual(list(vectors_in(path)), [])
 
-    Where a line gives a SHA-256 in place of the bytes, that is compared."""
+    def test_every_call_is_covered(self):
+        """Finds lines that no test would take: CallsAgainstVectors must have a test named after the call."""
+        covered = {name[len("test_") :] for name in unittest.defaultTestLoader.getTestCaseNames(CallsAgainstVectors)}
+        for path in vector_files():
+            for vector in vectors_in(path):
+                with self.subTest(where=vector.where):
+                    self.assertIn(vector.ask["call"], covered)
+
+
+class CallsAgainstVectors(unittest.TestCase):
+    """Makes the call of each line of each file, with the lengths and fills that it asks for, and compares the answer and every byte of
+    what was lent.
+
+    Where a line gives a SHA-256 in place of the bytes, that is compared. Each test is named after its call and says how many lines the
+    call has at least, so that a file that gets lost is noticed."""
 
     def lend_entries(self, ask):
         return terkwabu._Lent(ctypes.c_uint8, ask["entries"], ask["fill"])
@@ -127,12 +177,12 @@ class CallsAgainstVectors(unittest.TestCase):
         expected = (*answer["refused"], 0, 0, 0) if "refused" in answer else (0, 0, *result(answer["result"]))
         self.assertEqual((got.refusal, got.place, got.value, got.blocks, got.rounds), expected)
 
-    def check(self, name, count, one):
-        rows = vectors(name)
-        self.assertEqual(len(rows), count)
-        for line, row in enumerate(rows, start=1):
-            with self.subTest(file=name, line=line):
-                one(*row)
+    def check(self, call, least, one):
+        found = vectors(call)
+        self.assertGreaterEqual(len(found), least)
+        for vector in found:
+            with self.subTest(where=vector.where):
+                one(vector.ask, vector.table, vector.answer)
 
     def one_graph(self, ask, table, answer):
         entries = self.lend_entries(ask)
@@ -179,13 +229,10 @@ class CallsAgainstVectors(unittest.TestCase):
             text = buffer.as_bytes(end.value)
         else:
             text = b"".join(self.parts(table, entries, second, got, buffer))
-        self.assertEqual(text.decode("ascii"), answer["text"])
-
-    def test_table(self):
-        self.check("table", 480, self.one_graph)
+        expect_text(self, text.decode("ascii"), answer)
 
     def test_graph(self):
-        self.check("graph", 160, self.one_graph)
+        self.check("graph", 640, self.one_graph)
 
     def test_partition(self):
         self.check("partition", 160, self.one_partition)
@@ -238,37 +285,38 @@ class FunctionsAgainstVectors(unittest.TestCase):
             for region in regions
         ]
 
-    def expect_regions(self, regions, table, answer):
+    def expect_regions(self, regions, vector):
         """The regions hold what the entries of an answer say, and have as many clocks as the header of the table."""
-        self.assertEqual({len(region.clocks) for region in regions}, {table[1]})
-        if "entries" in answer:
-            held = bytes.fromhex(answer["entries"])
+        self.assertEqual({len(region.clocks) for region in regions}, {vector.table[1]})
+        if "entries" in vector.answer:
+            held = bytes.fromhex(vector.answer["entries"])
             self.assertEqual(self.numbers(regions), [list(held[9 * at : 9 * at + 9]) for at in range(len(regions))])
 
     def test_graph(self):
-        for line, (ask, table, answer) in enumerate(vectors("graph") + vectors("table"), start=1):
-            with self.subTest(line=line):
-                kind, got = self.answer_of(terkwabu.graph, table, entries=self.entries(ask))
-                self.assertIn(kind, answer)
+        for vector in vectors("graph"):
+            with self.subTest(where=vector.where):
+                kind, got = self.answer_of(terkwabu.graph, vector.table, entries=self.entries(vector.ask))
+                self.assertIn(kind, vector.answer)
                 if kind == "refused":
-                    self.assertEqual(got, answer["refused"])
+                    self.assertEqual(got, vector.answer["refused"])
                 else:
-                    self.assertEqual(len(got), answer["result"])
-                    self.expect_regions(got, table, answer)
+                    self.assertEqual(len(got), vector.answer["result"])
+                    self.expect_regions(got, vector)
 
     def test_reduce(self):
         looked = 0
-        for line, (ask, table, answer) in enumerate(vectors("partition"), start=1):
+        for vector in vectors("partition"):
+            answer = vector.answer
             if answer.get("refused") == [16, 0]:
                 continue  # the module lends lists that are never too short
-            with self.subTest(line=line):
-                kind, got = self.answer_of(terkwabu.reduce, table, entries=self.entries(ask))
+            with self.subTest(where=vector.where):
+                kind, got = self.answer_of(terkwabu.reduce, vector.table, entries=self.entries(vector.ask))
                 self.assertIn(kind, answer)
                 if kind == "refused":
                     self.assertEqual(got, answer["refused"])
                 else:
                     self.assertEqual([len(got.regions), got.blocks, got.rounds], answer["result"])
-                    self.expect_regions(got.regions, table, answer)
+                    self.expect_regions(got.regions, vector)
                     self.assertEqual(len(got.block_of), len(got.regions))
                     if "list1" in answer:
                         self.assertEqual(list(got.block_of), answer["list1"][: len(got.regions)])
@@ -277,45 +325,45 @@ class FunctionsAgainstVectors(unittest.TestCase):
 
     def test_pair(self):
         looked = 0
-        for line, (ask, table, answer) in enumerate(vectors("pair"), start=1):
-            if answer.get("refused") == [16, 0]:
+        for vector in vectors("pair"):
+            if vector.answer.get("refused") == [16, 0]:
                 continue
-            with self.subTest(line=line):
-                kind, got = self.answer_of(terkwabu.pair, table, *ask["asked"], entries=self.entries(ask))
-                self.assertEqual(got, answer.get(kind))
+            with self.subTest(where=vector.where):
+                kind, got = self.answer_of(terkwabu.pair, vector.table, *vector.ask["asked"], entries=self.entries(vector.ask))
+                self.assertEqual(got, vector.answer.get(kind))
                 looked += 1
         self.assertGreater(looked, 100)
 
     def test_judge(self):
-        for line, (ask, table, answer) in enumerate(vectors("judge"), start=1):
-            with self.subTest(line=line):
-                kind, got = self.answer_of(terkwabu.judge, table, ask["proposal"], entries=self.entries(ask))
-                self.assertEqual(got, answer.get(kind))
+        for vector in vectors("judge"):
+            with self.subTest(where=vector.where):
+                kind, got = self.answer_of(terkwabu.judge, vector.table, vector.ask["proposal"], entries=self.entries(vector.ask))
+                self.assertEqual(got, vector.answer.get(kind))
 
     def test_place(self):
         """With fractions, which have their least denominator: where the line refuses a larger one, there is nothing to compare."""
         looked = 0
-        for line, (ask, table, answer) in enumerate(vectors("place"), start=1):
-            location, *numbers, denominator = ask["state"]
+        for vector in vectors("place"):
+            location, *numbers, denominator = vector.ask["state"]
             if denominator == 0:
                 continue
             values = [Fraction(number, denominator) for number in numbers]
-            if answer.get("refused") == [20, 0] and math.lcm(*(value.denominator for value in values)) != denominator:
+            if vector.answer.get("refused") == [20, 0] and math.lcm(*(value.denominator for value in values)) != denominator:
                 continue
-            with self.subTest(line=line):
-                kind, got = self.answer_of(terkwabu.place, table, location, values, entries=self.entries(ask))
-                self.assertEqual(got, answer.get(kind))
+            with self.subTest(where=vector.where):
+                kind, got = self.answer_of(terkwabu.place, vector.table, location, values, entries=self.entries(vector.ask))
+                self.assertEqual(got, vector.answer.get(kind))
                 looked += 1
         self.assertGreater(looked, 300)
 
     def test_listing(self):
-        for line, (ask, table, answer) in enumerate(vectors("listing"), start=1):
-            with self.subTest(line=line):
+        for vector in vectors("listing"):
+            with self.subTest(where=vector.where):
                 try:
-                    text = terkwabu.listing(table, entries=ask["lent"])
+                    text = terkwabu.listing(vector.table, entries=vector.ask["lent"])
                 except terkwabu.Refused as refusal:
                     text = refusal.line()
-                self.assertEqual(text, answer["text"])
+                expect_text(self, text, vector.answer)
 
 
 class SampleModels(unittest.TestCase):
@@ -645,24 +693,24 @@ class Threads(unittest.TestCase):
 
     def test_side_by_side(self):
         """Calls of all kinds at once, each with its own answer."""
-        wanted = [row for row in vectors("partition") if row[2].get("refused") != [16, 0]] * 2
+        wanted = [vector for vector in vectors("partition") if vector.answer.get("refused") != [16, 0]] * 2
 
-        def differs(row):
-            ask, table, answer = row
+        def differs(vector):
+            table = vector.table
             try:
-                reduced = terkwabu.reduce(table, entries=min(ask["entries"] // 9, 4096))
+                reduced = terkwabu.reduce(table, entries=min(vector.ask["entries"] // 9, 4096))
                 got = {"result": [len(reduced.regions), reduced.blocks, reduced.rounds]}
                 judged = terkwabu.judge(table, reduced.block_of)
                 placed = terkwabu.place(table, reduced.regions[0].location)
                 listed = int(reduced.listing().split()[3])
                 if (judged, placed, listed) != (True, 0, reduced.blocks):
-                    return ask
+                    return True
             except terkwabu.Refused as refusal:
                 got = {"refused": [refusal.number, refusal.place]}
-            return None if got.items() <= answer.items() else ask
+            return not got.items() <= vector.answer.items()
 
         with ThreadPoolExecutor(8) as pool:
-            self.assertEqual([ask for ask in pool.map(differs, wanted) if ask], [])
+            self.assertEqual([vector.where for vector, wrong in zip(wanted, pool.map(differs, wanted)) if wrong], [])
 
     def test_python_runs_on_meanwhile(self):
         """Other threads of Python get their turns while a call runs."""
@@ -723,11 +771,11 @@ thread.join()
 
     def test_stack_that_is_enough(self):
         """The largest model of the vectors, and one with too many regions, on just the stack that is asked for."""
-        _, table, answer = max(vectors("partition"), key=lambda row: row[2].get("result", [0])[0])
-        regions, blocks, _ = answer["result"]
+        largest = max(vectors("partition"), key=lambda vector: vector.answer.get("result", [0])[0])
+        regions, blocks, _ = largest.answer["result"]
         self.assertGreater(regions, 500)
         took = [f"took {regions}", "took 0", f"took {blocks}", "took True", "refused 17"]
-        self.assertEqual(self.on_a_stack(2048, table), took)
+        self.assertEqual(self.on_a_stack(2048, largest.table), took)
         self.assertEqual(self.on_a_stack(2048, self.SLOW), 5 * ["refused 15"])
 
     def test_main_thread(self):

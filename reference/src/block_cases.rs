@@ -11,7 +11,7 @@ use crate::partition::{self, Answer, Lists, Question};
 use crate::region::ENTRY;
 use crate::rng::Rng;
 use crate::table::Refusal;
-use crate::vectors::{self, Ask, File};
+use crate::vectors::{Ask, Vectors};
 use std::collections::HashSet;
 
 /// The numbers of the calls.
@@ -181,10 +181,10 @@ impl BlockCases {
         }
     }
 
-    /// Adds each distinct line of a file of outside vectors, with what is lent there, held to its answer. Where
+    /// Adds each distinct line of the outside vectors of a call, with what is lent there, held to its answer. If
     /// more bytes are lent than a case may lend, there is still room for every region.
-    pub fn add_vectors(&mut self, folder: &str, file: File) -> Result<(), String> {
-        for vector in vectors::load(folder, file)? {
+    pub fn add_vectors(&mut self, vectors: &Vectors, call: &'static str) -> Result<(), String> {
+        for vector in vectors.of_call(call)? {
             if let Ask::Blocks { question, lists, .. } = &vector.ask {
                 let lent = Lent { entries: vector.lent.min(MOST_LENT), lists: *lists };
                 self.foretold(&vector.table, lent, question, &vector.answer);

@@ -19,7 +19,7 @@ use crate::place_cases;
 use crate::records::Records;
 use crate::rng::Rng;
 use crate::table::{self, Model, Refusal};
-use crate::vectors;
+use crate::vectors::{self, Vectors, GRAPH};
 use std::collections::HashSet;
 use std::fs;
 
@@ -35,6 +35,9 @@ const BUDGET: usize = 2_500_000;
 const WHOLE_BUDGET: usize = 5_000_000;
 /// The fewest cases.
 const FEWEST: usize = 2_500;
+/// The file of vectors that is about exploring. Reading accepts all its tables, and the cases of the graph call
+/// have them.
+const EXPLORING: &str = "graph.jsonl";
 
 pub struct Cases {
     /// The source of chance of the group at hand.
@@ -163,7 +166,7 @@ pub fn in_hex(table: &[u8]) -> String {
 }
 
 /// A call on blocks: its number, the maker of its cases, and their summary.
-type OnBlocks = (u8, fn(&str) -> Result<BlockCases, String>, fn(&BlockCases) -> String);
+type OnBlocks = (u8, fn(&Vectors) -> Result<BlockCases, String>, fn(&BlockCases) -> String);
 
 const ON_BLOCKS: [OnBlocks; 3] = [
     (CALL_PARTITION, partition_cases::make, partition_cases::summary),
@@ -192,39 +195,39 @@ impl Whole {
     }
 }
 
-/// The cases of the reading of tables.
-fn make(vectors_folder: &str) -> Result<Cases, String> {
+/// Makes all cases of the reading of tables.
+fn make(vectors: &Vectors) -> Cases {
     let mut cases = Cases::new();
     generate::add_cases(&mut cases);
     borders::add_cases(&mut cases);
     meetings::add_cases(&mut cases);
     damage::add_cases(&mut cases);
-    add_vectors(&mut cases, vectors_folder)?;
+    add_vectors(&mut cases, vectors);
     cases.check();
-    Ok(cases)
+    cases
 }
 
 /// Makes all cases up to a call. The tables of a folder, if one is given, join those of the listing.
-fn make_all(vectors_folder: &str, highest_call: u8, tables: Option<&str>) -> Result<Whole, String> {
+fn make_all(vectors: &Vectors, highest_call: u8, tables: Option<&str>) -> Result<Whole, String> {
     let mut whole = Whole { count: 0, input: Vec::new(), output: String::new(), summaries: Vec::new() };
-    let cases = make(vectors_folder)?;
+    let cases = make(vectors);
     whole.take(cases.count, &cases.input, &cases.output, cases.summary());
     if highest_call >= graph_cases::CALL_GRAPH {
-        let graph = graph_cases::make(vectors_folder)?;
+        let graph = graph_cases::make(vectors)?;
         whole.take(graph.count, &graph.input, &graph.output, graph.summary());
     }
     if highest_call >= place_cases::CALL_PLACE {
-        let place = place_cases::make(vectors_folder)?;
+        let place = place_cases::make(vectors)?;
         whole.take(place.count, &place.input, &place.output, place.summary());
     }
     for (call, make, summary) in ON_BLOCKS {
         if highest_call >= call {
-            let blocks = make(vectors_folder)?;
+            let blocks = make(vectors)?;
             whole.take(blocks.count, &blocks.input, &blocks.output, summary(&blocks));
         }
     }
     if highest_call >= listing_cases::CALL_LISTING {
-        let listing = listing_cases::make(vectors_folder, tables)?;
+        let listing = listing_cases::make(vectors, tables)?;
         whole.take(listing.count, &listing.input, &listing.output, listing.summary());
     }
     Ok(whole)
@@ -238,7 +241,7 @@ pub fn write(
     highest_call: u8,
     tables: Option<&str>,
 ) -> Result<(), String> {
-    let whole = make_all(vectors_folder, highest_call, tables)?;
+    let whole = make_all(&vectors::load(vectors_folder)?, highest_call, tables)?;
     let input = [(whole.count as u32).to_le_bytes().to_vec(), whole.input].concat();
     assert!(input.len() < WHOLE_BUDGET, "{} bytes of cases in all", input.len());
     fs::write(input_file, input).map_err(|error| format!("{input_file}: {error}"))?;
@@ -249,11 +252,13 @@ pub fn write(
     Ok(())
 }
 
-/// Every distinct table of the outside vectors, held to the vector's answer.
-fn add_vectors(cases: &mut Cases, folder: &str) -> Result<(), String> {
+/// Adds each distinct table of the outside vectors of the graph call, held to the vector's answer, but for the file
+/// about exploring.
+fn add_vectors(cases: &mut Cases, vectors: &Vectors) {
     cases.begin_group(9);
-    for vector in vectors::load(folder, vectors::TABLE_FILE)? {
-        cases.foretold(&vector.table, vector.reading());
+    for file in vectors.files.iter().filter(|file| file.name != EXPLORING) {
+        for vector in file.of_call(GRAPH) {
+            cases.foretold(&vector.table, vector.reading());
+        }
     }
-    Ok(())
 }

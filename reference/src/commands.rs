@@ -10,7 +10,7 @@
 //
 // For FILE "-" stands for standard input.
 
-use crate::{answer, cases, listing, mix, region, speed, table, vectors};
+use crate::{answer, cases, listing, mix, region, speed, table, vector_check};
 use std::fs;
 use std::io::{self, Read, Write};
 
@@ -20,7 +20,7 @@ const USAGE: &str = "usage: reference vectors DIR | cases DIR IN OUT [CALLS [TAB
 /// Carries out a command: whether all agreed, or what stood in the way.
 pub fn run(arguments: &[&str]) -> Result<bool, String> {
     match *arguments {
-        ["vectors", folder] => vectors::check(folder),
+        ["vectors", folder] => vector_check::check(folder),
         ["cases", folder, input, output] => write_cases(folder, input, output, "1", None),
         ["cases", folder, input, output, calls] => write_cases(folder, input, output, calls, None),
         ["cases", folder, input, output, calls, tables] => {

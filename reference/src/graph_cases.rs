@@ -11,7 +11,7 @@ use crate::records::{with_places, Records};
 use crate::region::ENTRY;
 use crate::rng::Rng;
 use crate::table::{self, Model, Refusal};
-use crate::vectors::{self, Vector};
+use crate::vectors::{Vectors, GRAPH};
 use std::collections::HashSet;
 
 /// The number of the graph call.
@@ -174,13 +174,13 @@ pub fn count_of(model: &Model) -> Option<usize> {
 }
 
 /// Makes all cases of the graph call.
-pub fn make(vectors_folder: &str) -> Result<GraphCases, String> {
+pub fn make(vectors: &Vectors) -> Result<GraphCases, String> {
     let mut cases = GraphCases::new();
     graph_borders::add_cases(&mut cases);
     add_by_chance(&mut cases);
     add_without_fractions(&mut cases);
     add_large_tables(&mut cases);
-    add_vectors(&mut cases, vectors_folder)?;
+    add_vectors(&mut cases, vectors)?;
     cases.check();
     Ok(cases)
 }
@@ -270,16 +270,15 @@ fn add_large_tables(cases: &mut GraphCases) {
     }
 }
 
-/// Every distinct table of the outside vectors of the graph call, and those of the vectors about refusals 1
-/// to 13 that get past the reader, with the bytes lent there, held to the vector's answer. Where more bytes
-/// are lent than a case may lend, there is still room for every region that a call may give.
-fn add_vectors(cases: &mut GraphCases, folder: &str) -> Result<(), String> {
+/// Adds each distinct line of the outside vectors of the graph call whose table gets past the reader, with the
+/// bytes lent there, held to the vector's answer. If more bytes are lent than a case may lend, there is still
+/// room for every region that a call may give.
+fn add_vectors(cases: &mut GraphCases, vectors: &Vectors) -> Result<(), String> {
     cases.begin_group(34);
-    let graph = vectors::load(folder, vectors::GRAPH_FILE)?;
-    let table = vectors::load(folder, vectors::TABLE_FILE)?;
-    let past_reader = |vector: &&Vector| vector.reading().is_none();
-    for vector in graph.iter().chain(table.iter().filter(past_reader)) {
-        cases.foretold(&vector.table, vector.lent.min(MOST_LENT), vector.number());
+    for vector in vectors.of_call(GRAPH)? {
+        if vector.reading().is_none() {
+            cases.foretold(&vector.table, vector.lent.min(MOST_LENT), vector.number());
+        }
     }
     Ok(())
 }

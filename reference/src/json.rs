@@ -11,14 +11,6 @@ pub enum Value {
 }
 
 impl Value {
-    /// The member of an object by its name.
-    pub fn member(&self, name: &str) -> Option<&Value> {
-        match self {
-            Value::Object(members) => members.iter().find(|(key, _)| key == name).map(|(_, value)| value),
-            _ => None,
-        }
-    }
-
     pub fn number(&self) -> Option<u64> {
         match self {
             Value::Number(number) => Some(*number),
@@ -37,6 +29,55 @@ impl Value {
         match self {
             Value::List(items) => Some(items),
             _ => None,
+        }
+    }
+}
+
+/// The members of an object that are still to be read. A reader takes those that it knows by their names and asks at
+/// the end whether any is left.
+pub struct Members {
+    /// What a message has before a member's name.
+    prefix: &'static str,
+    left: Vec<(String, Value)>,
+}
+
+impl Members {
+    /// Returns the members of an object, or none for any other value.
+    pub fn of(value: Value, prefix: &'static str) -> Option<Members> {
+        match value {
+            Value::Object(left) => Some(Members { prefix, left }),
+            _ => None,
+        }
+    }
+
+    /// Checks that a member is there and not taken yet.
+    pub fn has(&self, name: &str) -> bool {
+        self.left.iter().any(|(key, _)| key == name)
+    }
+
+    /// Takes a member if it is there.
+    pub fn take(&mut self, name: &str) -> Option<Value> {
+        let index = self.left.iter().position(|(key, _)| key == name)?;
+        Some(self.left.remove(index).1)
+    }
+
+    /// Takes a member that must be there, and reads it. It is an error if `read` finds no such thing there as
+    /// `what` says.
+    pub fn read<T>(
+        &mut self,
+        name: &str,
+        what: &str,
+        read: impl Fn(&Value) -> Option<T>,
+    ) -> Result<T, String> {
+        let value = self.take(name).ok_or_else(|| format!("no {}{name}", self.prefix))?;
+        read(&value).ok_or_else(|| format!("{}{name} is not {what}", self.prefix))
+    }
+
+    /// Checks that no member is left.
+    pub fn end(self) -> Result<(), String> {
+        match self.left.first() {
+            Some((name, _)) => Err(format!("{}{name} is unknown here", self.prefix)),
+            None => Ok(()),
         }
     }
 }
@@ -220,6 +261,9 @@ impl Parser<'_> {
                 return Err(self.trouble("a member without a name"));
             }
             let name = self.string()?;
+            if members.iter().any(|(key, _)| *key == name) {
+                return Err(self.trouble("a name that an earlier member has"));
+            }
             self.blanks();
             if !self.skip(b':') {
                 return Err(self.trouble("a member without a value"));

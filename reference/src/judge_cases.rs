@@ -12,13 +12,13 @@ use crate::proposals::{
     without_labels,
 };
 use crate::rng::Rng;
-use crate::vectors;
+use crate::vectors::{Vectors, JUDGE};
 
 const DEMAND: Demand =
     Demand { fewest: 1_000, budget: 700_000, results: 400, refusals: &[(17, 80), (18, 300)] };
 
 /// Makes all cases of the judging call.
-pub fn make(vectors_folder: &str) -> Result<BlockCases, String> {
+pub fn make(vectors: &Vectors) -> Result<BlockCases, String> {
     let mut cases = BlockCases::new();
     cases.begin_group(81);
     borders(&mut cases);
@@ -31,7 +31,7 @@ pub fn make(vectors_folder: &str) -> Result<BlockCases, String> {
     lengths(&mut cases);
     early_refusals(&mut cases, any_proposal);
     cases.begin_group(85);
-    cases.add_vectors(vectors_folder, vectors::JUDGE_FILE)?;
+    cases.add_vectors(vectors, JUDGE)?;
     cases.check("judging", &DEMAND);
     for (name, times) in causes(&cases) {
         assert!(times >= 25, "only {times} proposals fail {name}");

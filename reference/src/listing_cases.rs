@@ -13,10 +13,10 @@ use crate::listing::{self, ENTRIES_OF_PROGRAM};
 use crate::listing_borders;
 use crate::listing_check::{self, Findings};
 use crate::listing_models::{branching, coloured, many_edges, renamed, wide};
-use crate::listing_vectors;
 use crate::region::ENTRY;
 use crate::rng::Rng;
 use crate::table::{self, Model, Refusal};
+use crate::vectors::{Vectors, LISTING};
 use std::collections::HashSet;
 use std::fs;
 use std::path::PathBuf;
@@ -221,7 +221,7 @@ impl ListingCases {
 }
 
 /// Makes all cases of the listing. The tables of a folder, if one is given, come last.
-pub fn make(vectors_folder: &str, tables: Option<&str>) -> Result<ListingCases, String> {
+pub fn make(vectors: &Vectors, tables: Option<&str>) -> Result<ListingCases, String> {
     let mut cases = ListingCases::new();
     listing_borders::add_cases(&mut cases);
     add_block_borders(&mut cases);
@@ -229,7 +229,7 @@ pub fn make(vectors_folder: &str, tables: Option<&str>) -> Result<ListingCases, 
     add_many_edges(&mut cases);
     add_large_tables(&mut cases);
     add_damaged(&mut cases);
-    add_vectors(&mut cases, vectors_folder)?;
+    add_vectors(&mut cases, vectors)?;
     cases.check();
     if let Some(folder) = tables {
         add_tables(&mut cases, folder)?;
@@ -370,12 +370,15 @@ fn add_damaged(cases: &mut ListingCases) {
     }
 }
 
-/// Every distinct line of the outside vectors, held to its text. Where more bytes are lent than a case may
-/// lend, there is still room for every region that a call may give.
-fn add_vectors(cases: &mut ListingCases, folder: &str) -> Result<(), String> {
+/// Adds each distinct line of the outside vectors of the listing, held to its text. If more bytes are lent than a
+/// case may lend, there is still room for every region that a call may give.
+fn add_vectors(cases: &mut ListingCases, vectors: &Vectors) -> Result<(), String> {
     cases.begin_group(100);
-    for vector in listing_vectors::load(folder)? {
-        cases.foretold(&vector.table, vector.lent.min(MOST_LENT), &vector.text);
+    for vector in vectors.of_call(LISTING)? {
+        let (table, lent) = (&vector.table, vector.lent.min(MOST_LENT));
+        let same = vector.prints(&listing::printed(table, lent));
+        assert!(same, "the table {} is printed otherwise than foretold", in_hex(table));
+        cases.add(table, lent);
     }
     Ok(())
 }

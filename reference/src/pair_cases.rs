@@ -8,13 +8,13 @@ use crate::block_subject::{Lent, Subject};
 use crate::explore::MOST_REGIONS;
 use crate::partition::Question;
 use crate::rng::Rng;
-use crate::vectors;
+use crate::vectors::{Vectors, PAIR};
 
 const DEMAND: Demand =
     Demand { fewest: 1_100, budget: 350_000, results: 600, refusals: &[(16, 60), (19, 150)] };
 
 /// Makes all cases of the pair call.
-pub fn make(vectors_folder: &str) -> Result<BlockCases, String> {
+pub fn make(vectors: &Vectors) -> Result<BlockCases, String> {
     let mut cases = BlockCases::new();
     cases.begin_group(71);
     borders(&mut cases);
@@ -27,7 +27,7 @@ pub fn make(vectors_folder: &str) -> Result<BlockCases, String> {
     beyond(&mut cases);
     early_refusals(&mut cases, any_pair);
     cases.begin_group(75);
-    cases.add_vectors(vectors_folder, vectors::PAIR_FILE)?;
+    cases.add_vectors(vectors, PAIR)?;
     cases.check("pair", &DEMAND);
     assert!(cases.alike >= 200, "only {} pairs that share a block", cases.alike);
     Ok(cases)

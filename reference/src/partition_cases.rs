@@ -8,12 +8,12 @@ use crate::block_subject::{Lent, Subject};
 use crate::explore::MOST_REGIONS;
 use crate::heavy_models;
 use crate::partition::Question;
-use crate::vectors;
+use crate::vectors::{Vectors, PARTITION};
 
 const DEMAND: Demand = Demand { fewest: 800, budget: 300_000, results: 430, refusals: &[(16, 120)] };
 
 /// Makes all cases of the partition call.
-pub fn make(vectors_folder: &str) -> Result<BlockCases, String> {
+pub fn make(vectors: &Vectors) -> Result<BlockCases, String> {
     let mut cases = BlockCases::new();
     cases.begin_group(61);
     borders(&mut cases);
@@ -26,7 +26,7 @@ pub fn make(vectors_folder: &str) -> Result<BlockCases, String> {
     cases.begin_group(64);
     early_refusals(&mut cases, |_| Question::Partition);
     cases.begin_group(65);
-    cases.add_vectors(vectors_folder, vectors::PARTITION_FILE)?;
+    cases.add_vectors(vectors, PARTITION)?;
     cases.check("partition", &DEMAND);
     assert!(cases.above_1 >= 150, "only {} partitions with more than one round", cases.above_1);
     assert!(cases.above_100 >= 3, "only {} partitions with more than 100 rounds", cases.above_100);

@@ -12,7 +12,7 @@ use crate::place_states::{breaks_invariant, check_moves, neighbour, some_region,
 use crate::region::{Clocks, Region, ENTRY};
 use crate::rng::Rng;
 use crate::table::{Model, Refusal};
-use crate::vectors::{self, Ask};
+use crate::vectors::{Ask, Vectors, PLACE};
 use std::collections::HashSet;
 
 /// The number of the state call.
@@ -211,12 +211,12 @@ pub fn some_lent(rng: &mut Rng, exact: usize) -> usize {
 }
 
 /// Makes all cases of the state call.
-pub fn make(vectors_folder: &str) -> Result<PlaceCases, String> {
+pub fn make(vectors: &Vectors) -> Result<PlaceCases, String> {
     let mut cases = PlaceCases::new();
     place_borders::add_cases(&mut cases);
     add_by_chance(&mut cases);
     add_without_clocks(&mut cases);
-    add_vectors(&mut cases, vectors_folder)?;
+    add_vectors(&mut cases, vectors)?;
     cases.check();
     Ok(cases)
 }
@@ -295,11 +295,11 @@ fn add_without_clocks(cases: &mut PlaceCases) {
     }
 }
 
-/// Every distinct line of the outside vectors of the state call, with the bytes lent there, held to the vector's
-/// answer. Where more bytes are lent than a case may lend, there is still room for every region.
-fn add_vectors(cases: &mut PlaceCases, folder: &str) -> Result<(), String> {
+/// Adds each distinct line of the outside vectors of the state call, with the bytes lent there, held to the vector's
+/// answer. If more bytes are lent than a case may lend, there is still room for every region.
+fn add_vectors(cases: &mut PlaceCases, vectors: &Vectors) -> Result<(), String> {
     cases.begin_group(53);
-    for vector in vectors::load(folder, vectors::PLACE_FILE)? {
+    for vector in vectors.of_call(PLACE)? {
         if let Ask::State(state) = vector.ask {
             cases.foretold(&vector.table, vector.lent.min(MOST_LENT), state, vector.number());
         }

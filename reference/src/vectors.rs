@@ -1,315 +1,354 @@
-// The outside test vectors of all calls but the listing: reading them, and holding the calls to them. Those of
-// the listing stand in listing_vectors.rs.
+// The outside test vectors: the files of a folder, line by line, each line read as its call says. The calls are
+// held to them in vector_check.rs.
 
-use crate::explore;
-use crate::json::{self, Value};
-use crate::listing_vectors;
-use crate::partition::{self, Lists, Question};
-use crate::place::{self, State};
+use crate::json::{self, Members, Value};
+use crate::partition::{Answer, Question};
+use crate::place::State;
+use crate::region::ENTRY;
 use crate::sha256::sha256;
 use crate::table::Refusal;
 use std::fs;
-use std::path::Path;
+use std::path::{Path, PathBuf};
 
-/// A file of vectors and the call whose lines count in it.
-#[derive(Clone, Copy)]
-pub struct File {
-    pub name: &'static str,
-    pub call: &'static str,
+/// The calls by their names in the files.
+pub const GRAPH: &str = "graph";
+pub const PLACE: &str = "place";
+pub const PARTITION: &str = "partition";
+pub const PAIR: &str = "pair";
+pub const JUDGE: &str = "judge";
+pub const LISTING: &str = "listing";
+
+/// All vectors of a folder, file by file in the order of their names.
+pub struct Vectors {
+    folder: String,
+    pub files: Vec<File>,
 }
 
-/// The files that hold lines of the graph call: refusals 1 to 13, and the graph.
-pub const TABLE_FILE: File = File { name: "table.jsonl", call: GRAPH };
-pub const GRAPH_FILE: File = File { name: "graph.jsonl", call: GRAPH };
-/// The file that holds lines of the state call.
-pub const PLACE_FILE: File = File { name: "place.jsonl", call: PLACE };
-/// The files that hold lines of the partition call, the pair call and the judging call.
-pub const PARTITION_FILE: File = File { name: "partition.jsonl", call: PARTITION };
-pub const PAIR_FILE: File = File { name: "pair.jsonl", call: PAIR };
-pub const JUDGE_FILE: File = File { name: "judge.jsonl", call: JUDGE };
+/// One file of vectors. Its name has no folder before it.
+pub struct File {
+    pub name: String,
+    pub vectors: Vec<Vector>,
+}
 
-/// The names of the calls in the files.
-const GRAPH: &str = "graph";
-const PLACE: &str = "place";
-const PARTITION: &str = "partition";
-const PAIR: &str = "pair";
-const JUDGE: &str = "judge";
-
-/// One line of one of the calls.
+/// One line: a call, and what must come of it.
 pub struct Vector {
+    /// The number of the line, from 1.
     pub line: usize,
     pub table: Vec<u8>,
     /// How many bytes are lent for entries.
     pub lent: usize,
-    /// What each of them holds before the call.
-    fill: u8,
-    /// What is asked of the table.
+    /// What each of them holds before the call; 0 for the listing, whose lines do not say it.
+    pub fill: u8,
     pub ask: Ask,
-    /// The numbers of the result, or the refusal. Yes is 1 and no is 0.
-    pub answer: Result<Vec<u64>, Refusal>,
-    entries: After,
-    /// What the two block lists hold after the call; the judging call has none.
-    lists: Vec<After>,
+    /// The numbers of the result, or the refusal. Yes is 1 and no is 0. The listing has no numbers and no
+    /// refusal: what it prints is one of the contents.
+    pub answer: Answer,
+    /// What the call leaves in the lent tables, or prints.
+    pub contents: Vec<Content>,
 }
 
-/// What is asked of the table besides its graph: nothing, the region of a state, or one of the three calls on
-/// blocks, with the lengths of the two lists and what each number of them holds before the call.
+/// What is asked of the table: its graph, the region of a state, one of the three calls on blocks with the lengths
+/// of the two lists and what each number of them holds before the call, or the listing.
 pub enum Ask {
     Graph,
     State(State),
     Blocks { question: Question, lists: [usize; 2], fill: u64 },
+    Listing,
 }
 
-/// What lent bytes hold after the call. A list counts as its numbers' bytes, eight a number, low byte first.
-enum After {
-    Bytes(Vec<u8>),
-    Sha256(Vec<u8>),
-}
-
-impl After {
-    fn agrees(&self, bytes: &[u8]) -> bool {
+impl Ask {
+    /// Returns the name of the call in the files.
+    pub fn call(&self) -> &'static str {
         match self {
-            After::Bytes(wanted) => bytes == wanted,
-            After::Sha256(hash) => sha256(bytes)[..] == hash[..],
+            Ask::Graph => GRAPH,
+            Ask::State(_) => PLACE,
+            Ask::Blocks { question: Question::Partition, .. } => PARTITION,
+            Ask::Blocks { question: Question::Pair(_), .. } => PAIR,
+            Ask::Blocks { question: Question::Judge(_), .. } => JUDGE,
+            Ask::Listing => LISTING,
+        }
+    }
+
+    /// Returns the contents that an answer of the call has.
+    fn forms(&self) -> &'static [Form] {
+        match self.call() {
+            PARTITION | PAIR => &[ENTRIES, ("list1", list_of), ("list2", list_of)],
+            LISTING => &[TEXT],
+            _ => &[ENTRIES],
+        }
+    }
+}
+
+/// A content by its name in the files, and the reader of its bytes if a line gives it in full.
+type Form = (&'static str, fn(&Value) -> Option<Vec<u8>>);
+
+const ENTRIES: Form = ("entries", bytes_of);
+const TEXT: Form = ("text", text_of);
+
+/// What a lent table holds after the call, or what is printed, by its name in the files. A list counts as its
+/// numbers' bytes, eight a number, low byte first.
+pub struct Content {
+    pub name: &'static str,
+    pub wanted: Wanted,
+}
+
+/// The bytes of a content, or their hash and, if the line has it, their count.
+pub enum Wanted {
+    Full(Vec<u8>),
+    Hashed { sha256: Vec<u8>, length: Option<usize> },
+}
+
+impl Content {
+    /// Checks that these are the bytes of the content.
+    pub fn agrees(&self, bytes: &[u8]) -> bool {
+        match &self.wanted {
+            Wanted::Full(wanted) => bytes == wanted,
+            Wanted::Hashed { sha256: hash, length } => {
+                length.is_none_or(|length| bytes.len() == length) && sha256(bytes)[..] == hash[..]
+            }
         }
     }
 }
 
 impl Vector {
-    /// The refusal that reading the table must give: one of 1 to 13, or none.
+    /// Returns the refusal that reading the table must give: one of 1 to 13, or none.
     pub fn reading(&self) -> Option<Refusal> {
         self.answer.as_ref().err().copied().filter(|refusal| refusal.number <= 13)
     }
 
-    /// The answer of a call whose result is one number.
+    /// Returns the answer of a call whose result is one number.
     pub fn number(&self) -> Result<usize, Refusal> {
         self.answer.as_ref().map(|numbers| numbers[0] as usize).map_err(|&refusal| refusal)
     }
+
+    /// Checks that this is what the call must print, which the listing alone does.
+    pub fn prints(&self, text: &[u8]) -> bool {
+        self.contents.iter().any(|content| content.name == TEXT.0 && content.agrees(text))
+    }
 }
 
-/// How many disagreeing lines of a file are printed.
-const SHOWN: usize = 10;
-
-/// The vectors of the file's call in a file of the folder. Lines of other calls are passed over.
-pub fn load(folder: &str, file: File) -> Result<Vec<Vector>, String> {
-    load_lines(folder, file, vector)
+impl File {
+    /// Returns the lines of a call, in order.
+    pub fn of_call(&self, call: &'static str) -> impl Iterator<Item = &Vector> {
+        self.vectors.iter().filter(move |vector| vector.ask.call() == call)
+    }
 }
 
-/// The lines of a file of the folder that `read` gives something for.
-pub fn load_lines<T>(
-    folder: &str,
-    file: File,
-    read: fn(File, usize, &str) -> Result<Option<T>, String>,
-) -> Result<Vec<T>, String> {
-    let path = Path::new(folder).join(file.name);
-    let text = fs::read_to_string(&path).map_err(|error| format!("{}: {error}", path.display()))?;
+impl Vectors {
+    /// Returns the lines of a call in all files, in order. It is an error if there are none.
+    pub fn of_call(&self, call: &'static str) -> Result<Vec<&Vector>, String> {
+        let vectors: Vec<&Vector> = self.files.iter().flat_map(|file| file.of_call(call)).collect();
+        if vectors.is_empty() {
+            return Err(format!("{}: no line of the call {call}", self.folder));
+        }
+        Ok(vectors)
+    }
+}
+
+/// Reads all files of vectors in a folder. It is an error if there are none.
+pub fn load(folder: &str) -> Result<Vectors, String> {
+    let mut files = Vec::new();
+    for path in paths_of(folder)? {
+        let vectors = load_file(&path).map_err(|what| format!("{}: {what}", path.display()))?;
+        let name = path.file_name().unwrap_or_default().to_string_lossy().into_owned();
+        files.push(File { name, vectors });
+    }
+    if files.is_empty() {
+        return Err(format!("{folder}: no vectors: no file has a name that ends with .jsonl"));
+    }
+    Ok(Vectors { folder: folder.to_string(), files })
+}
+
+/// Returns all that has the name of a file of vectors, by name. What is no file is not left out: reading it is an
+/// error later.
+fn paths_of(folder: &str) -> Result<Vec<PathBuf>, String> {
+    let trouble = |error: std::io::Error| format!("{folder}: {error}");
+    let mut paths = Vec::new();
+    for entry in fs::read_dir(folder).map_err(trouble)? {
+        let path = entry.map_err(trouble)?.path();
+        if path.extension().is_some_and(|extension| extension == "jsonl") {
+            paths.push(path);
+        }
+    }
+    paths.sort();
+    Ok(paths)
+}
+
+/// Reads all lines of a file but blank ones. It is an error if there are no others.
+fn load_file(path: &Path) -> Result<Vec<Vector>, String> {
+    let text = fs::read_to_string(path).map_err(|error| error.to_string())?;
     let mut vectors = Vec::new();
     for (index, content) in text.lines().enumerate() {
-        if content.trim().is_empty() {
-            continue;
+        if !content.trim().is_empty() {
+            let line = index + 1;
+            vectors.push(vector(line, content).map_err(|what| format!("line {line}: {what}"))?);
         }
-        let line = index + 1;
-        let vector =
-            read(file, line, content).map_err(|what| format!("{}: line {line}: {what}", path.display()))?;
-        vectors.extend(vector);
     }
     if vectors.is_empty() {
-        return Err(format!("{}: no line of the call {}", path.display(), file.call));
+        return Err("no line".to_string());
     }
     Ok(vectors)
 }
 
-fn vector(file: File, line: usize, content: &str) -> Result<Option<Vector>, String> {
-    let object = json::parse(content)?;
-    let ask = object.member("ask").ok_or("no ask")?;
-    let call = ask.member("call").and_then(Value::text).ok_or("no ask.call")?;
-    if call != file.call {
-        return Ok(None);
-    }
-    let table = bytes_of(ask.member("table").and_then(Value::text).ok_or("no ask.table")?)?;
-    let lent = size_of(ask.member("entries"), "ask.entries")?;
-    let fill = u8::try_from(size_of(ask.member("fill"), "ask.fill")?).map_err(|_| "ask.fill is no byte")?;
-    let ask = ask_of(ask, call)?;
-    let answer = object.member("answer").ok_or("no answer")?;
-    let entries = after(answer, "entries", |value| bytes_of(value.text()?).ok())?;
-    let mut lists = Vec::new();
-    if matches!(ask, Ask::Blocks { question: Question::Partition | Question::Pair(_), .. }) {
-        for name in ["list1", "list2"] {
-            lists.push(after(answer, name, |value| Some(list_bytes(&numbers_of(value)?)))?);
-        }
-    }
-    let answer = match (answer.member("refused"), answer.member("result")) {
-        (Some(refused), None) => Err(refusal(refused, call)?),
-        (None, Some(result)) => Ok(result_of(result, call)?),
-        _ => return Err("neither a refusal nor a result, or both".to_string()),
+/// Reads a line. A note in it is for people; any other member that the call does not know is an error, so that all
+/// that a line says is compared.
+fn vector(line: usize, content: &str) -> Result<Vector, String> {
+    let mut whole = Members::of(json::parse(content)?, "").ok_or("no object")?;
+    let asks = whole.take("ask").and_then(|value| Members::of(value, "ask."));
+    let answers = whole.take("answer").and_then(|value| Members::of(value, "answer."));
+    let (Some(mut asks), Some(mut answers)) = (asks, answers) else {
+        return Err("no object under ask, or none under answer".to_string());
     };
-    Ok(Some(Vector { line, table, lent, fill, ask, answer, entries, lists }))
+    whole.take("note");
+    whole.end()?;
+    let call = asks.read("call", "a name", |value| value.text().map(str::to_string))?;
+    let ask = ask_of(&call, &mut asks)?;
+    let table = asks.read("table", "bytes in hexadecimal", bytes_of)?;
+    let (lent, fill) = lent_of(&ask, &mut asks)?;
+    asks.end()?;
+    let answer = answer_of(&ask, &mut answers)?;
+    let mut contents = Vec::new();
+    for &form in ask.forms() {
+        contents.push(content_of(form, &mut answers)?);
+    }
+    answers.end()?;
+    Ok(Vector { line, table, lent, fill, ask, answer, contents })
 }
 
-/// What a line asks of the table.
-fn ask_of(ask: &Value, call: &str) -> Result<Ask, String> {
-    let numbers = |name: &str| ask.member(name).and_then(numbers_of);
-    let question = match call {
-        GRAPH => return Ok(Ask::Graph),
-        PLACE => return Ok(Ask::State(state_of(ask)?)),
-        PARTITION => Question::Partition,
-        PAIR => match numbers("asked").as_deref() {
-            Some(&[first, second]) => Question::Pair([first, second]),
-            _ => return Err("ask.asked is no list of two numbers".to_string()),
-        },
-        _ => Question::Judge(numbers("proposal").ok_or("ask.proposal is no list of numbers")?),
+/// Reads what a line asks of the table.
+fn ask_of(call: &str, members: &mut Members) -> Result<Ask, String> {
+    match call {
+        GRAPH => Ok(Ask::Graph),
+        PLACE => members.read("state", "six numbers", state_of).map(Ask::State),
+        PARTITION => with_lists(Question::Partition, members),
+        PAIR => {
+            let asked = members.read("asked", "two numbers", array_of)?;
+            with_lists(Question::Pair(asked), members)
+        }
+        JUDGE => {
+            let proposal = members.read("proposal", "a list of numbers", numbers_of)?;
+            Ok(Ask::Blocks { question: Question::Judge(proposal), lists: [0, 0], fill: 0 })
+        }
+        LISTING => Ok(Ask::Listing),
+        _ => Err(format!("the call {call:?} is unknown")),
+    }
+}
+
+/// Reads the block lists that go with a question.
+fn with_lists(question: Question, members: &mut Members) -> Result<Ask, String> {
+    let lists = members.read("lists", "two numbers", array_of)?.map(|length| length as usize);
+    let fill = members.read("list_fill", "a number", Value::number)?;
+    Ok(Ask::Blocks { question, lists, fill })
+}
+
+/// Reads how many bytes are lent for entries, and what each holds before the call. The listing says how many entries
+/// these are.
+fn lent_of(ask: &Ask, members: &mut Members) -> Result<(usize, u8), String> {
+    if let Ask::Listing = ask {
+        let bytes = |value: &Value| size_of(value)?.checked_mul(ENTRY);
+        return Ok((members.read("lent", "a count of entries", bytes)?, 0));
+    }
+    let lent = members.read("entries", "a count of bytes", size_of)?;
+    let fill = members.read("fill", "a byte", |value| u8::try_from(value.number()?).ok())?;
+    Ok((lent, fill))
+}
+
+/// Reads the numbers of the result or the refusal. The listing has neither.
+fn answer_of(ask: &Ask, members: &mut Members) -> Result<Answer, String> {
+    if let Ask::Listing = ask {
+        return Ok(Ok(Vec::new()));
+    }
+    match (members.has("refused"), members.has("result")) {
+        (true, false) => members.read("refused", "a number and a place", refusal_of).map(Err),
+        (false, true) => result_of(ask, members).map(Ok),
+        _ => Err("neither a refusal nor a result, or both".to_string()),
+    }
+}
+
+/// Reads the numbers of the result, as many as the call gives. If the line has the round that parts a pair, it is the
+/// second number.
+fn result_of(ask: &Ask, members: &mut Members) -> Result<Vec<u64>, String> {
+    match ask.call() {
+        PARTITION => members.read("result", "three numbers", array_of::<3>).map(Vec::from),
+        PAIR | JUDGE => {
+            let mut numbers = vec![members.read("result", "true or false", truth_of)?];
+            if numbers == [0] && members.has("round") {
+                numbers.push(members.read("round", "a number", Value::number)?);
+            }
+            Ok(numbers)
+        }
+        _ => members.read("result", "a number", Value::number).map(|number| vec![number]),
+    }
+}
+
+/// Reads a content: in full under its name, or by its hash.
+fn content_of((name, bytes): Form, members: &mut Members) -> Result<Content, String> {
+    let hash = format!("{name}_sha256");
+    let count = format!("{name}_bytes");
+    let wanted = match (members.has(name), members.has(&hash)) {
+        (true, false) => Wanted::Full(members.read(name, "a content of this name", bytes)?),
+        (false, true) => {
+            let sha256 = members.read(&hash, "bytes in hexadecimal", bytes_of)?;
+            let length = match members.has(&count) {
+                true => Some(members.read(&count, "a count of bytes", size_of)?),
+                false => None,
+            };
+            Wanted::Hashed { sha256, length }
+        }
+        _ => return Err(format!("neither answer.{name} nor its hash, or both")),
     };
-    if call == JUDGE {
-        return Ok(Ask::Blocks { question, lists: [0, 0], fill: 0 });
-    }
-    match (numbers("lists").as_deref(), ask.member("list_fill").and_then(Value::number)) {
-        (Some(&[first, second]), Some(fill)) => {
-            Ok(Ask::Blocks { question, lists: [first as usize, second as usize], fill })
-        }
-        _ => Err("no lists or no list_fill".to_string()),
-    }
+    Ok(Content { name, wanted })
 }
 
-/// What a lent table holds after the call: in full under its name, or by its hash.
-fn after(answer: &Value, name: &str, bytes: impl Fn(&Value) -> Option<Vec<u8>>) -> Result<After, String> {
-    match (answer.member(name), answer.member(&format!("{name}_sha256"))) {
-        (Some(value), None) => {
-            bytes(value).map(After::Bytes).ok_or_else(|| format!("answer.{name} is not as it should be"))
-        }
-        (None, Some(digits)) => Ok(After::Sha256(bytes_of(digits.text().ok_or("the hash is no text")?)?)),
-        _ => Err(format!("neither answer.{name} nor its hash, or both")),
-    }
+/// Reads a state: location, four values, denominator.
+fn state_of(value: &Value) -> Option<State> {
+    let [location, first, second, third, fourth, denominator] = array_of(value)?;
+    Some(State { location, values: [first, second, third, fourth], denominator })
 }
 
-/// The result of a line as numbers, as many as the call gives.
-fn result_of(result: &Value, call: &str) -> Result<Vec<u64>, String> {
-    let numbers = match (call, result) {
-        (PARTITION, Value::List(_)) => numbers_of(result).filter(|numbers| numbers.len() == 3),
-        (PAIR, Value::False) => Some(vec![0]),
-        (PAIR | JUDGE, Value::True) => Some(vec![1]),
-        (GRAPH | PLACE, &Value::Number(number)) => Some(vec![number]),
+/// Reads a refusal. Any number will do: one that the call never gives disagrees with whatever it gives.
+fn refusal_of(value: &Value) -> Option<Refusal> {
+    let [number, place] = array_of(value)?;
+    Some(Refusal { number: u32::try_from(number).ok()?, place: usize::try_from(place).ok()? })
+}
+
+/// Reads yes as 1 and no as 0.
+fn truth_of(value: &Value) -> Option<u64> {
+    match value {
+        Value::True => Some(1),
+        Value::False => Some(0),
         _ => None,
-    };
-    numbers.ok_or_else(|| format!("answer.result is no result of the call {call}"))
-}
-
-/// The bytes of a list.
-fn list_bytes(list: &[u64]) -> Vec<u8> {
-    list.iter().flat_map(|number| number.to_le_bytes()).collect()
-}
-
-/// The state of a line: location, four values, denominator.
-fn state_of(ask: &Value) -> Result<State, String> {
-    match numbers_of(ask.member("state").ok_or("no ask.state")?).as_deref() {
-        Some(&[location, first, second, third, fourth, denominator]) => {
-            Ok(State { location, values: [first, second, third, fourth], denominator })
-        }
-        _ => Err("ask.state is no list of six numbers".to_string()),
     }
+}
+
+fn size_of(value: &Value) -> Option<usize> {
+    usize::try_from(value.number()?).ok()
 }
 
 fn numbers_of(value: &Value) -> Option<Vec<u64>> {
-    value.list().and_then(|items| items.iter().map(Value::number).collect())
+    value.list()?.iter().map(Value::number).collect()
 }
 
-pub fn size_of(value: Option<&Value>, name: &str) -> Result<usize, String> {
-    let number = value.and_then(Value::number).ok_or_else(|| format!("{name} is no number"))?;
-    usize::try_from(number).map_err(|_| format!("{name} is too large"))
+fn array_of<const COUNT: usize>(value: &Value) -> Option<[u64; COUNT]> {
+    numbers_of(value)?.try_into().ok()
 }
 
-/// The refusal of a line: one of those that the call can give.
-fn refusal(refused: &Value, call: &str) -> Result<Refusal, String> {
-    match numbers_of(refused).as_deref() {
-        Some(&[number, place]) if can_refuse(call, number) => {
-            let place = usize::try_from(place).map_err(|_| "a place too large")?;
-            Ok(Refusal { number: number as u32, place })
-        }
-        _ => Err(format!("answer.refused is no number and place of the call {call}")),
-    }
+fn text_of(value: &Value) -> Option<Vec<u8>> {
+    value.text().map(|text| text.as_bytes().to_vec())
 }
 
-/// Whether the call can give a refusal of this number.
-fn can_refuse(call: &str, number: u64) -> bool {
-    match number {
-        1..=15 => true,
-        16 => call == PARTITION || call == PAIR,
-        17 | 18 => call == JUDGE,
-        19 => call == PAIR,
-        20 | 21 => call == PLACE,
-        _ => false,
-    }
+fn list_of(value: &Value) -> Option<Vec<u8>> {
+    numbers_of(value).map(|numbers| list_bytes(&numbers))
 }
 
-pub fn bytes_of(digits: &str) -> Result<Vec<u8>, String> {
-    let digits: Option<Vec<u32>> = digits.chars().map(|digit| digit.to_digit(16)).collect();
-    let digits = digits.ok_or("bytes with a letter that is no hexadecimal digit")?;
-    if digits.len() % 2 != 0 {
-        return Err("bytes that end with half a byte".to_string());
-    }
-    Ok(digits.chunks(2).map(|pair| (pair[0] * 16 + pair[1]) as u8).collect())
+/// Returns the bytes of a list.
+pub fn list_bytes(list: &[u64]) -> Vec<u8> {
+    list.iter().flat_map(|number| number.to_le_bytes()).collect()
 }
 
-/// Compares the calls with each line of each file and prints the outcome. True if all agree.
-pub fn check(folder: &str) -> Result<bool, String> {
-    let mut all = true;
-    for file in [TABLE_FILE, GRAPH_FILE, PLACE_FILE, PARTITION_FILE, PAIR_FILE, JUDGE_FILE] {
-        all &= check_file(folder, file)?;
-    }
-    all &= listing_vectors::check(folder)?;
-    Ok(all)
-}
-
-fn check_file(folder: &str, file: File) -> Result<bool, String> {
-    let vectors = load(folder, file)?;
-    Ok(report(file, vectors.iter().map(|vector| (vector.line, difference(vector)))))
-}
-
-/// Prints how many lines of a file agree, and the first that do not. True if all agree.
-pub fn report(file: File, differences: impl Iterator<Item = (usize, Option<String>)>) -> bool {
-    let file = file.name;
-    let (mut lines, mut disagreeing) = (0, 0);
-    for (line, difference) in differences {
-        lines += 1;
-        if let Some(difference) = difference {
-            disagreeing += 1;
-            if disagreeing <= SHOWN {
-                println!("{file}: line {line}: {difference}");
-            }
-        }
-    }
-    if disagreeing == 0 {
-        println!("{file}: {lines} lines agree");
-    } else {
-        println!("{file}: {disagreeing} of {lines} lines disagree");
-    }
-    disagreeing == 0
-}
-
-/// How the call differs from what a line asks for.
-fn difference(vector: &Vector) -> Option<String> {
-    let mut lent = vec![vector.fill; vector.lent];
-    let mut lists = Lists::default();
-    let found = match &vector.ask {
-        Ask::Graph => explore::graph(&vector.table, &mut lent).map(|count| vec![count as u64]),
-        Ask::State(state) => place::place(&vector.table, &mut lent, state).map(|number| vec![number as u64]),
-        Ask::Blocks { question, lists: lengths, fill } => {
-            lists = lengths.map(|length| vec![*fill; length]);
-            partition::call(question, &vector.table, &mut lent, &mut lists)
-        }
-    };
-    if found != vector.answer {
-        return Some(format!("asked for {}, found {}", in_words(&vector.answer), in_words(&found)));
-    }
-    if !vector.entries.agrees(&lent) {
-        return Some(format!("{}, but with other entries", in_words(&found)));
-    }
-    let same = vector.lists.iter().zip(&lists).all(|(after, list)| after.agrees(&list_bytes(list)));
-    (!same).then(|| format!("{}, but with other lists", in_words(&found)))
-}
-
-fn in_words(answer: &Result<Vec<u64>, Refusal>) -> String {
-    match answer {
-        Ok(numbers) => format!("result {numbers:?}"),
-        Err(Refusal { number, place }) => format!("refused {number} place {place}"),
-    }
+/// Reads bytes in hexadecimal, two digits a byte.
+fn bytes_of(value: &Value) -> Option<Vec<u8>> {
+    let digits: Option<Vec<u32>> = value.text()?.chars().map(|digit| digit.to_digit(16)).collect();
+    let digits = digits.filter(|digits| digits.len() % 2 == 0)?;
+    Some(digits.chunks(2).map(|pair| (pair[0] * 16 + pair[1]) as u8).collect())
 }
