@@ -6,13 +6,19 @@
     judge(table, proposal)            whether a proposed partition is a bisimulation
     graph(table)                      the regions alone
     listing(table)                    the printed model
+    library_version()                 the library's version, which must be __version__
 
 A table is bytes (docs/FORMAT.md says which); models/assemble writes it from a model text. What the library refuses is raised as Refused,
-with document 01's number and place. What a call cannot take at all (a negative number, 2**64 or more, a float) is a ValueError or a
-TypeError, and is raised before the call.
+with document 01's number and place. What a call cannot take at all is raised before the call: a number that is negative, or 2**64 or more,
+is a ValueError, and what is of the wrong kind a TypeError.
+
+Numbers and lists. A number is an int, or what Python takes for an index (numpy's whole numbers are such): no float, and no bool, though
+Python takes True for 1. A list of numbers or of clock values may be any sequence: a tuple, a range, an array of one dimension. What has no
+order (a set), can be read once only (an iterator, a generator), or spells numbers (text and bytes) is a TypeError. judge also takes a
+mapping, by key.
 
 The library is the file that the environment variable TERKWABU_LIBRARY names, or else build/libterkwabu.so of this project, which ./library
-builds. It is loaded at the first call.
+builds. It is loaded at the first call. One of another version than this module is not used: LibraryMissing says which versions they are.
 
 Threads. A call keeps nothing and holds no lock of Python's while it runs, so calls run side by side. reduce, pair and judge want a thread
 with 2 MB of stack. Most systems give threads 8 MB; where less is set, call threading.stack_size(4 * 1024 * 1024) before
@@ -31,20 +37,26 @@ import operator
 import os
 import re
 import threading
+from collections import Counter
+from collections.abc import Set
 from dataclasses import dataclass
 from decimal import Decimal
 from fractions import Fraction
 from pathlib import Path
-from typing import Any, Dict, Iterable, Iterator, List, NamedTuple, Optional, Tuple, Union
+from typing import Any, Dict, Iterable, Iterator, List, Mapping, NamedTuple, Optional, Sequence, Tuple, Union
 
-__all__ = ["graph", "judge", "listing", "pair", "place", "reduce"]
+__all__ = ["graph", "judge", "library_version", "listing", "pair", "place", "reduce"]
 __all__ += ["Block", "Clock", "LibraryMissing", "MAX_REGIONS", "OVER", "Over", "Reduced", "Refused", "Region", "Step"]
+
+__version__ = "1.0.0"
+"""Names the version of this module, and of the library that it uses: TERKWABU_VERSION_MAJOR, _MINOR and _PATCH of the header."""
 
 MAX_REGIONS = 4096
 """No model with more regions is accepted; so many entries are lent unless a call is told otherwise."""
 
 Table = Union[bytes, bytearray, memoryview]
 Value = Union[int, Fraction, Decimal, str]
+Proposal = Union[Sequence[int], Mapping[int, int]]
 
 _CLOCKS = 4
 _ENTRY_BYTES = 1 + 2 * _CLOCKS  # location, integer parts, ranks
@@ -192,18 +204,18 @@ class Reduced:
 
     def members(self, block: int) -> Tuple[int, ...]:
         """The numbers of the block's regions, rising."""
-        self._known(block)
-        return tuple(region for region, its in enumerate(self.block_of) if its == block)
+        number = self._known(block)
+        return tuple(region for region, its in enumerate(self.block_of) if its == number)
 
     def block(self, block: int) -> Block:
         """What the listing says of a block."""
-        self._known(block)
-        (text,) = self._parts([1 + len(self.regions) + block])
+        number = self._known(block)
+        (text,) = self._parts([1 + len(self.regions) + number])
         words = [line.split() for line in text.splitlines()]
         return Block(
-            number=block,
+            number=number,
             label=int(words[0][2]),
-            members=self.members(block),
+            members=self.members(number),
             delays=tuple(int(word) for line in words if line[0] == "delay" for word in line[2:]),
             steps=tuple(_step(line) for line in words if line[0] == "step"),
         )
@@ -212,13 +224,15 @@ class Reduced:
         """The printed model, as the program prints it."""
         return "".join(self._parts(range(1 + len(self.regions) + self.blocks)))
 
-    def _known(self, block: int) -> None:
-        if not 0 <= operator.index(block) < self.blocks:
-            raise IndexError(f"there is no block {block}: the blocks are 0 to {self.blocks - 1}")
+    def _known(self, block: int) -> int:
+        number = _whole(block, "a block number")
+        if not 0 <= number < self.blocks:
+            raise IndexError(f"there is no block {number}: the blocks are 0 to {self.blocks - 1}")
+        return number
 
     def _parts(self, parts: Iterable[int]) -> Iterator[str]:
         """Parts of the listing: 0 is its first line, then comes one for each region and one for each block."""
-        left = self.table, self._entries, _lent_numbers(self.block_of, "a block"), len(self.regions), self.blocks, self.rounds
+        left = self.table, self._entries, _lent_numbers(self.block_of, "block_of"), len(self.regions), self.blocks, self.rounds
         buffer = _Lent(ctypes.c_uint8, _PART_BYTES)
         for part in parts:
             yield _text(_call("terkwabu_part", *left, part, buffer), buffer)
@@ -265,12 +279,13 @@ def pair(table: Table, r: int, s: int, *, entries: int = MAX_REGIONS) -> bool:
     return _accepted(_call("terkwabu_pair", data, _lent_entries(entries), first, second, *asked)).value == 1
 
 
-def place(table: Table, location: int, values: Iterable[Value] = (), *, entries: int = MAX_REGIONS) -> int:
+def place(table: Table, location: int, values: Sequence[Value] = (), *, entries: int = MAX_REGIONS) -> int:
     """The number of the region in which a state lies: at a location, with a value for each clock, clock 0 first.
 
     A value is exact: an int, a Fraction, a Decimal, or a string such as "3", "0.25" or "1/3". A float is a TypeError: 0.1 is not 1/10.
-    Clocks left out are 0. Refused with 20 where the values' common denominator is above 1,000,000, where the location is not one of the
-    model's, or where a clock that the model does not have is not 0; with 21 where the model does not reach the state's region.
+    Clocks left out are 0. The values are a list or another sequence, and no mapping. Refused with 20 where the values' common denominator
+    is above 1,000,000, where the location is not one of the model's, or where a clock that the model does not have is not 0; with 21 where
+    the model does not reach the state's region.
     """
     data = _table(table)
     whole, denominator = _common(values)
@@ -278,17 +293,19 @@ def place(table: Table, location: int, values: Iterable[Value] = (), *, entries:
     return _accepted(_call("terkwabu_place", data, _lent_entries(entries), *state)).value
 
 
-def judge(table: Table, proposal: Iterable[int], *, entries: int = MAX_REGIONS) -> bool:
+def judge(table: Table, proposal: Proposal, *, entries: int = MAX_REGIONS) -> bool:
     """True where a proposed partition is a bisimulation; Refused where it is not.
 
-    The proposal has a number for each region, in order; equal numbers mean related, and which numbers they are does not matter. Refused
-    with 17 where there are not as many numbers as regions, with 18 where the partition is no bisimulation.
+    The proposal has a number for each region: a sequence in their order, or a mapping from the region numbers, in any order. The keys of a
+    mapping with N items must be exactly 0 to N - 1: a ValueError says which is missing, and which is none of them. Equal numbers mean
+    related, and which numbers they are does not matter; so conditions will do as well, True and False being two groups. Refused with 17
+    where there are not as many numbers as regions, with 18 where the partition is no bisimulation.
 
     Both are refusals in document 01, and both are raised here, so that a script which does not look at the answer stops at a wrong
     partition and does not go on with it.
     """
     data = _table(table)
-    lent = _lent_numbers(proposal, "a proposal's number")
+    lent = _lent_numbers(_proposed(proposal), "the proposal")
     return _accepted(_call("terkwabu_judge", data, _lent_entries(entries), lent)).value == 1
 
 
@@ -307,28 +324,88 @@ def listing(table: Table, *, entries: int = MAX_REGIONS) -> str:
 # From Python's values to what a call takes, and back.
 
 
-def _number(value: Any, what: str, largest: int = _LARGEST) -> int:
-    """A whole number, 0 to the largest: that of 64 bits, if no other is given."""
+def _whole(value: Any, what: str) -> int:
+    """Takes a whole number of any size. A bool is none: where a comparison stands by mistake it would name region 0 or 1."""
     try:
-        number = operator.index(value)
+        if not isinstance(value, bool):
+            return operator.index(value)
     except TypeError:
-        raise TypeError(f"{what} must be a whole number, not {value!r}") from None
+        pass
+    raise TypeError(f"{what} must be a whole number, not {value!r}")
+
+
+def _number(value: Any, what: str, largest: int = _LARGEST) -> int:
+    """Takes a whole number, 0 to the largest: that of 64 bits, if no other is given."""
+    number = _whole(value, what)
     if not 0 <= number <= largest:
         raise ValueError(f"{what} must be 0 to {largest}, not {number}")
     return number
 
 
 def _table(table: Table) -> bytes:
+    """Copies the bytes. A view of larger items would give the bytes that they have in memory, which nobody means by a table."""
     if not isinstance(table, (bytes, bytearray, memoryview)):
         raise TypeError(f"a table must be bytes, not {type(table).__name__}; open its file with 'rb'")
+    if isinstance(table, memoryview) and table.itemsize != 1:
+        raise TypeError(f"a table must be bytes, not a memoryview of items of {table.itemsize} bytes")
     return bytes(table)
+
+
+# Names what can be read item by item, but gives other numbers than were meant: letters, bytes of a text, members without order, fields.
+_NO_LISTS = (str, bytes, bytearray, Set, Clock, Region, Step, Block)
+
+
+def _items(values: Any, what: str) -> List[Any]:
+    """Reads a sequence in its order. Arrays need not be registered as such: what has a length, and items by number, is taken."""
+    listed = hasattr(values, "__len__") and hasattr(values, "__getitem__") and not _is_mapping(values)
+    if isinstance(values, memoryview):
+        listed = values.ndim == 1 and values.itemsize > 1
+    if isinstance(values, _NO_LISTS) or not listed:
+        raise TypeError(f"{what} must be a list, or another sequence of numbers in order, not {type(values).__name__}")
+    try:
+        return list(values)
+    except NotImplementedError as trouble:  # a memoryview of items that Python cannot read
+        raise TypeError(f"{what} cannot be read: {trouble}") from None
+
+
+def _is_mapping(values: Any) -> bool:
+    """Tells as dict() does, by keys(): not all mappings are registered as such (a Series of pandas is not)."""
+    return callable(getattr(values, "keys", None))
+
+
+def _by_key(proposal: Any) -> List[Any]:
+    """Reads a mapping in the order of its keys, which must be 0 to one less than their count."""
+    keys = list(proposal.keys())
+    numbers = [_whole(key, "a key of the proposal") for key in keys]
+    key_of = dict(zip(numbers, keys))
+    for wanted in range(len(keys)):
+        if wanted not in key_of:
+            # Names a key that stands in its place: there is one, since the keys are as many as those wanted.
+            foreign = [f"{number} is none of them" for number in numbers if not 0 <= number < len(keys)]
+            doubled = [f"{number} is there twice" for number, times in Counter(numbers).items() if times > 1]
+            told = f"{wanted} is missing, and {(foreign + doubled)[0]}"
+            raise ValueError(f"the proposal's {len(keys)} keys must be the region numbers 0 to {len(keys) - 1}: {told}")
+    return [proposal[key_of[number]] for number in range(len(keys))]
+
+
+def _proposed(proposal: Proposal) -> List[Any]:
+    """Puts a proposal into the order of the regions. Its numbers are only compared with each other: True and False are two of them."""
+    ordered = _by_key(proposal) if _is_mapping(proposal) else _items(proposal, "the proposal")
+    return [int(number) if isinstance(number, bool) else number for number in ordered]
+
+
+def _fraction(value: Any) -> Fraction:
+    """Makes a fraction of Python's own numbers: those of numpy would stay such in it, and wrap round at 64 bits."""
+    if isinstance(value, numbers.Rational):
+        return Fraction(operator.index(value.numerator), operator.index(value.denominator))
+    return Fraction(value)
 
 
 _DECIMAL_TEXT = re.compile(r"[0-9]+(\.[0-9]+|/[0-9]+)?")
 
 
 def _exact(value: Any) -> Fraction:
-    """A clock's value as a fraction, 0 or more."""
+    """Makes a fraction of a clock's value, 0 or more."""
     if isinstance(value, str):
         if not _DECIMAL_TEXT.fullmatch(value.strip()):
             raise ValueError(f'a clock\'s value must look like "3", "0.25" or "1/3", not {value!r}')
@@ -336,10 +413,10 @@ def _exact(value: Any) -> Fraction:
         # A short Decimal such as 1E+999999999 stands for more digits than there is memory for.
         if not value.is_finite() or (value and abs(value.adjusted()) > 40):
             raise ValueError(f"a clock's value does not fit a call: {value!r}")
-    elif not isinstance(value, numbers.Rational):
+    elif isinstance(value, bool) or not isinstance(value, numbers.Rational):
         raise TypeError(f"a clock's value must be exact (int, Fraction, Decimal or str), not {value!r}")
     try:
-        exact = Fraction(value)
+        exact = _fraction(value)
     except ZeroDivisionError:
         raise ValueError(f"a clock's value must not be over 0: {value!r}") from None
     if exact < 0:
@@ -347,11 +424,9 @@ def _exact(value: Any) -> Fraction:
     return exact
 
 
-def _common(values: Iterable[Value]) -> Tuple[List[int], int]:
-    """Four whole numbers, and the least denominator with which they are the values."""
-    if isinstance(values, str):
-        raise TypeError(f"the values must be a list, with an item for each clock, not the string {values!r}")
-    exact = [_exact(value) for value in values]
+def _common(values: Sequence[Value]) -> Tuple[List[int], int]:
+    """Finds four whole numbers, and the least denominator with which they are the values."""
+    exact = [_exact(value) for value in _items(values, "the values")]
     if len(exact) > _CLOCKS:
         raise ValueError(f"a model has at most {_CLOCKS} clocks: {len(exact)} values are too many")
     exact += [Fraction(0)] * (_CLOCKS - len(exact))
@@ -391,8 +466,8 @@ def _lent_entries(entries: int) -> _Lent:
     return _Lent(ctypes.c_uint8, _number(entries, "entries", MAX_REGIONS) * _ENTRY_BYTES)
 
 
-def _lent_numbers(values: Iterable[int], what: str) -> _Lent:
-    checked = [_number(value, what) for value in values]
+def _lent_numbers(values: Sequence[int], what: str) -> _Lent:
+    checked = [_number(value, f"a number of {what}") for value in _items(values, what)]
     lent = _Lent(ctypes.c_uint64, len(checked))
     lent.memory[: len(checked)] = checked
     return lent
@@ -413,7 +488,7 @@ def _region(entry: bytes, clocks: int) -> Region:
 
 
 class LibraryMissing(OSError):
-    """The library is not there, or is none that this module can use."""
+    """The library is not there, or is none that this module can use: of another version, say."""
 
 
 class _Answer(ctypes.Structure):
@@ -436,7 +511,7 @@ _CALLS = {
     "terkwabu_pair": (_READ + _BYTES + _NUMBERS + _NUMBERS + 2 * _NUMBER, 2048 * _KB),
     "terkwabu_judge": (_READ + _BYTES + _NUMBERS, 2048 * _KB),
     "terkwabu_part": (_READ + _READ + _NUMBERS + 4 * _NUMBER + _BYTES, 256 * _KB),
-    "terkwabu_refusal_line": (2 * _NUMBER + _BYTES, 0),
+    "terkwabu_refusal_line": (2 * _NUMBER + _BYTES, 64 * _KB),
 }
 
 
@@ -444,22 +519,63 @@ def _library_path() -> Path:
     named = os.environ.get("TERKWABU_LIBRARY")
     path = Path(named) if named else Path(__file__).resolve().parent.parent / "build" / "libterkwabu.so"
     if not path.is_file():
-        raise LibraryMissing(f"{path} is not there: build the library with ./library, or name another in TERKWABU_LIBRARY")
+        raise LibraryMissing(
+            f"{path} is not there: build the library with ./library, which needs gcc, or name another in TERKWABU_LIBRARY"
+        )
     return path.resolve()
+
+
+def _opened() -> Tuple[Path, ctypes.CDLL]:
+    """Opens the library, of whatever version. CDLL lets other threads of Python run during a call."""
+    path = _library_path()
+    try:
+        return path, ctypes.CDLL(str(path))
+    except OSError as trouble:
+        raise LibraryMissing(f"{path} cannot be used ({trouble}): build it anew with ./library") from trouble
+
+
+def _declare(path: Path, library: ctypes.CDLL) -> None:
+    """Tells ctypes what each call takes. Without one of them it is another library."""
+    try:
+        for name, (takes, _) in _CALLS.items():
+            call = getattr(library, name)
+            call.argtypes, call.restype = takes, _Answer
+    except AttributeError as trouble:
+        raise LibraryMissing(f"{path} cannot be used ({trouble}): build it anew with ./library") from trouble
+
+
+def _version_of(path: Path, library: ctypes.CDLL) -> str:
+    """Asks for the version. A library that has the other calls, and not this one, is from the time before."""
+    try:
+        ask = library.terkwabu_version
+    except AttributeError:
+        _declare(path, library)
+        raise LibraryMissing(
+            f"{path} does not tell its version, so it is older than 1.0.0, and this module is version {__version__}: "
+            "build it anew with ./library"
+        ) from None
+    ask.argtypes, ask.restype = (), ctypes.c_uint64
+    number = ask()
+    return f"{number // 1_000_000}.{number // 1_000 % 1_000}.{number % 1_000}"
 
 
 @functools.lru_cache(maxsize=None)
 def _library() -> ctypes.CDLL:
-    """The library with its calls declared. CDLL lets other threads of Python run during a call."""
-    path = _library_path()
-    try:
-        library = ctypes.CDLL(str(path))
-        for name, (takes, _) in _CALLS.items():
-            call = getattr(library, name)
-            call.argtypes, call.restype = takes, _Answer
-    except (OSError, AttributeError) as trouble:
-        raise LibraryMissing(f"{path} cannot be used ({trouble}): build it anew with ./library") from trouble
+    """Opens the library for the calls. The version comes first: it explains why a call is missing."""
+    path, library = _opened()
+    version = _version_of(path, library)
+    if version != __version__:
+        raise LibraryMissing(
+            f"{path} is version {version}, and this module is version {__version__}: "
+            "build it anew with ./library of the project that the module is from"
+        )
+    _declare(path, library)
     return library
+
+
+def library_version() -> str:
+    """Asks the library for its version, such as "1.0.0": also where it is not the module's, and the other functions do not use it."""
+    return _version_of(*_opened())
 
 
 def _call(name: str, *arguments: Union[bytes, _Lent, int]) -> _Answer:

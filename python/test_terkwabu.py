@@ -2,16 +2,21 @@
 """Tests of the Python module: python3 python/test_terkwabu.py, or python3 -m unittest discover -s python.
 
 What is expected comes from tests/vectors and models/listings, which other implementations made from document 01, or from document 01
-itself; nothing is taken from the library's own answers. The library must be built (./library).
+itself; nothing is taken from the library's own answers. The library must be built (./library). gcc reads the header's constants, and makes
+small libraries of other versions.
 """
 
 import _ctypes
+import array
+import collections
+import collections.abc
 import ctypes
 import dataclasses
 import doctest
 import hashlib
 import json
 import math
+import numbers
 import os
 import pickle
 import re
@@ -21,6 +26,7 @@ import sys
 import tempfile
 import threading
 import time
+import types
 import unittest
 from concurrent.futures import ThreadPoolExecutor
 from decimal import Decimal
@@ -33,7 +39,7 @@ import terkwabu
 
 HERE = Path(__file__).resolve().parent
 ROOT = HERE.parent
-MB = 1024 * 1024
+HEADER = ROOT / "include" / "terkwabu.h"
 
 # Document 01's example, and what the document prints for it.
 EXAMPLE = bytes.fromhex("01010200 0205 0209 0300000101 0400030300 05000301 0601000100 0602000001 07")
@@ -120,10 +126,83 @@ def clock_of(text):
     return terkwabu.OVER if text == ">" else terkwabu.Clock(int(whole), int(rank or 0))
 
 
-def run_python(program, **environment):
-    """A program in a Python of its own, so that no thread has run there before."""
-    known = {**os.environ, "PYTHONPATH": str(HERE), **environment}
-    return subprocess.run([sys.executable, "-c", program], stdout=subprocess.PIPE, stderr=subprocess.PIPE, env=known, text=True)
+def run_python(program, module=HERE, **environment):
+    """Runs a program in a Python of its own, so that no thread has run there before.
+
+    The module's folder comes before all others: Python would look into the working directory first, where there may be another."""
+    found = f"import sys\nsys.path.insert(0, {str(module)!r})\n" + program
+    known = {**os.environ, **environment}
+    return subprocess.run([sys.executable, "-c", found], stdout=subprocess.PIPE, stderr=subprocess.PIPE, env=known, text=True)
+
+
+def header_numbers():
+    """Asks the compiler for the header's constants, TERKWABU_ left out: they may be written as products, or by each other.
+
+    Other macros have neither digits nor names of constants in them."""
+    listed = subprocess.run(["gcc", "-E", "-dM", str(HEADER)], check=True, stdout=subprocess.PIPE, text=True).stdout
+    names = re.findall(r"^#define TERKWABU_(\w+) (?=.*(?:\d|TERKWABU_))", listed, flags=re.M)
+    prints = "\n".join(f'printf("{name} %llu\\n", (unsigned long long)(TERKWABU_{name}));' for name in names)
+    with tempfile.TemporaryDirectory() as folder:
+        source, program = Path(folder, "numbers.c"), Path(folder, "numbers")
+        source.write_text(f'#include <stdio.h>\n#include "terkwabu.h"\nint main(void) {{\n{prints}\nreturn 0;\n}}\n')
+        subprocess.run(["gcc", f"-I{HEADER.parent}", "-o", str(program), str(source)], check=True)
+        printed = subprocess.run([str(program)], check=True, stdout=subprocess.PIPE, text=True).stdout
+    return {name: int(number) for name, number in map(str.split, printed.splitlines())}
+
+
+def shuffled(items):
+    """Makes a dictionary by index, the odd ones first: neither its order nor the other way round is that of the items."""
+    return {at: items[at] for at in [*range(1, len(items), 2), *range(0, len(items), 2)]}
+
+
+class Whole:
+    """Stands for a whole number of numpy: Python may take it for an index, and nothing else is known of it."""
+
+    def __init__(self, number):
+        self.number = number
+
+    def __index__(self):
+        return self.number
+
+
+class Array:
+    """Stands for an array of numpy, which is not registered as a sequence."""
+
+    def __init__(self, *items):
+        self.items = items
+
+    def __len__(self):
+        return len(self.items)
+
+    def __getitem__(self, at):
+        return self.items[at]
+
+
+class Ordered(Array, collections.abc.Set):
+    """Stands for a set that keeps an order, as some packages have: it gives items by number, each once only."""
+
+    def __contains__(self, item):
+        return item in self.items
+
+    def __iter__(self):
+        return iter(self.items)
+
+
+class Labelled(Array):
+    """Stands for a Series of pandas, which is not registered as a mapping, and gives its items, not its keys, when it is read through."""
+
+    def __init__(self, items):
+        super().__init__(*items.values())
+        self.labels = items
+
+    def __iter__(self):
+        return iter(self.items)
+
+    def keys(self):
+        return list(self.labels)
+
+    def __getitem__(self, label):
+        return self.labels[label]
 
 
 class FilesOfVectors(unittest.TestCase):
@@ -419,7 +498,8 @@ class SampleModels(unittest.TestCase):
         """The blocks are a bisimulation, under any numbers; so is equality; what relates regions of two blocks is none."""
         blocks = [int(line[2]) for line in lines_of(expected, "region")]
         self.assertIs(terkwabu.judge(table, blocks), True)
-        self.assertIs(terkwabu.judge(table, (2**64 - 1 - block for block in blocks)), True)
+        self.assertIs(terkwabu.judge(table, [2**64 - 1 - block for block in blocks]), True)
+        self.assertIs(terkwabu.judge(table, shuffled(blocks)), True)
         self.assertIs(terkwabu.judge(table, range(len(blocks))), True)
         for merged in range(1, 1 + max(blocks)):
             with self.assertRaises(terkwabu.Refused) as caught:
@@ -433,7 +513,7 @@ class SampleModels(unittest.TestCase):
             parts = 1 + max([0] + [clock.rank for clock in clocks if clock is not terkwabu.OVER])
             values = [16 if clock is terkwabu.OVER else clock.whole + Fraction(clock.rank, parts) for clock in clocks]
             self.assertEqual(terkwabu.place(table, int(location), values), int(number))
-            self.assertEqual(terkwabu.place(table, int(location), map(str, values)), int(number))
+            self.assertEqual(terkwabu.place(table, int(location), [str(value) for value in values]), int(number))
 
     def test_listing(self):
         self.check(self.one_listing)
@@ -529,6 +609,9 @@ class DocumentExample(unittest.TestCase):
             for number in (3, -1, 2**64):
                 with self.subTest(ask=ask.__name__, number=number), self.assertRaises(IndexError):
                     ask(number)
+            for wrong in (1.0, "1", None, [1]):
+                with self.subTest(ask=ask.__name__, number=wrong), self.assertRaisesRegex(TypeError, "a block number"):
+                    ask(wrong)
 
 
 class PartsAndLines(unittest.TestCase):
@@ -634,22 +717,207 @@ class Refusals(unittest.TestCase):
             self.assertEqual((caught.exception.number, caught.exception.place), (number, 0))
 
 
+class ListsAndMappings(unittest.TestCase):
+    """Hands a proposal, and clock values, over as scripts may hold them: read otherwise than meant, they would get another answer."""
+
+    # Takes the blocks of the example, and relates two regions whose labels differ.
+    RIGHT, WRONG = [0, 0, 1, 2, 2], [0, 0, 1, 2, 1]
+
+    def expect_judged(self, made):
+        """Judges what a function makes of the right numbers and of the wrong ones."""
+        self.assertIs(terkwabu.judge(EXAMPLE, made(self.RIGHT)), True)
+        self.expect_refused(18, made(self.WRONG))
+
+    def expect_refused(self, number, proposal):
+        with self.assertRaises(terkwabu.Refused) as caught:
+            terkwabu.judge(EXAMPLE, proposal)
+        self.assertEqual((caught.exception.number, caught.exception.place), (number, 0))
+
+    SEQUENCES = {
+        "list": list,
+        "tuple": tuple,
+        "deque": collections.deque,
+        "UserList": collections.UserList,
+        "array of bytes": lambda items: array.array("B", items),
+        "array": lambda items: array.array("Q", items),
+        "memoryview": lambda items: memoryview(array.array("l", items)),
+        "memoryview with steps": lambda items: memoryview(array.array("I", [n for item in items for n in (item, 9)]))[::2],
+        "ctypes": lambda items: (ctypes.c_uint16 * len(items))(*items),
+        "array of others": lambda items: Array(*items),
+    }
+
+    MAPPINGS = {
+        "in order": lambda items: dict(enumerate(items)),
+        "out of order": lambda items: shuffled(items),
+        "OrderedDict": lambda items: collections.OrderedDict(shuffled(items)),
+        "defaultdict": lambda items: collections.defaultdict(int, shuffled(items)),
+        "ChainMap": lambda items: collections.ChainMap({0: items[0]}, shuffled(items)),
+        "UserDict": lambda items: collections.UserDict(shuffled(items)),
+        "read only": lambda items: types.MappingProxyType(shuffled(items)),
+        "not registered": lambda items: Labelled(shuffled(items)),
+        "with other whole numbers": lambda items: {Whole(at): Whole(item) for at, item in shuffled(items).items()},
+    }
+
+    def test_proposals(self):
+        for name, made in [*self.SEQUENCES.items(), *self.MAPPINGS.items()]:
+            with self.subTest(kind=name):
+                self.expect_judged(made)
+        self.expect_judged(lambda items: Array(*map(Whole, items)))
+        self.assertIs(terkwabu.judge(EXAMPLE, range(5)), True)
+        self.expect_refused(17, range(6))
+
+    def test_mapping_is_not_its_keys(self):
+        """Relates all regions: the keys by themselves, each another number, would be accepted."""
+        self.expect_refused(18, dict.fromkeys(range(5), 0))
+
+    def test_mapping_of_another_model(self):
+        """Leaves it to the call to say that the length is wrong: the keys are those of some model."""
+        for count in (0, 1, 4, 6, 5000):
+            with self.subTest(count=count):
+                self.expect_refused(17, dict.fromkeys(range(count), 0))
+        with self.assertRaises(terkwabu.Refused) as caught:
+            terkwabu.judge(b"", {0: 0})
+        self.assertEqual((caught.exception.number, caught.exception.place), (2, 0))
+
+    def test_mapping_stays_as_it_is(self):
+        proposal = collections.defaultdict(int, {0: 1})
+        self.expect_refused(17, proposal)
+        self.assertEqual(proposal, {0: 1})
+
+    def test_conditions(self):
+        """Groups regions by a condition; True and 1 are the same group. The two locations have different labels."""
+        table = bytes([1, 0, 2, 0, 2, 5, 2, 9, 4, 0, 3, 1, 0, 6, 1, 0, 1, 0, 7])
+        regions = terkwabu.graph(table)
+        self.assertEqual([region.location for region in regions], [0, 1])
+        for apart in ([region.location == 1 for region in regions], {1: False, 0: True}, [False, 1], [True, 2]):
+            with self.subTest(proposal=apart):
+                self.assertIs(terkwabu.judge(table, apart), True)
+        for related in ([region.location < 2 for region in regions], {1: False, 0: False}, [False, 0], [1, True]):
+            with self.subTest(proposal=related), self.assertRaises(terkwabu.Refused) as caught:
+                terkwabu.judge(table, related)
+            self.assertEqual((caught.exception.number, caught.exception.place), (18, 0))
+
+    def test_values(self):
+        """Takes values from each kind of sequence, all of them different, so that their order shows."""
+        for name, made in self.SEQUENCES.items():
+            with self.subTest(kind=name):
+                self.assertEqual(terkwabu._common(made([3, 0, 1, 7])), ([3, 0, 1, 7], 1))
+                self.assertEqual(terkwabu.place(EXAMPLE, 1, made([1])), 3)
+        self.assertEqual(terkwabu._common(collections.deque(["1/2", Fraction(1, 3)])), ([3, 2, 0, 0], 6))
+        self.assertEqual(terkwabu._common(range(2, 5)), ([2, 3, 4, 0], 1))
+
+    def test_other_whole_numbers(self):
+        """Hands over numbers like those of numpy wherever one is taken; Python's own come back."""
+        self.assertIs(terkwabu.pair(EXAMPLE, Whole(3), Whole(4), entries=Whole(5)), True)
+        self.assertEqual(terkwabu.place(EXAMPLE, Whole(1), ["1.25"]), 4)
+        reduced = terkwabu.reduce(EXAMPLE)
+        self.assertEqual(reduced.members(Whole(2)), (3, 4))
+        self.assertEqual(reduced.block(Whole(2)), reduced.block(2))
+        self.assertIs(type(reduced.block(Whole(2)).number), int)
+
+    def test_values_do_not_wrap_round(self):
+        """Multiplies a value of 64 bits: a product of numpy's would have 64 bits too, and be another number."""
+
+        class Narrow(Whole):
+            denominator = 1
+
+            @property
+            def numerator(self):
+                return self
+
+        numbers.Integral.register(Narrow)
+        self.assertEqual(terkwabu._common([Narrow(2**62), "1/3"]), ([3 * 2**62, 1, 0, 0], 3))
+
+
 class WhatACallCannotTake(unittest.TestCase):
     """Nothing is called, and nothing is cut to 64 bits."""
 
-    def expect(self, kind, function, *arguments, **named):
+    def expect(self, kind, function, *arguments, says="", **named):
         with self.subTest(function=function.__name__, arguments=arguments, named=named):
             with mock.patch.object(terkwabu, "_library", side_effect=AssertionError("the library was called")):
-                with self.assertRaises(kind):
+                with self.assertRaisesRegex(kind, says):
                     function(*arguments, **named)
 
+    def no_lists(self):
+        """Makes all that is no sequence of the five numbers of the example's blocks, or spells them, or is another thing altogether."""
+        blocks = [0, 0, 1, 2, 2]
+        yield from ({0, 1, 2}, frozenset(blocks), set(), Ordered(0, 1, 2), collections.Counter(blocks).keys())
+        by_region = dict(enumerate(blocks))
+        yield from (by_region.keys(), by_region.values(), by_region.items())
+        yield from (iter(blocks), (block for block in blocks), map(int, blocks), zip(blocks), enumerate(blocks), reversed(blocks))
+        yield from ("00122", "", b"00122", bytes(blocks), b"", bytearray(blocks), memoryview(bytes(blocks)))
+        yield memoryview(bytes(40)).cast("Q", [5, 1])  # has two dimensions
+        yield memoryview((ctypes.c_uint64 * 5)(*blocks))  # has items that Python cannot read: their format says an order of bytes
+        yield from (None, 5, 0.5, Fraction(1, 2), object(), list, dict, terkwabu.OVER, Whole(1))
+        yield from (terkwabu.Clock(0, 1), terkwabu.Region(0, ()), terkwabu.Step(0, {}), terkwabu.Block(0, 5, (0, 1), (1,), ()))
+        yield ctypes.pointer(ctypes.c_uint64(0))  # gives items by number, and has no end
+
+    def test_no_lists(self):
+        for wrong in self.no_lists():
+            self.expect(TypeError, terkwabu.judge, EXAMPLE, wrong)
+            self.expect(TypeError, terkwabu.place, EXAMPLE, 0, wrong)
+        for wrong in ({1, 2}, iter([0]), "00122"):
+            self.expect(TypeError, terkwabu.judge, EXAMPLE, wrong, says=f"the proposal must be a list.* not {type(wrong).__name__}$")
+        for wrong in ({0: 1}, {}, collections.OrderedDict({0: "1/2"}), Labelled({0: 1}), {0}, "1/2"):
+            self.expect(TypeError, terkwabu.place, EXAMPLE, 0, wrong, says=f"the values must be a list.* not {type(wrong).__name__}$")
+        for wrong in ({0: 0}, {0, 1}, iter([0, 1])):
+            reduced = dataclasses.replace(terkwabu.reduce(EXAMPLE), block_of=wrong)
+            self.expect(TypeError, reduced.listing, says="block_of must be a list")
+
+    def test_nested(self):
+        for wrong in ([[0, 1], [2], [3, 4]], [{0, 1}, {2}], [[0, 0, 1, 2, 2]], [(0,), (0,), (1,), (2,), (2,)], [b"0"] * 5, ["0"] * 5):
+            self.expect(TypeError, terkwabu.judge, EXAMPLE, wrong, says="a number of the proposal must be a whole number")
+            self.expect(TypeError, terkwabu.judge, EXAMPLE, dict(enumerate(wrong)), says="a number of the proposal must be a whole number")
+        self.expect(TypeError, terkwabu.judge, EXAMPLE, array.array("d", [0, 0, 1, 2, 2]))
+        self.expect(TypeError, terkwabu.place, EXAMPLE, 0, array.array("d", [0]))
+        self.expect(TypeError, terkwabu.judge, EXAMPLE, terkwabu.reduce(EXAMPLE).regions)
+        for region in terkwabu.graph(EXAMPLE):
+            self.expect(TypeError, terkwabu.place, EXAMPLE, *region)  # its clocks are no values
+        for wrong in ([[0]], [{0: 1}], [{1}], [(1, 2)], [iter([1])]):
+            self.expect(TypeError, terkwabu.place, EXAMPLE, 0, wrong)
+
+    def test_keys(self):
+        """Names the key that is missing, and one that should not be there."""
+        for keys, missing, foreign in (
+            ([1, 2, 3, 4, 5], 0, "5 is none"),
+            ([5, 4, 3, 2, 1], 0, "5 is none"),
+            ([0, 1, 2, 4, 5], 3, "5 is none"),
+            ([0, 1, 2, 3, -1], 4, "-1 is none"),
+            ([0, 1, 2, 3, 2**64], 4, f"{2**64} is none"),
+            ([2**64, 1, 2, 3, 4], 0, f"{2**64} is none"),
+            ([7], 0, "7 is none"),
+            ([0, 1, 2, 3, Whole(2)], 4, "2 is there twice"),
+        ):
+            told = f"{len(keys)} keys .* 0 to {len(keys) - 1}: {missing} is missing, and {foreign}"
+            self.expect(ValueError, terkwabu.judge, EXAMPLE, dict.fromkeys(keys, 0), says=told)
+        for wrong in ("0", 0.0, False, None, (0,), Fraction(0), b"0", terkwabu.Region(0, ())):
+            for keys in ([wrong, 1, 2, 3, 4], [4, 3, 2, 1, wrong], [wrong]):
+                told = re.escape(f"a key of the proposal must be a whole number, not {wrong!r}")
+                self.expect(TypeError, terkwabu.judge, EXAMPLE, dict.fromkeys(keys, 0), says=told)
+        for wrong, kind in ((-1, ValueError), (2**64, ValueError), (1.0, TypeError), ("2", TypeError), (None, TypeError)):
+            self.expect(kind, terkwabu.judge, EXAMPLE, {0: 0, 1: 0, 2: 1, 3: 2, 4: wrong}, says="a number of the proposal")
+
+    def test_conditions(self):
+        """Refuses True where a number counts or points, though it is 1 to Python."""
+        reduced = terkwabu.reduce(EXAMPLE)
+        for wrong in (True, False):
+            self.expect(TypeError, terkwabu.pair, EXAMPLE, wrong, 0, says="a region number")
+            self.expect(TypeError, terkwabu.pair, EXAMPLE, 0, wrong, says="a region number")
+            self.expect(TypeError, terkwabu.place, EXAMPLE, wrong, says="a location")
+            self.expect(TypeError, terkwabu.place, EXAMPLE, 0, [wrong], says="a clock's value")
+            self.expect(TypeError, reduced.block, wrong, says="a block number")
+            self.expect(TypeError, reduced.members, wrong, says="a block number")
+            for function, *arguments in EACH_FUNCTION:
+                self.expect(TypeError, function, EXAMPLE, *arguments, entries=wrong, says="entries")
+
     def test_tables(self):
-        for table in ("01010200", None, 5, [1, 2], EXAMPLE.hex(), Path("x.table")):
+        wide = array.array("Q", list(EXAMPLE))
+        for table in ("01010200", None, 5, [1, 2], EXAMPLE.hex(), Path("x.table"), array.array("B", EXAMPLE), wide, memoryview(wide)):
             for function, *arguments in EACH_FUNCTION:
                 self.expect(TypeError, function, table, *arguments)
 
     def test_numbers(self):
-        for wrong in (-1, 2**64, 2**64 + 1, 1.0, "1", None):
+        for wrong in (-1, 2**64, 2**64 + 1, 1.0, "1", None, b"1", [1], (1,), {1: 1}, {1}, Fraction(1), Decimal(1), terkwabu.Region(1, ())):
             kind = ValueError if isinstance(wrong, int) else TypeError
             self.expect(kind, terkwabu.pair, EXAMPLE, wrong, 0)
             self.expect(kind, terkwabu.pair, EXAMPLE, 0, wrong)
@@ -816,11 +1084,11 @@ class TheLibrary(unittest.TestCase):
                     self.assertRegex(last, rf"^terkwabu\.LibraryMissing: {re.escape(named)} {trouble}.*\./library")
 
     def test_not_built(self):
-        """The module in a project where nothing was built."""
+        """Puts the module into a project where nothing was built."""
         with tempfile.TemporaryDirectory() as folder:
             Path(folder, "python").mkdir()
             Path(folder, "python", "terkwabu.py").write_bytes((HERE / "terkwabu.py").read_bytes())
-            done = run_python(self.ASK, PYTHONPATH=f"{folder}/python", TERKWABU_LIBRARY="")
+            done = run_python(self.ASK, Path(folder, "python"), TERKWABU_LIBRARY="")
             self.assertRegex(done.stderr.splitlines()[-1], r"^terkwabu\.LibraryMissing: .*build/libterkwabu\.so is not there.*\./library")
 
     # The C types of the header, as ctypes has them.
@@ -834,9 +1102,8 @@ class TheLibrary(unittest.TestCase):
     }
 
     def test_header(self):
-        """The module declares each call as the header does, and has its numbers."""
-        header = (ROOT / "include" / "terkwabu.h").read_text(encoding="utf-8")
-        plain = re.sub(r"/\*.*?\*/", "", header, flags=re.S)
+        """Compares the declarations of the calls with the header's."""
+        plain = re.sub(r"/\*.*?\*/|\bTERKWABU_RESTRICT ", "", HEADER.read_text(encoding="utf-8"), flags=re.S)
         calls = dict(re.findall(r"^terkwabu_answer (\w+)\(([^)]*)\);", plain, flags=re.M))
         self.assertEqual(sorted(calls), sorted(terkwabu._CALLS))
         for name, text in calls.items():
@@ -848,14 +1115,94 @@ class TheLibrary(unittest.TestCase):
                     self.assertIn(kind, self.TYPES[one])
         fields = re.search(r"uint64_t ([\w, ]+);\s*\} terkwabu_answer", plain)
         self.assertEqual([name for name, _ in terkwabu._Answer._fields_], fields[1].split(", "))
-        defined = dict(re.findall(r"#define TERKWABU_(\w+) (\d+)", plain))
+        self.assertRegex(plain, r"(?m)^uint64_t terkwabu_version\(void\);")
+
+    def test_header_numbers(self):
+        """Compares all numbers but the sizes of stacks, for which the module has its own."""
+        major, minor, patch = map(int, terkwabu.__version__.split("."))
         module = {
             "ENTRY_BYTES": terkwabu._ENTRY_BYTES,
             "MAX_REGIONS": terkwabu.MAX_REGIONS,
             "PART_BYTES": terkwabu._PART_BYTES,
             "LINE_BYTES": terkwabu._LINE_BYTES,
+            "VERSION_MAJOR": major,
+            "VERSION_MINOR": minor,
+            "VERSION_PATCH": patch,
+            "VERSION": 1_000_000 * major + 1_000 * minor + patch,
         }
-        self.assertEqual({name: int(number) for name, number in defined.items()}, module)
+        self.assertEqual({name: number for name, number in header_numbers().items() if not name.startswith("STACK_")}, module)
+
+    def test_header_stacks(self):
+        """Gives a thread just the stack that the header wants for a call, which is too little: Python takes some of it too."""
+        sizes = {f"terkwabu_{name[6:].lower()}": size for name, size in header_numbers().items() if name.startswith("STACK_")}
+        sizes.pop("terkwabu_version", None)  # runs once, when the library is loaded
+        self.assertEqual(sorted(sizes), sorted(terkwabu._CALLS))
+        for name, size in sizes.items():
+            with self.subTest(call=name), mock.patch.object(terkwabu._this_thread, "stack", size, create=True):
+                with self.assertRaisesRegex(RuntimeError, f"^{name} wants a thread with"):
+                    terkwabu._look_at_stack(name, terkwabu._CALLS[name][1])
+
+
+class Versions(unittest.TestCase):
+    """Puts small libraries made for this in the library's place."""
+
+    ASK, ASK_VERSION = TheLibrary.ASK, "import terkwabu\nprint(terkwabu.library_version())"
+    VERSION = "unsigned long long terkwabu_version(void) {{ return {}; }}\n"
+
+    def answer_of(self, source, program):
+        """Runs a program with a library of a few lines of C; returns the library's path, what was printed, and the last line of errors."""
+        with tempfile.TemporaryDirectory() as folder:
+            text, library = Path(folder, "stub.c"), Path(folder, "stub.so")
+            text.write_text(source)
+            subprocess.run(["gcc", "-shared", "-fPIC", "-o", str(library), str(text)], check=True)
+            done = run_python(program, TERKWABU_LIBRARY=str(library))
+            return str(library.resolve()), done.stdout, (done.stderr.splitlines() or [""])[-1]
+
+    def calls(self, but=""):
+        """Writes calls with the names of the library's, which do nothing."""
+        return "".join(f"void {name}(void) {{}}\n" for name in terkwabu._CALLS if name != but)
+
+    def test_the_same(self):
+        self.assertEqual(terkwabu.library_version(), terkwabu.__version__)
+
+    def test_another(self):
+        """Names both versions, also where the other library has not the same calls."""
+        for number, version in ((2003004, "2.3.4"), (1000001, "1.0.1"), (999999, "0.999.999"), (12345678, "12.345.678"), (0, "0.0.0")):
+            for calls in (self.calls(), ""):
+                with self.subTest(version=version, calls=bool(calls)):
+                    path, printed, error = self.answer_of(self.VERSION.format(number) + calls, self.ASK)
+                    told = f"terkwabu.LibraryMissing: {path} is version {version}, and this module is version {terkwabu.__version__}: "
+                    self.assertEqual((printed, error[: len(told)]), ("", told))
+                    self.assertIn("./library", error)
+
+    def test_another_can_be_asked(self):
+        _, printed, error = self.answer_of(self.VERSION.format(2003004), self.ASK_VERSION)
+        self.assertEqual((printed, error), ("2.3.4\n", ""))
+
+    def test_none_of_ours(self):
+        """Does not call a library older that has none of the calls."""
+        for program in (self.ASK, self.ASK_VERSION):
+            path, printed, error = self.answer_of("int other(void) { return 0; }\n", program)
+            self.assertEqual(printed, "")
+            self.assertRegex(error, rf"^terkwabu\.LibraryMissing: {re.escape(path)} cannot be used \(.*\): .*\./library")
+
+    def test_older(self):
+        """Takes a library from before there were versions."""
+        for program in (self.ASK, self.ASK_VERSION):
+            path, printed, error = self.answer_of(self.calls(), program)
+            self.assertEqual(printed, "")
+            told = f"{re.escape(path)} .* older than 1.0.0, and this module is version {re.escape(terkwabu.__version__)}: .*\\./library"
+            self.assertRegex(error, f"^terkwabu.LibraryMissing: {told}")
+
+    def test_a_call_is_missing(self):
+        """Finds a missing call where the version is the same."""
+        major, minor, patch = terkwabu.__version__.split(".")
+        version = self.VERSION.format(f"{major} * 1000000 + {minor} * 1000 + {patch}")
+        for name in terkwabu._CALLS:
+            with self.subTest(call=name):
+                path, printed, error = self.answer_of(version + self.calls(but=name), self.ASK)
+                self.assertEqual(printed, "")
+                self.assertRegex(error, rf"^terkwabu.LibraryMissing: {re.escape(path)} cannot be used \(.*{name}\).*\./library")
 
 
 class ReadmeAndExamples(unittest.TestCase):

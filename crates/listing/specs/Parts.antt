@@ -86,15 +86,36 @@ Within P.End room = Unit
 abbrev pub mostBytes : ℕ
 mostBytes = 65536
 
+-- Every part's number is below this, whatever is lent: the first line, and a part for each of 4,096 regions and of as many blocks.
+abbrev pub mostParts : ℕ
+mostParts = 8193
+
+-- The answer is not that the buffer is too short.
+abbrev pub Fits : Part → Type 0
+Fits (P.Refused number place) = Unit
+Fits (P.Written k) = Unit
+Fits (P.Short k) = ⊥
+Fits P.End = Unit
+
+-- The answer is not that there is such a part.
+abbrev pub Past : Part → Type 0
+Past (P.Refused number place) = Unit
+Past (P.Written k) = ⊥
+Past (P.Short k) = ⊥
+Past P.End = Unit
+
 -- A text was given to a buffer: the answer, and what the buffer then holds.
 pub record Gives (text buffer : List ℕ) (answer : Part) (buffer′ : List ℕ) : Type 0 where
   pub answer-is : answer ≡ fitted text (length buffer)
   pub buffer-is : buffer′ ≡ bufferAfter text buffer
   pub enough : length text ≤ mostBytes
 
--- What the part call promises: its answer, what the buffer then holds, and how long a buffer is enough.
+-- What the part call promises: its answer, what the buffer then holds, how long a buffer is enough, and how many parts there may be. So a
+-- caller that lends `mostBytes` and goes from part to part comes to the end within `mostParts` parts, and misses none.
 pub record Parted (table entries list : List ℕ) (regions blocks rounds part : ℕ)
     (buffer : List ℕ) (answer : Part) (buffer′ : List ℕ) : Type 0 where
   pub answer-is : answer ≡ partOf table entries list regions blocks rounds part (length buffer)
   pub buffer-is : buffer′ ≡ bufferAfter (textOf table entries list regions blocks rounds part) buffer
   pub enough : length (textOf table entries list regions blocks rounds part) ≤ mostBytes
+  pub fits : mostBytes ≤ length buffer → Fits answer
+  pub past : mostParts ≤ part → Past answer

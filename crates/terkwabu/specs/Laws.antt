@@ -32,6 +32,7 @@ use Rattle.partition.specs.declared.calls.Judgement.the-variants as J
 use Rattle.listing.specs.Text.{upTo}
 use Rattle.listing.specs.Printed.{listing}
 use Rattle.listing.specs.Parts.{textOf, partOf, fitted, bytesIn, bufferAfter, mostBytes}
+use Rattle.listing.specs.Laws.Parts.{parted}
 use Rattle.listing.specs.Laws.Joined.{upto-same, joined-most}
 use Rattle.listing.specs.declared.parts.Part.{Part}
 use Rattle.listing.specs.declared.parts.Part.the-variants as T
@@ -238,4 +239,4 @@ host-joined table entries first second n b k entries′ first′ second′ reduc
     (ap (λ (a : Answer). a .value) (calls part h .0) ∙ value-part (partOf table entries′ list n b k part (length (buffers part)))))
     ∙ joined-most table entries first second n b k entries′ first′ second′ reduced list either buffers
     (λ part. partOf table entries′ list n b k part (length (buffers part))) buffers′
-    (λ part h. record { answer-is = refl; buffer-is = calls part h .1; enough = calls part h .2 }) long
+    (λ part h. parted table entries′ list n b k part (buffers part) _ (buffers′ part) refl (calls part h .1) (calls part h .2)) long

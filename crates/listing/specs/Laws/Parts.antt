@@ -12,7 +12,7 @@ use borrow.Author.Tests.{eq-eqb, ne-eqb, lt-ltb, le-ltb, le-leb, lt-leb, leb-tru
 use Rattle.partition.specs.Passed.{Model, Region, Finite, Answer, refusal, accepted, readTable, entryBytes, maxEntries, listed}
 use Rattle.partition.specs.Instances.{regionOf, graph}
 use Rattle.partition.specs.View.{entryOf, Alone, isSeen, showingOf}
-use Rattle.partition.specs.Laws.View.{entry-listed, entry-small, item-shown, item-model}
+use Rattle.partition.specs.Laws.View.{listed-length, entry-listed, entry-small, item-shown, item-model}
 use Rattle.partition.specs.declared.view.Showing.the-variants as S
 use Rattle.partition.specs.declared.view.Entry.{Entry}
 use Rattle.listing.specs.Text.{upTo, each}
@@ -20,7 +20,8 @@ use Rattle.listing.specs.Printed.{ClockRecord, RegionRecord, StepRecord,
 use Rattle.listing.specs.Printed.{otherBlocks, lowestOf, sizeBelow, regionRecord, blockRecord, blockLines}
 use Rattle.listing.specs.Slices.{stepAt, stepTextAt, rowRoom}
 use Rattle.listing.specs.Writing.{Adds}
-use Rattle.listing.specs.Parts.{linePart, partText, isBorne, textFrom, textOf, partFrom, partOf, fitted, bufferAfter, Within, mostBytes, Gives, Parted}
+use Rattle.listing.specs.Parts.{linePart, partText, isBorne, textFrom, textOf, partFrom, partOf, fitted, bufferAfter, Within, mostBytes}
+use Rattle.listing.specs.Parts.{mostParts, Fits, Past, Gives, Parted}
 use Rattle.listing.specs.Laws.Lengths.{region-fits}
 use Rattle.listing.specs.Laws.Texts.{each-append}
 use Rattle.listing.specs.Laws.Writing.{adds-all}
@@ -274,9 +275,66 @@ module _ (regions blocks entries list : ℕ) where
       let (z, d) = and-both (ltb 0 blocks) _ u in
       (leb-true regions maxEntries a, leb-true (entryBytes * regions) entries b, leb-true regions list c, leb-true blocks regions d)
 
+-- ---- How long, and how many
+
+pub fitted-fits : (text : List ℕ) (room : ℕ) → length text ≤ room → Fits (fitted text room)
+fitted-fits [] room h = tt
+fitted-fits (c ∷ l) room h = go (leb (length (c ∷ l)) room) (le-leb (length (c ∷ l)) room h)
+  where
+    go : (b : Bool) → b ≡ true → Fits (cond b (P.Written (length (c ∷ l))) (P.Short (length (c ∷ l))))
+    go true e = tt
+    go false e = absurd (false≢true e)
+
+fitted-past : (text : List ℕ) (room : ℕ) → [] ≡ text → Past (fitted text room)
+fitted-past text room e = subst (λ (l : List ℕ). Past (fitted l room)) e tt
+
+-- From `mostParts` on there is no text.
+past-text : (m : Model) (entries list : List ℕ) (regions blocks rounds part : ℕ) → mostParts ≤ part
+    → [] ≡ textFrom (accepted m) entries list regions blocks rounds part
+past-text m entries list regions blocks rounds part h = go (isBorne regions blocks (length entries) (length list)) refl
+  where
+    go : (b : Bool) → isBorne regions blocks (length entries) (length list) ≡ b
+        → [] ≡ cond b (partText m (listed entries regions) (take regions list) blocks rounds part) []
+    go true e =
+        let (few, _, _, fewer) = borne-parts regions blocks (length entries) (length list) e in
+        let n = listed-length entries regions in
+        line-end m (listed entries regions) (take regions list) blocks regions (part - 1) (sym n) (omega (arith, few, h))
+        (omega (arith, few, fewer, h))
+        ∙ part-line m (listed entries regions) (take regions list) blocks rounds part (omega (arith, h))
+    go false e = refl
+
 -- ---- The part call
 
+from-fits : (a : Answer) (text : List ℕ) (room : ℕ) → length text ≤ room → Fits (partFrom a text room)
+from-fits (refusal number place) text room h = tt
+from-fits (accepted m) text room h = fitted-fits text room h
+
+from-past : (a : Answer) (entries list : List ℕ) (regions blocks rounds part room : ℕ) → mostParts ≤ part
+    → Past (partFrom a (textFrom a entries list regions blocks rounds part) room)
+from-past (refusal number place) entries list regions blocks rounds part room h = tt
+from-past (accepted m) entries list regions blocks rounds part room h =
+    fitted-past (textFrom (accepted m) entries list regions blocks rounds part) room
+    (past-text m entries list regions blocks rounds part h)
+
 module _ (table entries list : List ℕ) (regions blocks rounds part : ℕ) (buffer : List ℕ) where
+  -- Room and number of the parts follow from the answer and the length.
+  pub parted : (answer : Part) (buffer′ : List ℕ) → answer ≡ partOf table entries list regions blocks rounds part (length buffer)
+      → buffer′ ≡ bufferAfter (textOf table entries list regions blocks rounds part) buffer
+      → length (textOf table entries list regions blocks rounds part) ≤ mostBytes
+      → Parted table entries list regions blocks rounds part buffer answer buffer′
+  unfolding textOf partOf
+  parted answer buffer′ e f few =
+      record {
+        answer-is = e;
+        buffer-is = f;
+        enough = few;
+        fits = λ h.
+            subst Fits (sym e)
+            (from-fits (readTable table) (textOf table entries list regions blocks rounds part) (length buffer) (omega (arith, few, h)));
+        past = λ h.
+            subst Past (sym e) (from-past (readTable table) entries list regions blocks rounds part (length buffer) h);
+      }
+
   -- A text that is that of the part, of a table that was read.
   parted-from : (m : Model) → readTable table ≡ accepted m → (text : List ℕ)
       → text ≡ textFrom (accepted m) entries list regions blocks rounds part → (answer : Part) (buffer′ : List ℕ)
@@ -285,14 +343,12 @@ module _ (table entries list : List ℕ) (regions blocks rounds part : ℕ) (buf
   parted-from m read text e answer buffer′ g =
       let is : text ≡ textOf table entries list regions blocks rounds part =
       e ∙ sym (ap (λ (a : Answer). textFrom a entries list regions blocks rounds part) read) in
-      record {
-        answer-is =
-            g .answer-is
-            ∙ ap (λ (l : List ℕ). fitted l (length buffer)) is
-            ∙ sym (ap (λ (a : Answer). partFrom a (textFrom (readTable table) entries list regions blocks rounds part) (length buffer)) read);
-        buffer-is = g .buffer-is ∙ ap (λ (l : List ℕ). bufferAfter l buffer) is;
-        enough = subst (λ (l : List ℕ). length l ≤ mostBytes) is (g .enough);
-      }
+      parted answer buffer′
+      (g .answer-is
+      ∙ ap (λ (l : List ℕ). fitted l (length buffer)) is
+      ∙ sym (ap (λ (a : Answer). partFrom a (textFrom (readTable table) entries list regions blocks rounds part) (length buffer)) read))
+      (g .buffer-is ∙ ap (λ (l : List ℕ). bufferAfter l buffer) is)
+      (subst (λ (l : List ℕ). length l ≤ mostBytes) is (g .enough))
 
   pub parted-read : (m : Model) → readTable table ≡ accepted m → isBorne regions blocks (length entries) (length list) ≡ true
       → (answer : Part) (buffer′ : List ℕ)
@@ -308,15 +364,11 @@ module _ (table entries list : List ℕ) (regions blocks rounds part : ℕ) (buf
       → Parted table entries list regions blocks rounds part buffer (P.Refused number place) buffer
   unfolding textOf partOf
   parted-refused number place read =
-      record {
-        answer-is =
-            sym (ap (λ (a : Answer). partFrom a (textFrom (readTable table) entries list regions blocks rounds part) (length buffer)) read);
-        buffer-is =
-            gives-end buffer .buffer-is
-            ∙ sym (ap (λ (a : Answer). bufferAfter (textFrom a entries list regions blocks rounds part) buffer) read);
-        enough =
-            subst (λ (a : Answer). length (textFrom a entries list regions blocks rounds part) ≤ mostBytes) (sym read) (omega arith);
-      }
+      parted (P.Refused number place) buffer
+      (sym (ap (λ (a : Answer). partFrom a (textFrom (readTable table) entries list regions blocks rounds part) (length buffer)) read))
+      (gives-end buffer .buffer-is
+      ∙ sym (ap (λ (a : Answer). bufferAfter (textFrom a entries list regions blocks rounds part) buffer) read))
+      (subst (λ (a : Answer). length (textFrom a entries list regions blocks rounds part) ≤ mostBytes) (sym read) (omega arith))
 
 -- ---- What an answer says was written is within the buffer
 
