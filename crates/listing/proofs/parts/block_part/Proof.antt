@@ -1,4 +1,4 @@
--- `block_part` meets its contract. Assumes nothing.
+-- `block_part` meets its contract. Assumes nothing at all.
 use Prim.Native.Nat.{ℕ}
 use native.Mathlib.Omega.{arith}
 use mathlib.Core.Path.{sym, _∙_, ap}

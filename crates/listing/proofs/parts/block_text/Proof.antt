@@ -1,4 +1,4 @@
--- `block_text` meets its contract. Assumes nothing.
+-- `block_text` meets its contract. Assumes nothing at all.
 use Prim.Native.Nat.{ℕ}
 use native.Mathlib.Omega.{arith}
 use mathlib.Core.Path.{ap}
