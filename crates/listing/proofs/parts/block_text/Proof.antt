@@ -1,4 +1,4 @@
--- `block_text` meets its contract. Assumes nothing at all.
+-- `block_text` meets its contract. Assumes nothing.
 use Prim.Native.Nat.{ℕ}
 use native.Mathlib.Omega.{arith}
 use mathlib.Core.Path.{ap}

@@ -1,4 +1,4 @@
--- `put_step` meets its contract. Assumes nothing at all.
+-- `put_step` meets its contract. Assumes nothing.
 use Prim.Native.Nat.{ℕ, _+_, _*_, _≤_}
 use native.Mathlib.Omega.{arith}
 use mathlib.Core.Path.{sym, _∙_, ap, ap₂}
