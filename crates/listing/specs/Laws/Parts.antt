@@ -12,7 +12,8 @@ use borrow.Author.Tests.{eq-eqb, ne-eqb, lt-ltb, le-ltb, le-leb, lt-leb, leb-tru
 use Rattle.partition.specs.Passed.{Model, Region, Finite, Answer, refusal, accepted, readTable, entryBytes, maxEntries, listed}
 use Rattle.partition.specs.Instances.{regionOf, graph}
 use Rattle.partition.specs.View.{entryOf, Alone, isSeen, showingOf}
-use Rattle.partition.specs.Laws.View.{listed-length, entry-listed, entry-small, item-shown, item-model}
+use Rattle.partition.specs.Laws.View.{listed-length, entry-listed, entry-small, item-shown, item-model, item-seen, seen-here}
+use Rattle.partition.specs.declared.view.Showing.{Showing}
 use Rattle.partition.specs.declared.view.Showing.the-variants as S
 use Rattle.partition.specs.declared.view.Entry.{Entry}
 use Rattle.listing.specs.Text.{upTo, each}
@@ -205,6 +206,62 @@ module _ (table es list : List ℕ) (n count b low wide rowed : ℕ) (lowest : l
       block-text (graph m (listed es n)) list count b delays delays′ rows (is-alone m read) label edges (take reached delays′)
       (is-item m read .0 ∙ ap (graph m (listed es n) .label) lowest) (is-item m read .2)
       (reached-front (graph m (listed es n)) list count b delays delays′ rows (is-alone m read) reached (reached-is m read) long)
+
+-- The same where there are so many blocks in the list and the slices lent have room: the lowest region is seen.
+module _ (table es list : List ℕ) (count b low : ℕ) (delays rowed : List ℕ) (answer : Showing)
+    (counts : (b < count) × (count ≤ length list) × (length list ≤ maxEntries) × (entryBytes * length list ≤ length es))
+    (lowest : (low ≡ lowestOf list b) × (low ≤ length list) × (0 < length list → low < length list))
+    (wide : length delays ≡ 4097) (long : length rowed ≡ 4096)
+    (shown : answer
+    ≡ showingOf (isSeen (length list) low (length es) (length delays) (length rowed)) es (length list) low (readTable table)) where
+  abbrev sees : Bool
+  sees = isSeen (length list) low (length es) (length delays) (length rowed)
+
+  lowest-seen : sees ≡ true
+  lowest-seen =
+      seen-here (length list) low (length es) (length delays) (length rowed) (counts .2) (lowest .2 (omega (arith, counts .0, counts .1)))
+      (counts .3) (omega (arith, counts .2, wide)) (omega (arith, long))
+
+  -- No other answer is given of a table that was read.
+  pub never-refused : (m : Model) → readTable table ≡ accepted m → (number place : ℕ) → answer ≡ S.Refused number place → ⊥
+  never-refused m read number place is =
+      item-seen m es (length list) low sees lowest-seen .0 number place
+      (sym is ∙ shown ∙ ap (λ (a : Answer). showingOf sees es (length list) low a) read)
+
+  pub never-unseen : (m : Model) → readTable table ≡ accepted m → answer ≡ S.Unseen → ⊥
+  never-unseen m read is =
+      item-seen m es (length list) low sees lowest-seen .1
+      (sym is ∙ shown ∙ ap (λ (a : Answer). showingOf sees es (length list) low a) read)
+
+  module _ (delays′ rows : List ℕ) (kept : length delays′ ≡ length delays)
+      (told : (m : Model) → readTable table ≡ accepted m
+      → isSeen (length list) low (length es) (length delays) (length rowed) ≡ true
+      → Alone (graph m (listed es (length list))) low delays delays′ rows)
+      (label reached edges : ℕ) (is : answer ≡ S.Item label reached edges) where
+    pub lowest-reached : reached ≤ length delays′
+    lowest-reached =
+        item-reached table es list (length list) count b low (length delays) (length rowed) (lowest .0) delays delays′ rows kept
+        lowest-seen told label reached edges (sym is ∙ shown)
+
+    pub lowest-edges : edges ≤ 128
+    lowest-edges =
+        item-edges table es list (length list) count b low (length delays) (length rowed) (lowest .0) delays delays′ rows kept
+        lowest-seen told label reached edges (sym is ∙ shown)
+
+    pub lowest-rows : (e : ℕ) → e < edges → getD rows (32 * e) 0 ≡ 1 → getD rows (32 * e + 3) 0 ≤ 8
+    lowest-rows =
+        item-rows table es list (length list) count b low (length delays) (length rowed) (lowest .0) delays delays′ rows kept
+        lowest-seen told label reached edges (sym is ∙ shown)
+
+    pub lowest-gives : (m : Model) → readTable table ≡ accepted m → (buffer : List ℕ) (part : Part) (buffer′ : List ℕ)
+        → Gives (blockLine (record { number = b; label = label; size = sizeBelow list b (length list); delays = []; steps = [] })
+        ++ (delayLineOf b (otherBlocks list count b (take reached delays′)) ++ upTo (stepTextAt list rows count b) edges))
+        buffer part buffer′
+        → Gives (blockLines (blockRecord (graph m (listed es (length list))) list count b)) buffer part buffer′
+    lowest-gives m read buffer part buffer′ =
+        gives-same buffer part buffer′
+        (item-text table es list (length list) count b low (length delays) (length rowed) (lowest .0) delays delays′ rows kept
+        lowest-seen told label reached edges (sym is ∙ shown) m read)
 
 -- ---- Which part
 
