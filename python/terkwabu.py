@@ -17,8 +17,9 @@ Python takes True for 1. A list of numbers or of clock values may be any sequenc
 order (a set), can be read once only (an iterator, a generator), or spells numbers (text and bytes) is a TypeError. judge also takes a
 mapping, by key.
 
-The library is the file that the environment variable TERKWABU_LIBRARY names, or else build/libterkwabu.so of this project, which ./library
-builds. It is loaded at the first call. One of another version than this module is not used: LibraryMissing says which versions they are.
+The library is the file that the environment variable TERKWABU_LIBRARY names, or else build/libterkwabu.so of this project. The first call
+has ./library make that, which takes a moment (gcc is needed), or look whether it is that of the sources, and loads it; where the sources
+were changed it is proved anew first, for many minutes. One of another version than this module is not used: LibraryMissing says which versions they are.
 
 Threads. A call keeps nothing and holds no lock of Python's while it runs, so calls run side by side. reduce, pair and judge want a thread
 with 2 MB of stack. Most systems give threads 8 MB; where less is set, call threading.stack_size(4 * 1024 * 1024) before
@@ -36,6 +37,8 @@ import numbers
 import operator
 import os
 import re
+import subprocess
+import sys
 import threading
 from collections import Counter
 from collections.abc import Set
@@ -515,9 +518,28 @@ _CALLS = {
 }
 
 
+def _run_library(script: Path) -> None:
+    """Runs ./library, which sees to it that the library is that of the sources, and passes on what it says: it may have to prove."""
+    said = ["it says nothing"]
+    try:
+        with subprocess.Popen([str(script)], stdin=subprocess.DEVNULL, stdout=subprocess.DEVNULL, stderr=subprocess.PIPE, text=True) as run:
+            for line in run.stderr or ():
+                said.append(line.strip())
+                if not line.startswith("library: "):
+                    print(line, end="", file=sys.stderr, flush=True)
+    except OSError as trouble:
+        raise LibraryMissing(f"{script} cannot be run ({trouble})") from trouble
+    if run.returncode != 0:
+        raise LibraryMissing(f"{script} made no library: {said[-1]}")
+
+
 def _library_path() -> Path:
+    """Finds the file of the library, and has it made where none is named."""
     named = os.environ.get("TERKWABU_LIBRARY")
-    path = Path(named) if named else Path(__file__).resolve().parent.parent / "build" / "libterkwabu.so"
+    root = Path(__file__).resolve().parent.parent
+    path = Path(named) if named else root / "build" / "libterkwabu.so"
+    if not named and (root / "library").is_file():
+        _run_library(root / "library")
     if not path.is_file():
         raise LibraryMissing(
             f"{path} is not there: build the library with ./library, which needs gcc, or name another in TERKWABU_LIBRARY"

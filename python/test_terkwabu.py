@@ -1091,6 +1091,21 @@ class TheLibrary(unittest.TestCase):
             done = run_python(self.ASK, Path(folder, "python"), TERKWABU_LIBRARY="")
             self.assertRegex(done.stderr.splitlines()[-1], r"^terkwabu\.LibraryMissing: .*build/libterkwabu\.so is not there.*\./library")
 
+    def test_not_made(self):
+        """Has a ./library that fails: the exception has its last words, and what it said on the way is passed on."""
+        words = "library: gcc is missing, and without it there is no build/libterkwabu.so"
+        with tempfile.TemporaryDirectory() as folder:
+            Path(folder, "python").mkdir()
+            Path(folder, "python", "terkwabu.py").write_bytes((HERE / "terkwabu.py").read_bytes())
+            script = Path(folder, "library")
+            script.write_text(f"#!/bin/sh\necho 'one crate proved' >&2\necho '{words}' >&2\nexit 1\n")
+            for mode, told in ((0o755, f"{script} made no library: {words}"), (0o644, f"{script} cannot be run")):
+                with self.subTest(mode=mode):
+                    script.chmod(mode)
+                    done = run_python(self.ASK, Path(folder, "python"), TERKWABU_LIBRARY="")
+                    self.assertTrue(done.stderr.splitlines()[-1].startswith(f"terkwabu.LibraryMissing: {told}"), done.stderr)
+                    self.assertEqual("one crate proved" in done.stderr.splitlines(), mode == 0o755)
+
     # The C types of the header, as ctypes has them.
     TYPES = {
         "const uint8_t *": (ctypes.c_char_p, ctypes.POINTER(ctypes.c_uint8)),
