@@ -309,12 +309,19 @@ static void try_states(struct subject *s) {
     try_place(s, 8, (uint64_t[6]){0, UINT64_MAX, UINT64_MAX, UINT64_MAX, UINT64_MAX, 7}, TERKWABU_ENTRIES, 0);
 }
 
-/* Parts: the first and last of each sort where there is a listing; and such as are not there. */
+/* Goes on from a part to the first that does not begin with a word, or is not there. */
+static uint64_t part_after(struct subject *s, uint64_t part, const char *word) {
+    while (plain_part(s, part, s->text, TERKWABU_PART_BYTES).value > 0 && memcmp(s->text, word, strlen(word)) == 0) part++;
+    return part;
+}
+
+/* Tries the first and last parts of each sort, if there is a listing; and such as are not there. */
 static void try_parts(struct subject *s) {
-    uint64_t n = s->graph.value, blocks = s->reduced.blocks;
-    const uint64_t parts[] = {0, 1, n, n + 1, n + blocks};
+    uint64_t n = s->graph.value, blocks = s->reduced.blocks, first_block = part_after(s, 0, "region");
+    uint64_t end = part_after(s, first_block, "block");
+    const uint64_t parts[] = {0, 1, first_block - 1, first_block, end - 1};
     for (size_t i = 0; n > 0 && i < sizeof parts / sizeof parts[0]; i++) try_some_part(s, parts[i]);
-    want(s, "part", "the length past the end", try_part(s, n, blocks, n + blocks + 1, 99), 0);
+    want(s, "part", "the length past the end", try_part(s, n, blocks, end, 99), 0);
     want(s, "part", "the length past all", try_part(s, n, blocks, UINT64_MAX, 99), 0);
     want(s, "part", "the length with too many regions", try_part(s, n + 1, blocks, 0, 99), 0);
     want(s, "part", "the length with no block", try_part(s, n, 0, 0, 99), 0);
@@ -363,22 +370,34 @@ static void try_table(struct subject *s, bool exact_only) {
     end(s);
 }
 
-/* Prints the listing from parts in buffers of just their lengths, which a call with no room tells; or a refusal's line. */
-static void print_listing(struct subject *s) {
-    begin(s);
-    uint64_t parts = s->reduced.refusal == 0 ? 1 + s->graph.value + s->reduced.blocks : 1;
-    for (uint64_t part = 0; part < parts; part++) {
-        bool line = s->reduced.refusal != 0;
-        size_t length = (size_t)(line ? terkwabu_refusal_line(s->reduced.refusal, s->reduced.place, s->text, 0).place
-                                      : plain_part(s, part, s->text, 0).place);
+/* Prints the parts of the listing, from part 0 on until there is none, each put into a buffer of just its length. A call with no room tells
+ * how long it is. */
+static void print_parts(const struct subject *s) {
+    for (uint64_t part = 0;; part++) {
+        terkwabu_answer told = plain_part(s, part, s->text, 0);
+        want(s, "part", "refusal or value with no room", told.refusal | told.value, 0);
+        if (told.place == 0) return;
+        size_t length = (size_t)told.place;
         uint8_t *buffer = memory(length);
-        terkwabu_answer answer = line ? terkwabu_refusal_line(s->reduced.refusal, s->reduced.place, buffer, length)
-                                      : plain_part(s, part, buffer, length);
-        want(s, "part", "value", answer.value, length);
+        want(s, "part", "value", plain_part(s, part, buffer, length).value, length);
         fwrite(buffer, 1, length, stdout);
         free(buffer);
     }
-    if (s->reduced.refusal == 0) want(s, "part", "value past the end", plain_part(s, parts, s->text, TERKWABU_PART_BYTES).value, 0);
+}
+
+/* Prints the line of the table's refusal in the same way. */
+static void print_refusal(const struct subject *s) {
+    size_t length = (size_t)terkwabu_refusal_line(s->reduced.refusal, s->reduced.place, s->text, 0).place;
+    uint8_t *buffer = memory(length);
+    want(s, "refusal_line", "value", terkwabu_refusal_line(s->reduced.refusal, s->reduced.place, buffer, length).value, length);
+    fwrite(buffer, 1, length, stdout);
+    free(buffer);
+}
+
+static void print_listing(struct subject *s) {
+    begin(s);
+    if (s->reduced.refusal == 0) print_parts(s);
+    else print_refusal(s);
     end(s);
 }
 

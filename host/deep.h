@@ -105,6 +105,9 @@ static void call_refusal_line(void) { work->answer = terkwabu_refusal_line(UINT6
 
 static void call_refusal_line_no_buffer(void) { work->answer = terkwabu_refusal_line(UINT64_MAX, UINT64_MAX, work->buffer, 0); }
 
+/* Notes no answer, since there is none, but whether the version is the header's. */
+static void call_version(void) { work->answer.refusal = terkwabu_version() == TERKWABU_VERSION ? TERKWABU_NO_REFUSAL : UINT64_MAX; }
+
 /* Says of a call what stack the header states for it; up to which number it answers the refusal of a table; and what it answers else. */
 struct call {
     const char *name;
@@ -131,6 +134,7 @@ static const struct call calls[] = {
     {"terkwabu_part with no buffer", TERKWABU_STACK_PART, call_part_no_buffer, 13, TERKWABU_NO_REFUSAL},
     {"terkwabu_refusal_line", TERKWABU_STACK_REFUSAL_LINE, call_refusal_line, 0, TERKWABU_NO_REFUSAL},
     {"terkwabu_refusal_line with no buffer", TERKWABU_STACK_REFUSAL_LINE, call_refusal_line_no_buffer, 0, TERKWABU_NO_REFUSAL},
+    {"terkwabu_version", TERKWABU_STACK_VERSION, call_version, 0, TERKWABU_NO_REFUSAL},
 };
 enum { CALLS = sizeof calls / sizeof calls[0] };
 

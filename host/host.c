@@ -1,7 +1,8 @@
 /* A host of the library in C: reads a model table from a file, makes one of the calls, and prints the answer.
  *
- * It is an example to start from, so it does everything that a host has to do: it lends memory of the right lengths, looks at the
- * refusal before anything else, and puts the listing together from its parts. `build/host` without arguments prints how to call it.
+ * It is an example to start from, so it does everything that a host has to do: it compares the library's version with its header's, lends
+ * memory of the right lengths, makes the calls that test its pointers, looks at the refusal before anything else, and puts the listing
+ * together from its parts. `build/host` without arguments prints how to call it.
  *
  * gcc -std=c11 -O2 -Wall -Wextra -Werror -o build/host host/host.c build/libterkwabu.a
  */
@@ -13,7 +14,7 @@
 #include <stdlib.h>
 #include <string.h>
 
-#include "../include/terkwabu.h"
+#include "../include/terkwabu_checked.h"
 
 /* The exit status. */
 enum { DONE = 0, REFUSED = 1, FAILED = 2 };
@@ -29,12 +30,13 @@ static void usage(FILE *out) {
           "       host pair TABLE R S                               whether regions R and S share a block\n"
           "       host place TABLE LOCATION V0 V1 V2 V3 DENOMINATOR the region of a state; V0/DENOMINATOR is clock 0\n"
           "       host judge TABLE PARTITION                        whether a proposed partition is a bisimulation\n"
+          "       host version                                      the version of the library\n"
           "\n"
           "TABLE is a file of bytes (docs/FORMAT.md), PARTITION a text of numbers parted by blanks or line ends, one for each\n"
           "region, equal numbers meaning related. One of them may be -, for standard input. Both may have 1,048,576 bytes.\n"
           "A number is decimal, 0 to 18446744073709551615, and clocks that the model does not have take 0.\n"
           "A refusal is a line on standard output, such as 'refused 5 place 0', with its meaning on standard error.\n"
-          "Exit status: 0 done; 1 refused; 2 wrong use, or a file that cannot be read or written.\n",
+          "Exit status: 0 done; 1 refused; 2 wrong use, a file that cannot be read or written, or a library of another version.\n",
           out);
 }
 
@@ -78,14 +80,44 @@ static const char *meaning(uint64_t refusal) {
     }
 }
 
-/* Prints a refusal's line, as the library words it, and what it means. */
+/* Prints a refusal's line, as the library words it, and what it means. A refusal of terkwabu_checked.h ends the program: then not the table
+ * is wrong, but what this program lent. */
 static int refused(terkwabu_answer answer) {
+    if (answer.refusal >= TERKWABU_NULL_POINTER)
+        fail("a mistake in this program: the slice at parameter %" PRIu64 " breaks the library's rules, number %" PRIu64, answer.place,
+             answer.refusal);
     uint8_t line[TERKWABU_LINE_BYTES];
-    terkwabu_answer text = terkwabu_refusal_line(answer.refusal, answer.place, line, sizeof line);
+    terkwabu_answer text = terkwabu_checked_refusal_line(answer.refusal, answer.place, line, sizeof line);
     fwrite(line, 1, (size_t)text.value, stdout);
     fprintf(stderr, "host: refused, number %" PRIu64 " at place %" PRIu64 ": %s\n", answer.refusal, answer.place,
             meaning(answer.refusal));
     return REFUSED;
+}
+
+/* ---- The version */
+
+struct version {
+    char text[64];
+};
+
+/* Writes out a version that is given as one number. */
+static struct version worded(uint64_t version) {
+    struct version words;
+    snprintf(words.text, sizeof words.text, "%" PRIu64 ".%" PRIu64 ".%" PRIu64, version / 1000000, version / 1000 % 1000, version % 1000);
+    return words;
+}
+
+/* Ends the program unless the library is of the header's version. A shared one may have been exchanged since this program was made; one of
+ * another version may answer otherwise. */
+static void compare_versions(void) {
+    uint64_t linked = terkwabu_version();
+    if (linked == TERKWABU_VERSION) return;
+    fail("the library is terkwabu %s, and this program was made for terkwabu %s", worded(linked).text, worded(TERKWABU_VERSION).text);
+}
+
+static int print_version(void) {
+    printf("terkwabu %s\n", worded(terkwabu_version()).text);
+    return DONE;
 }
 
 /* ---- Memory */
@@ -196,13 +228,14 @@ static struct numbers read_numbers(const char *path) {
 
 /* ---- The commands. Each makes its call and prints what it answers. */
 
-/* Prints the parts of the listing, one after the other, from what the partition call left: the first line, a part for each region, and
- * one for each block. All of them are there, so each must come. */
+/* Prints the parts of the listing from what the partition call left: from part 0 on, until the library says that there is no such part. */
 static void print_parts(struct bytes table, struct lent lent, terkwabu_answer reduced) {
     uint8_t *buffer = lend(TERKWABU_PART_BYTES, 1);
-    for (uint64_t part = 0; part < 1 + reduced.value + reduced.blocks; part++) {
-        terkwabu_answer answer = terkwabu_part(table.data, table.length, lent.entries, ENTRIES_LEN, lent.first, LIST_LEN, reduced.value,
-                                               reduced.blocks, reduced.rounds, part, buffer, TERKWABU_PART_BYTES);
+    for (uint64_t part = 0;; part++) {
+        terkwabu_answer answer =
+            terkwabu_checked_part(table.data, table.length, lent.entries, ENTRIES_LEN, lent.first, LIST_LEN, reduced.value, reduced.blocks,
+                                  reduced.rounds, part, buffer, TERKWABU_PART_BYTES);
+        if (answer.refusal == 0 && answer.value == 0 && answer.place == 0) break;
         if (answer.refusal != 0 || answer.value == 0)
             fail("part %" PRIu64 " of the listing does not come: refusal %" PRIu64 ", place %" PRIu64, part, answer.refusal, answer.place);
         fwrite(buffer, 1, (size_t)answer.value, stdout);
@@ -218,7 +251,7 @@ static void print_blocks(struct lent lent, terkwabu_answer reduced) {
 static int run_reduce(struct bytes table, bool listing) {
     struct lent lent = lend_all();
     terkwabu_answer answer =
-        terkwabu_reduce(table.data, table.length, lent.entries, ENTRIES_LEN, lent.first, LIST_LEN, lent.second, LIST_LEN);
+        terkwabu_checked_reduce(table.data, table.length, lent.entries, ENTRIES_LEN, lent.first, LIST_LEN, lent.second, LIST_LEN);
     int status = answer.refusal != 0 ? refused(answer) : DONE;
     if (status == DONE && listing) print_parts(table, lent, answer);
     if (status == DONE && !listing) print_blocks(lent, answer);
@@ -230,7 +263,7 @@ static int run_pair(struct bytes table, char **rest) {
     uint64_t r = argument("R", rest[0]), s = argument("S", rest[1]);
     struct lent lent = lend_all();
     terkwabu_answer answer =
-        terkwabu_pair(table.data, table.length, lent.entries, ENTRIES_LEN, lent.first, LIST_LEN, lent.second, LIST_LEN, r, s);
+        terkwabu_checked_pair(table.data, table.length, lent.entries, ENTRIES_LEN, lent.first, LIST_LEN, lent.second, LIST_LEN, r, s);
     int status = answer.refusal != 0 ? refused(answer) : DONE;
     if (status == DONE) puts(answer.value == 1 ? "shared" : "not shared");
     take_back(lent);
@@ -243,7 +276,7 @@ static int run_place(struct bytes table, char **rest) {
     for (int i = 0; i < 6; i++) state[i] = argument(names[i], rest[i]);
     uint8_t *entries = lend(ENTRIES_LEN, 1);
     terkwabu_answer answer =
-        terkwabu_place(table.data, table.length, entries, ENTRIES_LEN, state[0], state[1], state[2], state[3], state[4], state[5]);
+        terkwabu_checked_place(table.data, table.length, entries, ENTRIES_LEN, state[0], state[1], state[2], state[3], state[4], state[5]);
     int status = answer.refusal != 0 ? refused(answer) : DONE;
     if (status == DONE) printf("region %" PRIu64 "\n", answer.value);
     free(entries);
@@ -253,7 +286,7 @@ static int run_place(struct bytes table, char **rest) {
 static int run_judge(struct bytes table, const char *path) {
     struct numbers proposal = read_numbers(path);
     uint8_t *entries = lend(ENTRIES_LEN, 1);
-    terkwabu_answer answer = terkwabu_judge(table.data, table.length, entries, ENTRIES_LEN, proposal.data, proposal.length);
+    terkwabu_answer answer = terkwabu_checked_judge(table.data, table.length, entries, ENTRIES_LEN, proposal.data, proposal.length);
     int status = answer.refusal != 0 ? refused(answer) : DONE;
     if (status == DONE) puts("accepted");
     free(entries);
@@ -280,7 +313,10 @@ static enum command command_of(int count, char **arguments) {
     exit(FAILED);
 }
 
-static int run(enum command command, const char *path, char **rest) {
+static int run(int count, char **arguments) {
+    enum command command = command_of(count, arguments);
+    const char *path = arguments[2];
+    char **rest = arguments + 3;
     if (command == JUDGE && strcmp(path, "-") == 0 && strcmp(rest[0], "-") == 0) fail("only one of TABLE and PARTITION may be -");
     struct bytes table = read_file(path);
     int status = command == PAIR    ? run_pair(table, rest)
@@ -291,13 +327,15 @@ static int run(enum command command, const char *path, char **rest) {
     return status;
 }
 
+static bool is_alone(int count, char **arguments, const char *word) { return count == 2 && strcmp(arguments[1], word) == 0; }
+
 int main(int count, char **arguments) {
-    if (count == 2 && (strcmp(arguments[1], "-h") == 0 || strcmp(arguments[1], "--help") == 0)) {
+    if (is_alone(count, arguments, "-h") || is_alone(count, arguments, "--help")) {
         usage(stdout);
         return DONE;
     }
-    enum command command = command_of(count, arguments);
-    int status = run(command, arguments[2], arguments + 3);
+    compare_versions();
+    int status = is_alone(count, arguments, "version") ? print_version() : run(count, arguments);
     if (ferror(stdout) || fclose(stdout) != 0) fail("standard output: %s", strerror(errno));
     return status;
 }

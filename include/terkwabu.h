@@ -11,6 +11,9 @@
  *   terkwabu_place           finds the region of a state: a location and the values of the clocks
  *   terkwabu_part            puts a part of the listing, the reduced model as text, into a buffer
  *   terkwabu_refusal_line    puts the line of a refusal into a buffer
+ *   terkwabu_version         gives the version of the library
+ *
+ * terkwabu_checked.h, beside this file, has the same calls with a test of the host's pointers before each: see Slices.
  *
  * For every table, every number and every lent length it is proved which answer comes back, and what all lent memory holds after the
  * call. What follows says it in words; the definitions are in the specs/ folders under crates/. Stack and time are measured, not proved.
@@ -24,13 +27,20 @@
  * Slices. Where a call takes a pointer and a length, the length counts elements: bytes for tables, entries and buffers, but numbers
  * of 64 bits, not bytes, for block lists and proposals. What the pointers must be is for the host to see to; the library cannot test it:
  *
- *   valid       the memory can be read, and where the pointer is not const written, for that many elements
- *   not null    also where the length is 0: hand over the address of any object then
+ *   valid       the memory can be read, and written if the pointer is not const, for that many elements
+ *   not null    also if the length is 0: hand over the address of any object of the element's type then
  *   aligned     for numbers of 64 bits as a uint64_t is; for bytes any address will do
  *   apart       no slice overlaps another slice of the same call; two block lists are two pieces of memory
  *
- * Apart from that any input will do: bytes that are no table are refused, and memory that is too short is refused or partly filled, as
- * said below. Nothing outside a slice is read or written, nothing that is const is written, and each call comes back.
+ * If a slice breaks one of these rules, the behaviour is undefined: nothing that is said here or proved of the call holds, and nothing need
+ * show it. One list lent as both block lists of terkwabu_reduce, for instance, gave refusal 0 with wrong block numbers in the list.
+ *
+ * So use terkwabu_checked.h unless you are sure of your pointers: terkwabu_checked_reduce and so on take the same parameters, test every
+ * rule but the first, and answer with a refusal above 1,000, before anything is touched, if one is broken. The prototypes below declare
+ * restrict what must be apart, so that a compiler can find the plainest mistakes: gcc -Wall warns if one pointer is handed over twice.
+ *
+ * If the rules are kept, any input will do: bytes that are no table are refused, and memory that is too short is refused or partly filled,
+ * as said below. Nothing outside a slice is read or written, nothing that is const is written, and each call comes back.
  *
  * Threads. A call keeps no pointer and no state, and shares nothing with other calls. Calls may run side by side; while one runs,
  * nobody else may write what it was given, or touch what it may write. Any number of calls may read one table.
@@ -43,12 +53,13 @@
  *   terkwabu_graph, terkwabu_place                     24,232 bytes
  *   terkwabu_reduce, terkwabu_pair, terkwabu_judge     1,497,200 bytes
  *   terkwabu_part                                      96,232 bytes
- *   terkwabu_refusal_line                              296 bytes
+ *   terkwabu_refusal_line, terkwabu_version            296 bytes
  *
  * Where a process uses memcpy, memset or a call of the shared library for the first time, the loader takes about 3 KB more. The constants
- * have room for it: host/test makes each call as the first of a process, on a stack of just that size. They have none for what a thread
- * takes of its stack for itself, and for signals. So 2 MB should do for a thread that makes any of the calls; some systems give threads
- * less if nothing is said. On another system, or with a library built otherwise, measure anew.
+ * have room for it, and for the tests of terkwabu_checked.h: host/test makes each call, plain and checked, as the first of a process, on a
+ * stack of just that size. They have none for what a thread takes of its stack for itself, and for signals. Give a thread that makes
+ * these calls a stack of at least 2 MB; some systems' default is smaller. On another system, or with a library built otherwise, measure
+ * anew.
  *
  * Time. It depends on the table. Most models are reduced in some ten milliseconds, tables made to be slow take up to a few
  * seconds (bench/run prints both), and a call cannot be broken off.
@@ -56,9 +67,9 @@
  *
  * ANSWERS AND REFUSALS
  *
- * Each call answers with five numbers. refusal is 0 where nothing is refused, and else says what is wrong; look at it first. On a
- * refusal place says where in the table, and value, blocks and rounds are 0. Without one value is the call's result, and what a call
- * does not use is 0; only the two calls that write text use place then, for a buffer that is too short.
+ * Each call but terkwabu_version answers with five numbers. refusal is 0 if nothing is refused, and otherwise says what is wrong; look at
+ * it first. On a refusal place says where in the table, and value, blocks and rounds are 0. Without one value is the call's result, and
+ * what a call does not use is 0; only the two calls that write text use place then, for a buffer that is too short.
  *
  * Refusals 1 to 13 are about the table. Its length, refusal 1, comes before any record. Then its records are read in order; the first that
  * meets a condition decides, and of its conditions the lowest number. place is a count of bytes from the table's beginning.
@@ -113,9 +124,30 @@
 #include <stddef.h>
 #include <stdint.h>
 
+/* Marks the pointers of a call whose slices must not overlap. C has a word for it since C99; C++ has none, but its compilers do. */
+#if !defined(__cplusplus) && defined(__STDC_VERSION__) && __STDC_VERSION__ >= 199901L
+#define TERKWABU_RESTRICT restrict
+#elif defined(__GNUC__) || defined(__clang__) || defined(_MSC_VER)
+#define TERKWABU_RESTRICT __restrict
+#else
+#define TERKWABU_RESTRICT
+#endif
+
 #ifdef __cplusplus
 extern "C" {
 #endif
+
+/* State the version of this header in three numbers, each below 1,000 but the first, and in one: 1002003 would be version 1.2.3.
+ *
+ *   MAJOR   rises if a form changes, of a prototype, a struct or an entry, or if a call is taken away
+ *   MINOR   rises if, for any input, a call answers otherwise or leaves something else in lent memory, or if a call is added
+ *   PATCH   rises if neither is so: a call takes less time, say
+ *
+ * If one of the three rises, those after it start again from 0. */
+#define TERKWABU_VERSION_MAJOR 1
+#define TERKWABU_VERSION_MINOR 0
+#define TERKWABU_VERSION_PATCH 0
+#define TERKWABU_VERSION (TERKWABU_VERSION_MAJOR * 1000000 + TERKWABU_VERSION_MINOR * 1000 + TERKWABU_VERSION_PATCH)
 
 /* A region's entry has nine bytes; that of region r begins at byte 9 r:
  *
@@ -143,6 +175,7 @@ extern "C" {
 #define TERKWABU_STACK_JUDGE (1464 * 1024)
 #define TERKWABU_STACK_PART (112 * 1024)
 #define TERKWABU_STACK_REFUSAL_LINE (4 * 1024)
+#define TERKWABU_STACK_VERSION (4 * 1024)
 
 /* The refusals of the tables above by name. */
 enum terkwabu_refusal {
@@ -179,15 +212,17 @@ typedef struct {
  * order in which they are met: of each region in turn its delay first, then its available edges in table order, branches in order.
  *
  * value: N. Refusals: 1 to 15. */
-terkwabu_answer terkwabu_graph(const uint8_t *table, size_t table_len, uint8_t *entries, size_t entries_len);
+terkwabu_answer terkwabu_graph(const uint8_t *TERKWABU_RESTRICT table, size_t table_len, uint8_t *TERKWABU_RESTRICT entries,
+                               size_t entries_len);
 
 /* Explores as terkwabu_graph does, and finds the region of a state: at a location, with the value v0/denominator for clock 0,
  * v1/denominator for clock 1 and so on. Values may be any numbers of 64 bits and are compared exactly; clocks that the model does not
  * have take 0. A state that breaks its location's invariant lies in no region that is reached: 21.
  *
  * value: the region's number. Refusals: 1 to 15, 20, 21. */
-terkwabu_answer terkwabu_place(const uint8_t *table, size_t table_len, uint8_t *entries, size_t entries_len, uint64_t location,
-                               uint64_t v0, uint64_t v1, uint64_t v2, uint64_t v3, uint64_t denominator);
+terkwabu_answer terkwabu_place(const uint8_t *TERKWABU_RESTRICT table, size_t table_len, uint8_t *TERKWABU_RESTRICT entries,
+                               size_t entries_len, uint64_t location, uint64_t v0, uint64_t v1, uint64_t v2, uint64_t v3,
+                               uint64_t denominator);
 
 /* Explores, and finds the blocks: number r of either list is then the block of region r. The two lists hold the same; the work is done
  * in both. Blocks are numbered from 0 by their lowest region, so region 0 is in block 0. Two states that lie in regions of the graph
@@ -195,26 +230,30 @@ terkwabu_answer terkwabu_place(const uint8_t *table, size_t table_len, uint8_t *
  *
  * value: N. blocks: how many there are. rounds: after how many rounds of splitting, from the labels on, nothing changes any more.
  * Refusals: 1 to 16. */
-terkwabu_answer terkwabu_reduce(const uint8_t *table, size_t table_len, uint8_t *entries, size_t entries_len, uint64_t *first,
-                                size_t first_len, uint64_t *second, size_t second_len);
+terkwabu_answer terkwabu_reduce(const uint8_t *TERKWABU_RESTRICT table, size_t table_len, uint8_t *TERKWABU_RESTRICT entries,
+                                size_t entries_len, uint64_t *TERKWABU_RESTRICT first, size_t first_len,
+                                uint64_t *TERKWABU_RESTRICT second, size_t second_len);
 
 /* Explores, finds the blocks as terkwabu_reduce does, and compares two regions r and s, which may be the same.
  *
  * value: 1 where they share a block, 0 where not; both are success, and fill both lists. Refusals: 1 to 16, 19. */
-terkwabu_answer terkwabu_pair(const uint8_t *table, size_t table_len, uint8_t *entries, size_t entries_len, uint64_t *first,
-                              size_t first_len, uint64_t *second, size_t second_len, uint64_t r, uint64_t s);
+terkwabu_answer terkwabu_pair(const uint8_t *TERKWABU_RESTRICT table, size_t table_len, uint8_t *TERKWABU_RESTRICT entries,
+                              size_t entries_len, uint64_t *TERKWABU_RESTRICT first, size_t first_len,
+                              uint64_t *TERKWABU_RESTRICT second, size_t second_len, uint64_t r, uint64_t s);
 
 /* Explores, and judges a proposed partition: number r is any number for region r, and regions with equal numbers are meant to be related.
  * It need not be the coarsest, nor numbered as blocks are.
  *
  * value: 1, where it is a bisimulation; where it is none, that is refusal 18. Refusals: 1 to 15, 17, 18. */
-terkwabu_answer terkwabu_judge(const uint8_t *table, size_t table_len, uint8_t *entries, size_t entries_len,
-                               const uint64_t *proposal, size_t proposal_len);
+terkwabu_answer terkwabu_judge(const uint8_t *TERKWABU_RESTRICT table, size_t table_len, uint8_t *TERKWABU_RESTRICT entries,
+                               size_t entries_len, const uint64_t *TERKWABU_RESTRICT proposal, size_t proposal_len);
 
-/* Puts a part of the listing into the buffer. Part 0 is the first line, then comes a part for each region, its line, and then one for
- * each block, its lines; joined in the order of their numbers the parts are the listing. Each part ends with a line feed, and no
- * zero byte is put behind it. Hand over what terkwabu_reduce left for the same table: the entries, either of the two lists, and its
- * value, blocks and rounds for regions, blocks and rounds. The table is read again, but nothing is explored or reduced.
+/* Puts a part of the listing into the buffer. Go from part 0 on until there is no such part, as the example does: joined in the order of
+ * their numbers, the parts are the listing. Part 0 is the first line, then comes a part for each region, its line, and then one for each
+ * block, its lines. Each part ends with a line feed, and no zero byte is put behind it.
+ *
+ * Hand over what terkwabu_reduce left for the same table: the entries, either of the two lists, and its value, blocks and rounds for
+ * regions, blocks and rounds. The table is read again, but nothing is explored or reduced.
  *
  *   refusal   value     place     What it means
  *   1 to 13   0         any       the table is refused, at place (not where terkwabu_reduce has just taken it)
@@ -225,9 +264,9 @@ terkwabu_answer terkwabu_judge(const uint8_t *table, size_t table_len, uint8_t *
  * Other entries, lists and counts than those that terkwabu_reduce left are taken as they are, and give some text or none. Where the
  * counts cannot be those of what is lent there is no part: regions above 4,096, entries or list too short for them, blocks 0 or
  * above regions. */
-terkwabu_answer terkwabu_part(const uint8_t *table, size_t table_len, const uint8_t *entries, size_t entries_len,
-                              const uint64_t *list, size_t list_len, uint64_t regions, uint64_t blocks, uint64_t rounds,
-                              uint64_t part, uint8_t *buffer, size_t buffer_len);
+terkwabu_answer terkwabu_part(const uint8_t *TERKWABU_RESTRICT table, size_t table_len, const uint8_t *TERKWABU_RESTRICT entries,
+                              size_t entries_len, const uint64_t *TERKWABU_RESTRICT list, size_t list_len, uint64_t regions,
+                              uint64_t blocks, uint64_t rounds, uint64_t part, uint8_t *TERKWABU_RESTRICT buffer, size_t buffer_len);
 
 /* Puts the line of a refusal, such as "refused 5 place 0" and a line feed, into the buffer. Where terkwabu_reduce refuses a table with 1 to
  * 15, this line is its listing. Any two numbers are taken.
@@ -236,11 +275,17 @@ terkwabu_answer terkwabu_part(const uint8_t *table, size_t table_len, const uint
  * place is how many bytes the line takes. There are no refusals. */
 terkwabu_answer terkwabu_refusal_line(uint64_t number, uint64_t place, uint8_t *buffer, size_t buffer_len);
 
+/* Returns TERKWABU_VERSION of the library that is linked. A program with a shared library may find an older or a newer one when it runs:
+ * compare the two numbers first, as host/host.c does. */
+uint64_t terkwabu_version(void);
+
 #ifdef __cplusplus
 }
 #endif
 
-/* EXAMPLE: prints the listing of a small model. host/host.c has all calls.
+#undef TERKWABU_RESTRICT
+
+/* EXAMPLE: prints the listing of a small model. host/host.c has more calls, checked ones, and a test of the version.
  *
  *   gcc -std=c11 -Iinclude -o example example.c build/libterkwabu.a
  *
@@ -270,13 +315,13 @@ terkwabu_answer terkwabu_refusal_line(uint64_t number, uint64_t place, uint8_t *
  *           fwrite(buffer, 1, (size_t)line.value, stdout);
  *           return 1;
  *       }
- *       for (uint64_t part = 0; part < 1 + r.value + r.blocks; part++) {
+ *       for (uint64_t part = 0;; part++) {
  *           terkwabu_answer p = terkwabu_part(table, sizeof table, entries, sizeof entries, first, TERKWABU_MAX_REGIONS,
  *                                             r.value, r.blocks, r.rounds, part, buffer, sizeof buffer);
- *           if (p.refusal != 0 || p.value == 0) return 2;  // not with what terkwabu_reduce left, and such a buffer
+ *           if (p.refusal != 0 || (p.value == 0 && p.place != 0)) return 2;  // not with what terkwabu_reduce left, and such a buffer
+ *           if (p.value == 0) return 0;                                      // there is no such part: the listing has ended
  *           fwrite(buffer, 1, (size_t)p.value, stdout);
  *       }
- *       return 0;
  *   }
  * ---- end of example.c
  */
