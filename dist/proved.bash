@@ -3,8 +3,15 @@
 
 dist=dist/x86_64-linux
 
-# Prints the digest of the sources: crates.txt, and what rt reads of src/, specs/ and proofs/ of each crate.
+# Prints the digest of the sources: crates.txt, and what rt reads of src/, specs/ and proofs/ of each crate. Refuses symbolic links: what
+# they lead to would not be seen.
 sources_digest() {
+  local link
+  link=$(find crates.txt crates -type l -print -quit)
+  if [[ -n $link ]]; then
+    printf '%s: a symbolic link among the sources\n' "$link" >&2
+    return 1
+  fi
   LC_ALL=C find crates.txt crates/*/src crates/*/specs crates/*/proofs -type f \( -name '*.rt' -o -name '*.antt' -o -name crates.txt \) \
     -print0 2>/dev/null | LC_ALL=C sort -z | xargs -0 sha256sum | sha256sum | cut -d ' ' -f 1
 }
@@ -30,24 +37,25 @@ is_current() {
 # Writes a manifest of files in a folder, which were built from the sources with that digest.
 #   write_manifest MANIFEST FOLDER DIGEST FILE ...
 write_manifest() {
-  local manifest=$1 folder=$2 digest=$3 made name
+  local manifest=$1 folder=$2 digest=$3 prover made name
   shift 3
+  prover=$(rt version) || return 1
   made=$(mktemp "$manifest.XXXXXX") || return 1
   {
-    printf 'version %s\nsources %s\nprover %s\n' "$(header_version)" "$digest" "$(rt version)"
+    printf 'version %s\nsources %s\nprover %s\n' "$(header_version)" "$digest" "$prover"
     for name; do printf 'sha256 %s %s\n' "$name" "$(sha256sum <"$folder/$name" | cut -d ' ' -f 1)"; done
   } >"$made" && chmod 644 "$made" && mv -f -- "$made" "$manifest"
 }
 
 # Proves crates with rt, and tells on standard error how far that has come. Crates that were proved before and have not changed since are
-# taken as they are. What rt prints is shown where the proofs fail.
+# taken as they are, unless target/ was removed first. What rt prints is shown where the proofs fail. The caller sets pipefail.
 #   prove_crates CRATE ...
 prove_crates() {
   local log=build/proving.log last=build/proving.seconds began=$SECONDS expected line status=0
   expected=$(cat "$last" 2>/dev/null) || expected=600
   printf 'proving from the sources; about %d s if nothing was proved before\n' "$expected" >&2
   : >"$log"
-  rt check "$@" </dev/null 2>&1 | while IFS= read -r line; do
+  rt check "$@" </dev/null 2>&1 | while IFS= read -r line || [[ -n $line ]]; do
     printf '%s\n' "$line" >>"$log"
     [[ $line == "rt: "*" proved ("*" s)" ]] || continue
     printf '  %s; %d s so far, of about %d\n' "${line#rt: }" $((SECONDS - began)) "$expected" >&2

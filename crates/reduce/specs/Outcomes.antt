@@ -1,4 +1,4 @@
--- What came of printing. No contract can say what is printed; these say that nothing is left out for want of room or of steps.
+-- What came of printing. No contract can say what is printed; these say that printing never stops for want of room or of steps.
 use Rattle.listing.specs.Parts.{Fits, Past}
 use Rattle.listing.specs.declared.parts.Part.{Part}
 use Rattle.reduce.specs.declared.Outcome.{Outcome}
@@ -11,7 +11,7 @@ Whole End = Unit
 Whole Failed = Unit
 Whole Cut = ⊥
 
--- It is over: no part was printed.
+-- It is over: no part was printed whole.
 abbrev pub Last : Outcome → Type 0
 Last Printed = ⊥
 Last End = Unit

@@ -1,8 +1,8 @@
 // The program: reads a table from standard input, lends 2,048 entries, and prints the listing, or the line of a refusal. Of a longer input
 // 16,385 bytes are read, one more than a table may have, so that it is refused (1) and not cut. No contract can say what is printed. What
-// is proved is that the program is safe, prints only what the calls wrote, and goes from part to part until the part call says that there
-// are no more, or the output fails: it never stops for want of room in its buffer or of steps. That the parts are then the listing is
-// `joined` of crates/listing. A read that fails ends the input.
+// is proved is that the program is safe, prints no more of a buffer than the call says it wrote, and never stops for want of room in its
+// buffer or of steps. That it prints part after part until the call says that there are no more is read off `print_listing`; that these
+// parts are the listing is proved of the calls (`call-written`, `call-end` and `joined` of crates/listing). A read that fails ends the input.
 ghost use Prim.Native.Nat.{_≤_};
 ghost use lib.ListN.{length};
 ghost use Rattle.listing.specs.Parts.{Within, mostBytes, mostParts};
