@@ -7,7 +7,7 @@ dist=dist/x86_64-linux
 # they lead to would not be seen.
 sources_digest() {
   local link
-  link=$(find crates.txt crates -type l -print -quit)
+  link=$(find crates.txt crates -type l -print -quit 2>/dev/null) || return 1
   if [[ -n $link ]]; then
     printf '%s: a symbolic link among the sources\n' "$link" >&2
     return 1
