@@ -14,8 +14,8 @@ SECONDS = 60  # for a call that should take a fraction of one
 CALLS = []  # the words of each call that was made
 
 # Names every tool that ./reduce, ./library and ./release take from the PATH, but for rt and gcc.
-TOOLS = """bash cat chmod cmp cp cut dirname env find grep head install mkdir mktemp mv paste python3 readlink rm sed sha256sum sh sort tail
-    tr uname wc xargs""".split()
+TOOLS = """bash cat chmod cmp cp cut dirname find grep head install mkdir mktemp mv paste python3 readlink rm sed sha256sum sort tail tr
+    uname wc xargs""".split()
 
 
 class Did(NamedTuple):

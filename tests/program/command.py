@@ -62,14 +62,17 @@ def hold_models():
         hold(f"bytes of {name}", reduce(given=call([ASSEMBLE, model]).output), good)
 
 
+def refused(case, name):
+    """Gives what a call on a text must do whose table is refused: the listing's line, and the line of the text on standard error."""
+    return Did(0, f"{case.line}\n".encode(), f"{name}{case.told} ({case.line})\n")
+
+
 def hold_refusals():
-    """Hands over the model texts whose tables are refused. Standard error names the line of the text."""
+    """Hands over all model texts whose tables are refused, the last one also on standard input, and tables of no model."""
     for case in refusals.MADE:
-        write("refused.model", case.text.encode())
-        wanted = Did(0, f"{case.line}\n".encode(), f"refused.model{case.told} ({case.line})\n")
-        hold(f"{case.line}, {case.told}", reduce("-m", "refused.model"), wanted)
-        wanted = wanted._replace(message=f"standard input{case.told} ({case.line})\n")
-    hold("a refusal on standard input", reduce("-m", given=case.text.encode()), wanted)
+        write("my.model", case.text.encode())
+        hold(f"{case.line}, {case.told}", reduce("-m", "my.model"), refused(case, "my.model"))
+    hold("a refusal on standard input", reduce("-m", given=case.text.encode()), refused(case, "standard input"))
     for words, data in ([], bytes(3)), (["-x"], b"000000"):
         hold(f"{words}, a refusal", reduce(*words, given=data), Did(0, b"refused 3 place 0\n", ""))
 
@@ -245,14 +248,19 @@ def hold_temporary():
     hold("temporary files that are left", os.listdir("here"), [])
 
 
+def unread(pipe):
+    """Counts the bytes in a pipe that nobody has read."""
+    return struct.unpack("i", fcntl.ioctl(pipe, termios.FIONREAD, bytes(4)))[0]
+
+
 def hold_signal():
     """Ends it while it waits for more of its input. The shell may tell of the signal or not."""
     process = begin([COMMAND])
     process.stdin.write(EXAMPLE)
     process.stdin.flush()
     until = time.monotonic() + SECONDS
-    while struct.unpack("i", fcntl.ioctl(process.stdin, termios.FIONREAD, bytes(4)))[0] > 0 and time.monotonic() < until:
-        time.sleep(0.01)  # until the bytes are read
+    while unread(process.stdin) > 0 and time.monotonic() < until:
+        time.sleep(0.01)
     os.killpg(process.pid, signal.SIGTERM)
     hold("a signal", end(process)._replace(message=""), Did(128 + signal.SIGTERM, b"", ""))
 

@@ -1,4 +1,4 @@
-"""Makes a copy of the project in which nothing is proved: rt is a stub there, which writes down how it was called.
+"""Makes a copy of the project in which nothing is proved: its rt is a stub, which writes down how it was called.
 
 The programs that dist/ has there, and that the stub builds, only say where they are from, and the archives have one symbol that does.
 """
@@ -86,6 +86,7 @@ class Project:
             shutil.rmtree(folder, ignore_errors=True)
         os.mkdir(self.stub)
         self.tell_stub("rt", STUB)
+        self.tell_stub("rustc", "#!/bin/sh\nexit 1\n")  # is looked for by ./test, and never called
         self.tell_stub("version", PROVER + "\n")
         self.tell_stub("calls")
         self.tell_stub("fails")
@@ -145,7 +146,7 @@ class Project:
         symbols = re.findall(rb"\0of_(\w+)", read(self.at("build/libterkwabu.so")))
         hold(f"./library, {what}: the shared library", set(symbols), {place.encode()})
 
-    def hold_failure(self, what, name, status, message, calls, path=None):
+    def hold_failure(self, what, name, status, message, calls, *words, path=None):
         """Holds a script to how it fails, and to how it calls rt."""
-        did = self.call(name, path=path)
+        did = self.call(name, *words, path=path)
         hold(f"./{name}, {what}", (did, self.called()), (Did(status, b"", message), calls))

@@ -13,6 +13,8 @@ from project import DIST, PROVER, SOURCE, Project, program
 
 CHECK_REDUCE = ["check reduce", "version"]
 CHECK_LIBRARY = ["check terkwabu", "staticlib terkwabu", "version"]
+RELEASE = ["check terkwabu reduce", "staticlib terkwabu", "version"]
+SCRIPTS = [("reduce", 2), ("library", 1), ("release", 1)]  # with the status of each where it fails
 FILES = [f"{DIST}/reduce", f"{DIST}/libterkwabu.a", "dist/MANIFEST"]
 COMMENT = b"// A comment.\n"
 PROGRESS = """\
@@ -39,17 +41,16 @@ def changed(project, name=SOURCE, more=COMMENT):
 
 
 def hold_unchanged(project):
-    """Uses what dist/ has, twice, and after a change of times only. The library is not made again."""
-    for what in "unchanged sources", "unchanged sources, again":
-        project.hold_reduce(what, "dist", [])
-        project.hold_library(what, "dist", [])
-    built = [os.stat(project.at(f"build/libterkwabu.{kind}")).st_ino for kind in ("a", "so")]
+    """Uses what dist/ has, also after a change of times only. The library that was made is then left as it is."""
+    built = ["build/libterkwabu.a", "build/libterkwabu.so"]
+    project.hold_reduce("unchanged sources", "dist", [])
+    project.hold_library("unchanged sources", "dist", [])
     for time in 1, 4000000000:
-        for name in SOURCE, "crates.txt", "build/libterkwabu.a", *FILES:
+        for name in SOURCE, "crates.txt", *FILES, *built:
             os.utime(project.at(name), (time, time))
         project.hold_reduce("other times", "dist", [])
         project.hold_library("other times", "dist", [])
-    hold("what was built", [os.stat(project.at(f"build/libterkwabu.{kind}")).st_ino for kind in ("a", "so")], built)
+        hold("the times of what was made", [os.stat(project.at(name)).st_mtime for name in built], [time, time])
     hold("all of build/", sorted(os.listdir(project.at("build"))), ["libterkwabu.a", "libterkwabu.so", "libterkwabu.so.of"])
 
 
@@ -74,7 +75,7 @@ def hold_digest(project):
     os.rename(project.at(SOURCE), project.at(SOURCE + ".rt"))
     hold_version("a source with another name", project, unproved)
     os.rename(project.at(SOURCE + ".rt"), project.at(SOURCE))
-    for name in "crates/table/README.md", "crates/table/must-fail/added.edit", "models/added.antt":
+    for name in "crates/table/README.md", "crates/table/src/notes", "crates/table/must-fail/added.edit", "models/added.antt":
         project.put(name, b"added")
         hold_version(f"{name} added", project, gate)
     hold("rt, for --version", project.called(), [])
@@ -136,12 +137,20 @@ def hold_damaged(project):
 
 
 def hold_prove(project):
-    """Proves where that is asked for, though dist/ is of the sources. The next call without the option takes dist/ again."""
+    """Proves from nothing where that is asked for, though dist/ is of the sources. Other calls take dist/ again, and leave target/."""
+    stamp = "target/stamp"
     for what in "--prove", "--prove, again":
-        project.hold_reduce(what, "build", CHECK_REDUCE, "--prove", message=PROGRESS)
-        project.hold_library(what, "build", CHECK_LIBRARY, "--prove", message=PROGRESS)
+        for hold_one, calls in (project.hold_reduce, CHECK_REDUCE), (project.hold_library, CHECK_LIBRARY):
+            project.put(stamp, b"")
+            hold_one(what, "build", calls, "--prove", message=PROGRESS)
+            hold("target/ before the proof", os.path.exists(project.at(stamp)), False)
+    project.put(stamp, b"")
     project.hold_reduce("without --prove", "dist", [])
     project.hold_library("without --prove", "dist", [])
+    with changed(project):
+        project.hold_reduce("changed sources", "build", CHECK_REDUCE, message=PROGRESS)
+        project.hold_library("changed sources", "build", CHECK_LIBRARY, message=PROGRESS)
+    hold("target/ without --prove", os.path.exists(project.at(stamp)), True)
 
 
 # What fails.
@@ -186,47 +195,76 @@ def hold_meanwhile(project):
 
 
 def hold_missing(project):
-    """Takes rt, gcc and the sources away."""
+    """Takes rt, and then gcc, from the PATH. What was proved before stays."""
     tools = link_tools("tools")
+    project.put("target/stamp", b"")
     missing = "rt (the Rattle kit) is not on the PATH"
     with changed(project):
         message = f"reduce: {missing}, and without it only the program of unchanged sources can be run\n"
         project.hold_failure("no rt", "reduce", 2, message, [], path=tools)
         message = f"library: {missing}, and without it only the library of unchanged sources can be built\n"
         project.hold_failure("no rt", "library", 1, message, [], path=tools)
-        project.hold_failure("no rt", "release", 1, f"release: {missing}\n", [], path=tools)
+        for words in [], ["--prove"]:
+            project.hold_failure("no rt", "release", 1, f"release: {missing}\n", [], *words, path=tools)
     message = "library: gcc is missing, and without it there is no build/libterkwabu.so\n"
     project.hold_failure("no gcc", "library", 1, message, [], path=tools)
     project.hold_library("with gcc", "dist", [])
     done = Did(0, b"build/libterkwabu.a\nbuild/libterkwabu.so\n", "")
     hold("./library, no gcc and nothing to do for it", project.call("library", path=tools), done)
+    hold("target/ where rt is missing", os.path.exists(project.at("target/stamp")), True)
+
+
+def hold_unreadable(project):
+    """Puts a link among the sources, which is refused, since nobody sees a change of what it leads to; then takes the sources away."""
+    link = "crates/table/must-fail/link"
+    os.symlink("/dev/null", project.at(link))
+    for name, status in SCRIPTS:
+        message = f"{link}: a symbolic link among the sources\n{name}: the sources cannot be read\n"
+        project.hold_failure("a link", name, status, message, [])
+    os.remove(project.at(link))
     os.rename(project.at("crates"), project.at("crates.away"))
-    for name, status in ("reduce", 2), ("library", 1), ("release", 1):
+    for name, status in SCRIPTS:
         project.hold_failure("no sources", name, status, f"{name}: the sources cannot be read\n", [])
     os.rename(project.at("crates.away"), project.at("crates"))
+
+
+def hold_calls(project):
+    """Calls ./library and ./release in wrong ways, and asks ./library how it is called."""
+    for name in "library", "release":
+        for words in ["all"], ["--prove", "all"], [""], ["--proved"]:
+            project.hold_failure(str(words), name, 1, f"{name}: usage: {name} [--prove]\n", [], *words)
+    for option in "-h", "--help":
+        did = project.call("library", option)
+        hold(f"./library {option}", did._replace(output=did.output.split(b"\n")[0]), Did(0, b"usage: library [--prove]", ""))
 
 
 # dist/ itself.
 
 
-def hold_release(project):
-    """Writes dist/ anew. Where rt fails, or a source changes meanwhile, it stays as it is."""
+def hold_no_release(project):
+    """Leaves dist/ as it is where rt fails, or a source changes meanwhile."""
     before = [read(project.at(name)) for name in FILES]
     with changed(project):
-        for word, told, message in (
-            ("check", FAILURE, "the sources are not proved, and dist/ stays as it is"),
-            ("staticlib", FAILURE, "the library is not built"),
-            ("", "", "a source changed meanwhile; dist/ stays as it is"),
+        for told, word, calls, output, message in (
+            ("fails", "check", RELEASE[:1], FAILURE, "the sources are not proved, and dist/ stays as it is"),
+            ("fails", "staticlib", RELEASE[:2], FAILURE, "the library is not built"),
+            ("meanwhile", "", RELEASE[:2], "", "a source changed meanwhile; dist/ stays as it is"),
         ):
-            project.tell_stub("fails" if word else "meanwhile", word)
-            calls = ["check terkwabu reduce", "staticlib terkwabu"][: 1 if word == "check" else 2]
-            project.hold_failure(message, "release", 1, f"{PROGRESS}{told}release: {message}\n", calls)
-            hold(f"dist/, {message}", [read(project.at(name)) for name in FILES], before)
+            project.tell_stub(told, word)
+            project.hold_failure(message, "release", 1, f"{PROGRESS}{output}release: {message}\n", calls)
             project.tell_stub("fails")
-        os.remove(os.path.join(project.stub, "meanwhile"))
-        hold("./release", project.call("release"), Did(0, project.manifest("build"), PROGRESS))
-        hold("./release", project.called(), ["check terkwabu reduce", *CHECK_LIBRARY[1:]])
-        hold("dist/MANIFEST", read(project.at("dist/MANIFEST")), project.manifest("build"))
+            hold(f"dist/, {message}", [read(project.at(name)) for name in FILES], before)
+
+
+def hold_release(project):
+    """Writes dist/ anew, from nothing where that is asked for."""
+    with changed(project):
+        for words, left in ([], True), (["--prove"], False):
+            project.put("target/stamp", b"")
+            did = project.call("release", *words)
+            hold(f"./release {words}", (did, project.called()), (Did(0, project.manifest("build"), PROGRESS), RELEASE))
+            hold(f"target/ after ./release {words}", os.path.exists(project.at("target/stamp")), left)
+            hold("dist/MANIFEST", read(project.at("dist/MANIFEST")), project.manifest("build"))
         project.hold_reduce("after ./release", "build", [])
         project.hold_library("after ./release", "build", [])
 
@@ -249,7 +287,8 @@ def hold_test(project):
 
 
 STEPS = [hold_unchanged, hold_digest, hold_proved, hold_replaced, hold_damaged, hold_prove]
-STEPS += [hold_failures, hold_programs, hold_meanwhile, hold_missing, hold_release, hold_test]
+STEPS += [hold_failures, hold_programs, hold_meanwhile, hold_missing, hold_unreadable, hold_calls]
+STEPS += [hold_no_release, hold_release, hold_test]
 
 
 def hold_sources():
