@@ -110,6 +110,19 @@ static inline terkwabu_answer terkwabu_slices_tested(const terkwabu_slice *slice
     return terkwabu_slices_refused(TERKWABU_NO_REFUSAL, 0);
 }
 
+/* Tests the four slices of the calls that fill two block lists. */
+static inline terkwabu_answer terkwabu_two_lists_tested(const uint8_t *table, size_t table_len, const uint8_t *entries, size_t entries_len,
+                                                        const uint64_t *first, size_t first_len, const uint64_t *second,
+                                                        size_t second_len) {
+    const terkwabu_slice slices[] = {
+        terkwabu_slice_of_bytes(table, table_len, 1),
+        terkwabu_slice_of_bytes(entries, entries_len, 3),
+        terkwabu_slice_of_numbers(first, first_len, 5),
+        terkwabu_slice_of_numbers(second, second_len, 7),
+    };
+    return terkwabu_slices_tested(slices, sizeof slices / sizeof slices[0]);
+}
+
 /* ---- The calls. terkwabu.h says what each does. */
 
 static inline terkwabu_answer terkwabu_checked_graph(const uint8_t *table, size_t table_len, uint8_t *entries, size_t entries_len) {
@@ -136,13 +149,7 @@ static inline terkwabu_answer terkwabu_checked_place(const uint8_t *table, size_
 
 static inline terkwabu_answer terkwabu_checked_reduce(const uint8_t *table, size_t table_len, uint8_t *entries, size_t entries_len,
                                                       uint64_t *first, size_t first_len, uint64_t *second, size_t second_len) {
-    const terkwabu_slice slices[] = {
-        terkwabu_slice_of_bytes(table, table_len, 1),
-        terkwabu_slice_of_bytes(entries, entries_len, 3),
-        terkwabu_slice_of_numbers(first, first_len, 5),
-        terkwabu_slice_of_numbers(second, second_len, 7),
-    };
-    terkwabu_answer tested = terkwabu_slices_tested(slices, sizeof slices / sizeof slices[0]);
+    terkwabu_answer tested = terkwabu_two_lists_tested(table, table_len, entries, entries_len, first, first_len, second, second_len);
     if (tested.refusal != TERKWABU_NO_REFUSAL) return tested;
     return terkwabu_reduce(table, table_len, entries, entries_len, first, first_len, second, second_len);
 }
@@ -150,13 +157,7 @@ static inline terkwabu_answer terkwabu_checked_reduce(const uint8_t *table, size
 static inline terkwabu_answer terkwabu_checked_pair(const uint8_t *table, size_t table_len, uint8_t *entries, size_t entries_len,
                                                     uint64_t *first, size_t first_len, uint64_t *second, size_t second_len,
                                                     uint64_t r, uint64_t s) {
-    const terkwabu_slice slices[] = {
-        terkwabu_slice_of_bytes(table, table_len, 1),
-        terkwabu_slice_of_bytes(entries, entries_len, 3),
-        terkwabu_slice_of_numbers(first, first_len, 5),
-        terkwabu_slice_of_numbers(second, second_len, 7),
-    };
-    terkwabu_answer tested = terkwabu_slices_tested(slices, sizeof slices / sizeof slices[0]);
+    terkwabu_answer tested = terkwabu_two_lists_tested(table, table_len, entries, entries_len, first, first_len, second, second_len);
     if (tested.refusal != TERKWABU_NO_REFUSAL) return tested;
     return terkwabu_pair(table, table_len, entries, entries_len, first, first_len, second, second_len, r, s);
 }

@@ -42,11 +42,11 @@ import sys
 import threading
 from collections import Counter
 from collections.abc import Set
-from dataclasses import dataclass
+from dataclasses import dataclass, fields
 from decimal import Decimal
 from fractions import Fraction
 from pathlib import Path
-from typing import Any, Dict, Iterable, Iterator, List, Mapping, NamedTuple, Optional, Sequence, Tuple, Union
+from typing import Any, Dict, List, Mapping, NamedTuple, Optional, Sequence, Tuple, Union
 
 __all__ = ["graph", "judge", "library_version", "listing", "pair", "place", "reduce"]
 __all__ += ["Block", "Clock", "LibraryMissing", "MAX_REGIONS", "OVER", "Over", "Reduced", "Refused", "Region", "Step"]
@@ -213,8 +213,7 @@ class Reduced:
     def block(self, block: int) -> Block:
         """What the listing says of a block."""
         number = self._known(block)
-        (text,) = self._parts([1 + len(self.regions) + number])
-        words = [line.split() for line in text.splitlines()]
+        words = [line.split() for line in self._block_parts[number].splitlines()]
         return Block(
             number=number,
             label=int(words[0][2]),
@@ -225,7 +224,7 @@ class Reduced:
 
     def listing(self) -> str:
         """The printed model, as the program prints it."""
-        return "".join(self._parts(range(1 + len(self.regions) + self.blocks)))
+        return "".join(self._parts)
 
     def _known(self, block: int) -> int:
         number = _whole(block, "a block number")
@@ -233,12 +232,26 @@ class Reduced:
             raise IndexError(f"there is no block {number}: the blocks are 0 to {self.blocks - 1}")
         return number
 
-    def _parts(self, parts: Iterable[int]) -> Iterator[str]:
-        """Parts of the listing: 0 is its first line, then comes one for each region and one for each block."""
+    @functools.cached_property
+    def _parts(self) -> Tuple[str, ...]:
+        """The parts of the listing, from part 0 until the call says that there are no more."""
         left = self.table, self._entries, _lent_numbers(self.block_of, "block_of"), len(self.regions), self.blocks, self.rounds
         buffer = _Lent(ctypes.c_uint8, _PART_BYTES)
-        for part in parts:
-            yield _text(_call("terkwabu_part", *left, part, buffer), buffer)
+        texts: List[str] = []
+        while not _is_end(answer := _call("terkwabu_part", *left, len(texts), buffer)):
+            texts.append(_text(answer, buffer))
+        if not texts:
+            raise RuntimeError("the library wrote no text, though a listing has some")
+        return tuple(texts)
+
+    @functools.cached_property
+    def _block_parts(self) -> Dict[int, str]:
+        """The part of each block, found by its first words: "block" and the number."""
+        return {int(text.split(maxsplit=2)[1]): text for text in self._parts if text.startswith("block ")}
+
+    def __getstate__(self) -> Dict[str, Any]:
+        """The fields alone, to be sent elsewhere: texts are asked of the library that is there."""
+        return {field.name: getattr(self, field.name) for field in fields(self)}
 
     def __repr__(self) -> str:
         return f"<Reduced: regions {len(self.regions)} blocks {self.blocks} rounds {self.rounds}>"
@@ -621,8 +634,13 @@ def _accepted(answer: _Answer) -> _Answer:
     return answer
 
 
+def _is_end(answer: _Answer) -> bool:
+    """Whether a part call says that there are no more parts."""
+    return (answer.refusal, answer.place, answer.value) == (0, 0, 0)
+
+
 def _text(answer: _Answer, buffer: _Lent) -> str:
-    """What a call wrote into a buffer that is never too short. The parts that are asked for are there, so there must be some text."""
+    """What a call wrote into a buffer that is never too short: some text."""
     if _accepted(answer).value == 0:
         raise RuntimeError(f"the library wrote no text, though there is some: its answer has value 0 and place {answer.place}")
     return buffer.as_bytes(answer.value).decode("ascii")

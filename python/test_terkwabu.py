@@ -597,8 +597,11 @@ class DocumentExample(unittest.TestCase):
     def test_reduced_can_be_kept(self):
         """What reduce gave can be compared, and sent to another process, and prints its listing there."""
         reduced = terkwabu.reduce(EXAMPLE)
+        before = pickle.dumps(reduced)
+        reduced.block(1)
         copy = pickle.loads(pickle.dumps(reduced))
         self.assertEqual(copy, reduced)
+        self.assertEqual(pickle.dumps(copy), before)
         self.assertEqual(copy.listing(), EXAMPLE_LISTING)
         self.assertIs(copy.regions[4].clocks[0], terkwabu.OVER)
         self.assertNotEqual(reduced, terkwabu.reduce(EXAMPLE[:5] + b"\x09" + EXAMPLE[6:]))
@@ -648,6 +651,28 @@ class PartsAndLines(unittest.TestCase):
                 buffer = terkwabu._Lent(ctypes.c_uint8, 65536, 0xA5)
                 self.assertEqual(self.part(number, buffer, counts), (0, 0, 0))
                 self.assertEqual(buffer.as_bytes(65537), 65537 * b"\xa5")
+
+    def test_parts_until_the_call_says_end(self):
+        """The parts are asked for in turn, and the call alone says how many there are: not the counts of regions and blocks."""
+        for told in ([], self.parts[:1], self.parts[:5], [*self.parts, "more\n"], [*self.parts, "block 7 5 1\n", "more\n"]):
+            asked = []
+
+            def part_call(name, *arguments):
+                *_, part, buffer = arguments
+                asked.append((name, part))
+                if part == len(told):
+                    return terkwabu._Answer()
+                buffer.memory[: len(told[part])] = told[part].encode()
+                return terkwabu._Answer(value=len(told[part]))
+
+            reduced = terkwabu.reduce(EXAMPLE)
+            with self.subTest(told=told), mock.patch.object(terkwabu, "_call", part_call):
+                if told:
+                    self.assertEqual(reduced.listing(), "".join(told))
+                else:
+                    with self.assertRaisesRegex(RuntimeError, "no text"):
+                        reduced.listing()
+            self.assertEqual(asked, [("terkwabu_part", part) for part in range(len(told) + 1)])
 
     def test_no_text_is_no_listing(self):
         """Counts that cannot be those of the model: a listing with nothing in it would be wrong."""
