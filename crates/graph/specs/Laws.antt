@@ -1,0 +1,13 @@
+-- Laws on the definitions of the graph in slices:
+--   Columns    loading after storing
+--   Latest     chains: the latest of those that pass
+--   Index      the region of a clock class and a location
+--   Bits       available edges
+--   Walks      the cases of what the code does step by step
+--   Stores     what each writer stores, and what it leaves as it was
+pub mod Columns
+pub mod Latest
+pub mod Index
+pub mod Bits
+pub mod Walks
+pub mod Stores
