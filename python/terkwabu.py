@@ -213,7 +213,7 @@ class Reduced:
     def block(self, block: int) -> Block:
         """What the listing says of a block."""
         number = self._known(block)
-        words = [line.split() for line in self._block_parts[number].splitlines()]
+        words = [line.split() for line in self._texts()[1][number].splitlines()]
         return Block(
             number=number,
             label=int(words[0][2]),
@@ -224,7 +224,7 @@ class Reduced:
 
     def listing(self) -> str:
         """The printed model, as the program prints it."""
-        return "".join(self._parts)
+        return "".join(self._texts()[0])
 
     def _known(self, block: int) -> int:
         number = _whole(block, "a block number")
@@ -232,8 +232,18 @@ class Reduced:
             raise IndexError(f"there is no block {number}: the blocks are 0 to {self.blocks - 1}")
         return number
 
-    @functools.cached_property
-    def _parts(self) -> Tuple[str, ...]:
+    def _texts(self) -> Tuple[List[str], Dict[int, str]]:
+        """The parts of the listing, and those of blocks by number, asked for once.
+
+        No lock is held: threads that ask at the same time make the same texts side by side, and one of these stays.
+        """
+        if "_made" not in self.__dict__:
+            texts = self._parts()
+            # A block's part begins with "block" and its number.
+            self.__dict__["_made"] = texts, {int(text.split()[1]): text for text in texts if text.startswith("block ")}
+        return self.__dict__["_made"]
+
+    def _parts(self) -> List[str]:
         """The parts of the listing, from part 0 until the call says that there are no more."""
         left = self.table, self._entries, _lent_numbers(self.block_of, "block_of"), len(self.regions), self.blocks, self.rounds
         buffer = _Lent(ctypes.c_uint8, _PART_BYTES)
@@ -242,12 +252,7 @@ class Reduced:
             texts.append(_text(answer, buffer))
         if not texts:
             raise RuntimeError("the library wrote no text, though a listing has some")
-        return tuple(texts)
-
-    @functools.cached_property
-    def _block_parts(self) -> Dict[int, str]:
-        """The part of each block, found by its first words: "block" and the number."""
-        return {int(text.split(maxsplit=2)[1]): text for text in self._parts if text.startswith("block ")}
+        return texts
 
     def __getstate__(self) -> Dict[str, Any]:
         """The fields alone, to be sent elsewhere: texts are asked of the library that is there."""

@@ -652,20 +652,25 @@ class PartsAndLines(unittest.TestCase):
                 self.assertEqual(self.part(number, buffer, counts), (0, 0, 0))
                 self.assertEqual(buffer.as_bytes(65537), 65537 * b"\xa5")
 
+    def telling(self, told):
+        """A part call that tells these texts, and the parts that it was asked for."""
+        asked = []
+
+        def part_call(name, *arguments):
+            *_, part, buffer = arguments
+            asked.append((name, part))
+            if part == len(told):
+                return terkwabu._Answer()
+            buffer.memory[: len(told[part])] = told[part].encode()
+            return terkwabu._Answer(value=len(told[part]))
+
+        return part_call, asked
+
     def test_parts_until_the_call_says_end(self):
         """The parts are asked for in turn, and the call alone says how many there are: not the counts of regions and blocks."""
         for told in ([], self.parts[:1], self.parts[:5], [*self.parts, "more\n"], [*self.parts, "block 7 5 1\n", "more\n"]):
-            asked = []
-
-            def part_call(name, *arguments):
-                *_, part, buffer = arguments
-                asked.append((name, part))
-                if part == len(told):
-                    return terkwabu._Answer()
-                buffer.memory[: len(told[part])] = told[part].encode()
-                return terkwabu._Answer(value=len(told[part]))
-
             reduced = terkwabu.reduce(EXAMPLE)
+            part_call, asked = self.telling(told)
             with self.subTest(told=told), mock.patch.object(terkwabu, "_call", part_call):
                 if told:
                     self.assertEqual(reduced.listing(), "".join(told))
@@ -673,6 +678,30 @@ class PartsAndLines(unittest.TestCase):
                     with self.assertRaisesRegex(RuntimeError, "no text"):
                         reduced.listing()
             self.assertEqual(asked, [("terkwabu_part", part) for part in range(len(told) + 1)])
+
+    def test_blocks_by_what_their_parts_say(self):
+        """A block is found by its number in the text, not by a part number that was computed."""
+        expected = [terkwabu.reduce(EXAMPLE).block(number) for number in range(3)]
+        for told in (self.parts, [*self.parts[:6], "more\n", *self.parts[6:]], self.parts[6:], [*self.parts[:6], *self.parts[:5:-1]]):
+            reduced = terkwabu.reduce(EXAMPLE)
+            part_call, asked = self.telling(told)
+            with self.subTest(told=told), mock.patch.object(terkwabu, "_call", part_call):
+                self.assertEqual([reduced.block(number) for number in (2, 0, 1)], [expected[number] for number in (2, 0, 1)])
+            self.assertEqual(asked, [("terkwabu_part", part) for part in range(len(told) + 1)])
+
+    def test_listings_side_by_side(self):
+        """Threads that print different models do not wait for each other: each comes to its first part while the other is at it."""
+        at_part = threading.Barrier(2, timeout=20)
+        plain_call = terkwabu._call
+
+        def part_call(name, *arguments):
+            if name == "terkwabu_part" and arguments[-2] == 0:
+                at_part.wait()
+            return plain_call(name, *arguments)
+
+        both = [terkwabu.reduce(EXAMPLE), terkwabu.reduce(EXAMPLE)]
+        with mock.patch.object(terkwabu, "_call", part_call), ThreadPoolExecutor(2) as pool:
+            self.assertEqual(list(pool.map(lambda reduced: reduced.listing(), both)), 2 * [EXAMPLE_LISTING])
 
     def test_no_text_is_no_listing(self):
         """Counts that cannot be those of the model: a listing with nothing in it would be wrong."""

@@ -101,6 +101,22 @@ def hold_proved(project):
     project.hold_library("the change taken back", "dist", [])
 
 
+def hold_estimate(project):
+    """Takes what is proved in no time for what takes long: its seconds are the next estimate."""
+    script = read(project.at("dist/proved.bash"))
+    noting = script.replace(b"SECONDS - began > 60", b"SECONDS - began > -1")
+    hold("a script that notes all seconds", noting != script, True)
+    project.put("dist/proved.bash", noting)
+    with changed(project):
+        project.hold_reduce("changed sources, timed", "build", CHECK_REDUCE, message=PROGRESS)
+        seconds = read(project.at("build/proving.seconds")).decode()
+        hold("the seconds that were noted", re.fullmatch(r"\d\n", seconds) is not None, True)
+        with changed(project):
+            message = PROGRESS.replace("600", seconds.strip())
+            project.hold_reduce("sources changed again, timed", "build", CHECK_REDUCE, message=message)
+    project.put("dist/proved.bash", script)
+
+
 def hold_replaced(project):
     """Puts other files in the place of those in build/, where dist/ is of the sources and where it is not."""
     project.hold_library("unchanged sources", "dist", [])
@@ -286,7 +302,7 @@ def hold_test(project):
         hold(f"./test, {name} changed: rt", [words for words in project.called() if words != "version"], [])
 
 
-STEPS = [hold_unchanged, hold_digest, hold_proved, hold_replaced, hold_damaged, hold_prove]
+STEPS = [hold_unchanged, hold_digest, hold_proved, hold_estimate, hold_replaced, hold_damaged, hold_prove]
 STEPS += [hold_failures, hold_programs, hold_meanwhile, hold_missing, hold_unreadable, hold_calls]
 STEPS += [hold_no_release, hold_release, hold_test]
 
