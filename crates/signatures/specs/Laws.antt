@@ -1,0 +1,19 @@
+-- Laws on the definitions of signatures:
+--   Order       numbers are equal or not, below or not
+--   Sets        equal lists exactly for equal sets
+--   Insert      a number put into a set in a slice
+--   Chain       searching along a bucket
+--   Book        how a dictionary grows
+--   Dictionary  searching, one list more
+--   Shares      equal numbers exactly for equal cross products
+--   Steps       equal lists exactly for edges that are alike
+--   Signatures  equal exactly for items that are related in the next round
+pub mod Order
+pub mod Sets
+pub mod Insert
+pub mod Chain
+pub mod Book
+pub mod Dictionary
+pub mod Shares
+pub mod Steps
+pub mod Signatures

@@ -1,0 +1,19 @@
+-- Signatures of regions:
+--   Sets        sets of numbers as rising lists
+--   Chain       an index of lists by hashes
+--   Book        what a dictionary holds
+--   Dictionary  it, in two slices
+--   Shares      a share as two numbers
+--   Steps       an edge over names of blocks, as a list
+--   Signatures  the signature of an item
+--   Structure   the slices of a graph as a finite structure
+-- Laws on these stand in Laws.
+pub mod Sets
+pub mod Chain
+pub mod Book
+pub mod Dictionary
+pub mod Shares
+pub mod Steps
+pub mod Signatures
+pub mod Structure
+pub mod Laws

@@ -1,0 +1,3 @@
+// Signatures of the regions of a graph: equal exactly for regions that the next round relates.
+mod dictionary;
+mod sets;
