@@ -7,6 +7,7 @@
 --   Dictionary  searching, one list more
 --   Shares      equal numbers exactly for equal cross products
 --   Steps       equal lists exactly for edges that are alike
+--   Raw         raw forms, and the loops over them
 --   Signatures  equal exactly for items that are related in the next round
 pub mod Order
 pub mod Sets
@@ -17,3 +18,4 @@ pub mod Dictionary
 pub mod Shares
 pub mod Steps
 pub mod Signatures
+pub mod Raw

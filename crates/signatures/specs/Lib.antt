@@ -7,6 +7,7 @@
 --   Steps       an edge over names of blocks, as a list
 --   Signatures  the signature of an item
 --   Structure   the slices of a graph as a finite structure
+--   Raw         the raw form of a step
 -- Laws on these stand in Laws.
 pub mod Sets
 pub mod Chain
@@ -16,4 +17,5 @@ pub mod Shares
 pub mod Steps
 pub mod Signatures
 pub mod Structure
+pub mod Raw
 pub mod Laws

@@ -25,13 +25,13 @@ const MAX_IDS: usize = 8192;
 const ROOM: usize = 36864;
 
 // What `intern` answers: the id of the list, or that there is no room for it.
-pub enum Interned {
+pub(crate) enum Interned {
     Id(usize),
     Full,
 }
 
 // What a search finds: the id of the list, or that it is not there.
-pub enum Lookup {
+pub(crate) enum Lookup {
     At(usize),
     Nothing,
 }
@@ -93,7 +93,7 @@ fn is_entry(j: usize, list: &[u32], index: &[u16], numbers: &[u32]) -> bool
 }
 
 // Looks for a list, along its bucket.
-pub fn find(list: &[u32], index: &[u16], numbers: &[u32]) -> Lookup
+pub(crate) fn find(list: &[u32], index: &[u16], numbers: &[u32]) -> Lookup
     requires { ⌜ Dictionary (now index) (now numbers) ⌝ }
     ensures { λ r. ⌜ Found (now (list .entry)) (entriesOf (now (index .entry)) (now (numbers .entry))) r ⌝ }
 {
@@ -153,7 +153,7 @@ fn add(list: &[u32], index: &mut [u16], numbers: &mut [u32]) -> Interned
 }
 
 // The id of a list, which is added where it is not there.
-pub fn intern(list: &[u32], index: &mut [u16], numbers: &mut [u32]) -> Interned
+pub(crate) fn intern(list: &[u32], index: &mut [u16], numbers: &mut [u32]) -> Interned
     requires { ⌜ Dictionary (now index) (now numbers) ⌝ }
     ensures { λ r. ⌜ Interns (now (list .entry)) (now (index .entry)) (now (numbers .entry)) (now (index .exit)) (now (numbers .exit)) r ⌝ }
 {
@@ -165,7 +165,7 @@ pub fn intern(list: &[u32], index: &mut [u16], numbers: &mut [u32]) -> Interned
 }
 
 // Makes the dictionary empty.
-pub fn clear(numbers: &[u32], index: &mut [u16])
+pub(crate) fn clear(numbers: &[u32], index: &mut [u16])
     requires { ⌜ (length (now index) ≡ indexSize) × (length (now numbers) ≡ room) ⌝ }
     ensures { λ _. ⌜ Empty (now (index .exit)) (now (numbers .entry)) ⌝ }
 {

@@ -1,3 +1,5 @@
 // Signatures of the regions of a graph: equal exactly for regions that the next round relates.
 mod dictionary;
 mod sets;
+mod shares;
+mod steps;

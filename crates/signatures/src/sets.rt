@@ -52,7 +52,7 @@ fn shift(from: usize, len: usize, list: &mut [u32])
 }
 
 // Puts a number into the set of the first len numbers, once; answers how many there are now.
-pub fn insert(v: usize, len: usize, list: &mut [u32]) -> usize
+pub(crate) fn insert(v: usize, len: usize, list: &mut [u32]) -> usize
     requires { ⌜ (v < 4294967296) × (len < length (now list)) ⌝ }
     requires { ⌜ Rising (take len (now list)) ⌝ }
     ensures { λ r. ⌜ Inserted v len (now (list .entry)) (now (list .exit)) r ⌝ }

@@ -20,7 +20,7 @@ high-plain a w h most =
 pub high-most : (a w : ℕ) → 0 < w → a ≤ w → highShare a w ≤ 1073741824
 high-most a w h most =
     let less : a * 1073741824 / w < 1073741825 =
-        div-lt-iff-lt-mul {k = w} {x = a * 1073741824} {y = 1073741825} h .1 (omega (arith, mul-le-mul-right 1073741824 most, h)) in
+    div-lt-iff-lt-mul {k = w} {x = a * 1073741824} {y = 1073741825} h .1 (omega (arith, mul-le-mul-right 1073741824 most, h)) in
     omega (arith, high-plain a w h most, less)
 
 whole-digits : (a w : ℕ) → 0 < w → a ≤ w → wholeShare a w ≡ highShare a w * 1073741824 + lowShare a w
@@ -92,11 +92,10 @@ module _ (a b w z : ℕ) (hw : 0 < w) (hz : 0 < z) (ma : a ≤ w) (mb : b ≤ z)
   pub share-same : a * z ≡ b * w → (highShare a w ≡ highShare b z) × (lowShare a w ≡ lowShare b z)
   share-same e =
       let one : highShare a w * 1073741824 + lowShare a w ≡ highShare b z * 1073741824 + lowShare b z =
-          sym (whole-digits a w hw ma) ∙ whole-same a b w z hw hz e ∙ whole-digits b z hz mb in
+      sym (whole-digits a w hw ma) ∙ whole-same a b w z hw hz e ∙ whole-digits b z hz mb in
       (omega (arith, one, low-small a w hw, low-small b z hz), omega (arith, one, low-small a w hw, low-small b z hz))
 
   pub share-apart : w < 1073741824 → z < 1073741824 → highShare a w ≡ highShare b z → lowShare a w ≡ lowShare b z → a * z ≡ b * w
   share-apart lw lz high low =
       whole-apart a b w z hw hz lw lz
       (whole-digits a w hw ma ∙ ap₂ (λ (s t : ℕ). s * 1073741824 + t) high low ∙ sym (whole-digits b z hz mb))
-

@@ -85,8 +85,8 @@ module _ (F : Finite) (closed : Closed (structure F)) (small : Small F) (names :
   steps-to is s m =
       let (e, h, t, same) = step-from F names x (F .edges) s m in
       let (f, k, both′) = some-below (F .edges) (λ f. F .available y f && alike F names x e y f)
-          (cond-iff (F .available x e) (someBelow (F .edges) (λ f. F .available y f && alike F names x e y f)) .0
-          (all-below (F .edges) (λ e. cond (F .available x e) (someBelow (F .edges) (λ f. F .available y f && alike F names x e y f)) true) .0 is e h) t) in
+      (cond-iff (F .available x e) (someBelow (F .edges) (λ f. F .available y f && alike F names x e y f)) .0
+      (all-below (F .edges) (λ e. cond (F .available x e) (someBelow (F .edges) (λ f. F .available y f && alike F names x e y f)) true) .0 is e h) t) in
       let (u, a) = and-iff (F .available y f) (alike F names x e y f) .0 both′ in
       subst (λ (v : List ℕ). List·Memᴰ v (stepsOf F names y)) (sym (same ∙ alike-step F closed names x e y f hx hy (h, t) (k, u) a))
       (step-in F names y (F .edges) f k u)

@@ -212,10 +212,12 @@ module _ (a a′ d d′ : ℕ) (l l′ : List (Branch ℕ)) (some : 0 < d) (some
   pub lists-alike : d < 1073741824 → d′ < 1073741824 → stepList a d l ≡ stepList a′ d′ l′
       → (a ≡ a′) × ((m : ℕ) → massOf m l * d′ ≡ massOf m l′ * d)
   unfolding stepList
-  lists-alike small small′ e =
-      (head-same _ _ _ _ e, lists-tell (λ m. massOf m l) (λ m. massOf m l′) d d′ some some′
-      (setOf (targetNames l)) (setOf (targetNames l′)) (set-covers l) (set-covers l′) most most′ small small′
-      (rest-same _ _ _ _ e))
+  lists-alike small small′ e = (
+    head-same _ _ _ _ e,
+    lists-tell (λ m. massOf m l) (λ m. massOf m l′) d d′ some some′
+        (setOf (targetNames l)) (setOf (targetNames l′)) (set-covers l) (set-covers l′) most most′ small small′
+        (rest-same _ _ _ _ e),
+  )
 
   pub alike-lists : a ≡ a′ → ((m : ℕ) → massOf m l * d′ ≡ massOf m l′ * d) → stepList a d l ≡ stepList a′ d′ l′
   unfolding stepList
@@ -254,13 +256,16 @@ module _ (F : Finite) (closed : Closed (structure F)) (names : List ℕ) (x e y 
   unfolding stepOf
   step-alike small small′ same =
       let told = lists-alike (F .action x e) (F .action y f) (F .whole x e) (F .whole y f) (named names (F .branches x e))
-          (named names (F .branches y f)) (closed .positive hx ex) (closed .positive hy fy)
-          (omega (arith, named-total names (F .branches x e), closed .sums hx ex)) (omega (arith, named-total names (F .branches y f), closed .sums hy fy))
-          small small′ same in
-      and-iff _ _ .1 (eqb-iff _ _ .1 (told .0), all-below (F .size) _ .1 (λ c h. eqb-iff _ _ .1 (
-        ap (λ (k : ℕ). k * F .whole y f) (sum-mass names c (F .branches x e)) ∙ told .1 (nameOf names c)
-        ∙ sym (ap (λ (k : ℕ). k * F .whole x e) (sum-mass names c (F .branches y f)))
-      )))
+      (named names (F .branches y f)) (closed .positive hx ex) (closed .positive hy fy)
+      (omega (arith, named-total names (F .branches x e), closed .sums hx ex)) (omega (arith, named-total names (F .branches y f), closed .sums hy fy))
+      small small′ same in
+      and-iff _ _ .1 (
+        eqb-iff _ _ .1 (told .0),
+        all-below (F .size) _ .1 (λ c h. eqb-iff _ _ .1 (
+            ap (λ (k : ℕ). k * F .whole y f) (sum-mass names c (F .branches x e)) ∙ told .1 (nameOf names c)
+            ∙ sym (ap (λ (k : ℕ). k * F .whole x e) (sum-mass names c (F .branches y f)))
+            )),
+      )
 
   pub alike-step : alike F names x e y f ≡ true → stepOf F names x e ≡ stepOf F names y f
   unfolding stepOf

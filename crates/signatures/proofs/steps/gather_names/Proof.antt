@@ -1,0 +1,91 @@
+-- Loop: the first numbers of the list are the set of the names so far. Measure: the names that are left.
+use Prim.Native.Nat.{ℕ, _+_, _-_, _*_, _/_, _%_, _≤_, _<_}
+use mathlib.Core.Path.{_≡_, refl, sym, _∙_, ap, subst}
+use native.Mathlib.Omega.{arith}
+use lib.ListN.{length, getD, set, take}
+use native.Mathlib.Numerals.{add-one}
+use Rattle.signatures.specs.Sets.{putIn, setOf}
+use Rattle.signatures.specs.Raw.{rawNames}
+use Rattle.signatures.specs.Laws.Sets.{set-rises}
+use Rattle.signatures.specs.Sets.{Rising}
+use borrow.Author.Needs.{needs}
+use Rattle.signatures.proofs.steps.gather_names.Statement.{statement}
+use Rattle.signatures.proofs.steps.gather_names.Tie as tie
+use Rattle.signatures.proofs.steps.gather_names.Reads as reads
+use Rattle.signatures.proofs.steps.gather_names.Lts as lts
+use Rattle.signatures.proofs.sets.insert.Reads as insert-reads
+use Rattle.signatures.proofs.steps.name_at.Reads as name-at-reads
+
+abbrev Inv-loop : tie.InvT-loop
+Inv-loop raw list₀ count len₀ i₀ list len i = (take len list ≡ setOf (rawNames raw i)) × (len ≤ i) × (length list ≡ length list₀) × (i ≤ length raw - 1)
+
+abbrev μ-loop : tie.MeasureT-loop
+μ-loop raw list₀ count len₀ i₀ list len i = length raw - 1 - i
+
+-- src/steps.rt:64:17
+sub-count : tie.Need-sub-count Inv-loop μ-loop
+sub-count c = search needs
+
+-- src/steps.rt:67:5
+loop-holds : tie.Need-loop-holds Inv-loop μ-loop
+loop-holds c = (refl, omega arith, refl, omega arith)
+
+-- src/steps.rt:68:35
+add-name-at : tie.Need-add-name-at Inv-loop μ-loop
+add-name-at c = search needs
+
+-- src/steps.rt:68:22
+name-at-requires : tie.Need-name-at-requires Inv-loop μ-loop
+name-at-requires c κs = search needs
+
+-- src/steps.rt:68:9
+insert-requires : tie.Need-insert-requires Inv-loop μ-loop
+insert-requires c κs = (
+  (omega (arith, (c .before .name-at) .ensures .1), omega (arith, (c .before .before .before .loop) .inv .1, (c .before .before .before .loop) .inv .2, (c .before .before .loop-test) .taken, (c .before .before .before .before .before .before .pre) .1, (c .before .before .before .before .before .before .pre) .2)),
+  subst Rising (sym ((c .before .before .before .loop) .inv .0)) (set-rises (rawNames ((c .before .before .before .before .before .before .args) .raw .now) ((c .before .before .before .loop) .i))),
+)
+
+-- src/steps.rt:69:13
+add-i : tie.Need-add-i Inv-loop μ-loop
+add-i c = search needs
+
+-- src/steps.rt:67:5
+loop-less : tie.Need-loop-less Inv-loop μ-loop
+loop-less c = search needs
+
+-- src/steps.rt:67:5
+loop-again : tie.Need-loop-again Inv-loop μ-loop
+loop-again c = (
+  (c .before .before .insert) .ensures .put ∙ ap (putIn ((c .before .before .before .before .name-at) .result)) ((c .before .before .before .before .before .before .loop) .inv .0)
+      ∙ ap (λ (k : ℕ). putIn k (setOf (rawNames ((c .before .before .before .before .before .before .before .before .before .args) .raw .now) ((c .before .before .before .before .before .before .loop) .i)))) ((c .before .before .before .before .name-at) .ensures .0)
+      ∙ sym (ap (λ (k : ℕ). setOf (rawNames ((c .before .before .before .before .before .before .before .before .before .args) .raw .now) k)) (add-one ((c .before .before .before .before .before .before .loop) .i))),
+  omega (arith, (c .before .before .insert) .ensures .short, (c .before .before .before .before .before .before .loop) .inv .1),
+  (c .before .before .insert) .ensures .size ∙ (c .before .before .before .before .before .before .loop) .inv .2,
+  omega (arith, (c .before .before .before .before .before .loop-test) .taken),
+)
+
+-- src/steps.rt:59:1
+same-length : tie.Need-same-length Inv-loop μ-loop
+same-length c = (c .before .loop) .inv .2
+
+-- src/steps.rt:59:1
+returns : tie.Need-returns Inv-loop μ-loop
+returns c = let whole : (c .before .loop) .i ≡ length ((c .before .before .before .before .args) .raw .now) - 1 = omega (arith, (c .before .loop) .inv .3, (c .loop-test) .left) in
+    ((c .before .loop) .inv .0 ∙ ap (λ (k : ℕ). setOf (rawNames ((c .before .before .before .before .args) .raw .now) k)) whole, omega (arith, (c .before .loop) .inv .1, (c .before .loop) .inv .3, (c .before .before .before .before .pre) .1), (c .before .loop) .inv .2)
+
+pub gather-names-spec : {M : Type 1} → statement M
+gather-names-spec =
+    tie.close
+    (tie.spec
+    Inv-loop
+    μ-loop
+    sub-count
+    loop-holds
+    add-name-at
+    name-at-requires
+    insert-requires
+    add-i
+    loop-less
+    loop-again
+    same-length
+    returns)

@@ -1,0 +1,155 @@
+-- Laws of raw forms, and the turns of the loops that make and use them.
+use Prim.Native.Nat.{ℕ, zero, suc, _+_, _-_, _*_, _/_, _%_, _≤_, _<_}
+use native.Mathlib.Omega.{arith}
+use native.Mathlib.Numerals.{add-one}
+use native.Mathlib.Nat.{div-zero, mod-lt, eq-or-lt-of-le}
+use mathlib.Core.Path.{_≡_, refl, sym, _∙_, ap, ap₂, subst}
+use mathlib.Core.Bool.{Bool, true, false, cond}
+use mathlib.Core.List.{List, [], _∷_, _++_, append-assoc, append-nil}
+use mathlib.Core.Logic.{_⊎_, inl, inr}
+use lib.Dec.{eqb}
+use lib.ListN.{length, getD, set, take, drop, length-set}
+use lib.Seq.{getD-set-same, getD-set-other, getD-take, length-take-le, take-suc, take-suc-set, take-length}
+use borrow.Author.Tests.{eq-eqb, ne-eqb}
+use Rattle.bisimulation.specs.Structures.{Branch}
+use Rattle.graph.specs.Readers.{branchCount, branchSlot, landingOf, actionOf, denominatorOf, lowOf}
+use Rattle.signatures.specs.Sets.{setOf}
+use Rattle.signatures.specs.Shares.{highShare, lowShare}
+use Rattle.signatures.specs.Steps.{nameOf, named, targetNames, massOf, entryOf, sharesOver, stepList}
+use Rattle.signatures.specs.Structure.{branchesTo}
+use Rattle.signatures.specs.Raw.{rawEdge, rawBranches, rawNames, rawStep, Landed}
+
+-- ---- Shares over nothing
+
+pub high-zero : (w d : ℕ) → d ≡ 0 → 0 ≡ highShare w d
+unfolding highShare
+high-zero w d e = sym (ap (λ (k : ℕ). w * 1073741824 / k % 4294967296) e ∙ ap (λ (k : ℕ). k % 4294967296) (div-zero (w * 1073741824)))
+
+pub low-zero : (w d : ℕ) → d ≡ 0 → 0 ≡ lowShare w d
+unfolding lowShare
+low-zero w d e = sym (ap (λ (k : ℕ). w * 1073741824 % k * 1073741824 / k) e ∙ div-zero _)
+
+-- ---- Raw forms
+
+pub names-raw : (edges raw : List ℕ) (k : ℕ) → targetNames (rawBranches edges raw k) ≡ rawNames raw k
+names-raw edges raw zero = refl
+names-raw edges raw (suc k) = ap (λ (l : List ℕ). getD raw (1 + k) 0 ∷ l) (names-raw edges raw k)
+
+-- One name more stands behind the edge.
+pub landed-on : (graph names : List ℕ) (edge class : ℕ) (raw : List ℕ) (i v : ℕ) → 1 + i < length raw → rawEdge raw ≡ edge
+    → ((j : ℕ) → j < i → getD raw (1 + j) 0 ≡ nameOf names (landingOf graph class (branchSlot graph edge j)))
+    → v ≡ nameOf names (landingOf graph class (branchSlot graph edge i))
+    → (rawEdge (set raw (1 + i) v) ≡ edge)
+    × ((j : ℕ) → j < i + 1 → getD (set raw (1 + i) v) (1 + j) 0 ≡ nameOf names (landingOf graph class (branchSlot graph edge j)))
+landed-on graph names edge class raw i v room first before is =
+    (getD-set-other raw (1 + i) 0 v 0 (omega arith) ∙ first, λ j h. let most : j ≤ i = omega arith in go j (eq-or-lt-of-le most))
+  where
+    go : (j : ℕ) → (j ≡ i) ⊎ (j < i) → getD (set raw (1 + i) v) (1 + j) 0 ≡ nameOf names (landingOf graph class (branchSlot graph edge j))
+    go j (inl e) = rw e (getD-set-same raw (1 + i) v 0 room ∙ is)
+    go j (inr h) = getD-set-other raw (1 + i) (1 + j) v 0 (omega arith) ∙ before j h
+
+module _ {graph names : List ℕ} {edge class : ℕ} {raw : List ℕ} {size : ℕ} (landed : Landed graph names edge class raw size) (edges : List ℕ) where
+  landed-branches : (k : ℕ) → k ≤ branchCount graph edge → rawBranches edges raw k ≡ named names (branchesTo graph edges class edge k)
+  landed-branches zero h = refl
+  landed-branches (suc k) h = rw (landed .edge-is, landed .names-are k h, landed-branches k (omega arith)) refl
+
+  taken-branches : (k : ℕ) → k < size → rawBranches edges (take size raw) k ≡ rawBranches edges raw k
+  taken-branches zero h = refl
+  taken-branches (suc k) h =
+      rw (getD-take size raw 0 0 (omega arith), getD-take size raw (1 + k) 0 (omega arith), taken-branches k (omega arith)) refl
+
+  -- The raw form means the edge's step.
+  pub landed-step : size ≤ length raw
+      → rawStep edges (take size raw)
+      ≡ stepList (actionOf edges edge) (denominatorOf edges edge) (named names (branchesTo graph edges class edge (branchCount graph edge)))
+  unfolding rawStep
+  landed-step room =
+      let count : length (take size raw) - 1 ≡ branchCount graph edge =
+      omega (arith, length-take-le size raw room, landed .size-is) in
+      let first : rawEdge (take size raw) ≡ edge = getD-take size raw 0 0 (omega (arith, landed .size-is)) ∙ landed .edge-is in
+      ap (λ (k : ℕ). stepList (actionOf edges (rawEdge (take size raw))) (denominatorOf edges (rawEdge (take size raw)))
+      (rawBranches edges (take size raw) k)) count
+      ∙ ap₂ (λ (e : ℕ) (l : List (Branch ℕ)). stepList (actionOf edges e) (denominatorOf edges e) l) first
+      (taken-branches (branchCount graph edge) (omega (arith, landed .size-is)) ∙ landed-branches (branchCount graph edge) (omega arith))
+
+-- ---- Masses
+
+module _ (edges raw : List ℕ) (name i : ℕ) where
+  next-one : rawBranches edges raw (i + 1)
+      ≡ record { weight = lowOf edges (rawEdge raw) i; target = getD raw (1 + i) 0 } ∷ rawBranches edges raw i
+  next-one = ap (rawBranches edges raw) (add-one i)
+
+  pub mass-on : (more sum : ℕ) → more ≡ cond (eqb (getD raw (1 + i) 0) name) (lowOf edges (rawEdge raw) i) 0
+      → sum ≡ massOf name (rawBranches edges raw i) → more + sum ≡ massOf name (rawBranches edges raw (i + 1))
+  mass-on more sum e is =
+      ap₂ (λ (a b : ℕ). a + b) e is ∙ go (eqb (getD raw (1 + i) 0) name) ∙ sym (ap (massOf name) next-one)
+    where
+      go : (b : Bool) → cond b (lowOf edges (rawEdge raw) i) 0 + massOf name (rawBranches edges raw i)
+          ≡ cond b (lowOf edges (rawEdge raw) i + massOf name (rawBranches edges raw i)) (massOf name (rawBranches edges raw i))
+      go true = refl
+      go false = omega arith
+
+-- ---- Entries
+
+pub entry-none : (name mass d : ℕ) → mass ≡ 0 → entryOf name mass d ≡ []
+entry-none name mass d e =
+    ap (λ (b : Bool). cond b [] (name ∷ highShare mass d ∷ lowShare mass d ∷ [])) (eq-eqb mass 0 e)
+
+pub entry-some : (name mass d : ℕ) → (mass ≡ 0 → ⊥) → entryOf name mass d ≡ name ∷ highShare mass d ∷ lowShare mass d ∷ []
+entry-some name mass d e =
+    ap (λ (b : Bool). cond b [] (name ∷ highShare mass d ∷ lowShare mass d ∷ [])) (ne-eqb mass 0 e)
+
+-- Three numbers stored behind the first ones.
+pub three-more : (l : List ℕ) (at a b c : ℕ) → at + 3 ≤ length l
+    → take (at + 3) (set (set (set l at a) (at + 1) b) (at + 2) c) ≡ take at l ++ (a ∷ b ∷ c ∷ [])
+three-more l at a b c room =
+    ap (λ (k : ℕ). take k (set (set (set l at a) (at + 1) b) (at + 2) c)) third
+    ∙ take-suc-set (set (set l at a) (at + 1) b) (at + 2) c (omega (arith, size₂))
+    ∙ ap (λ (r : List ℕ). r ++ (c ∷ [])) (ap (λ (k : ℕ). take k (set (set l at a) (at + 1) b)) second
+    ∙ take-suc-set (set l at a) (at + 1) b (omega (arith, size₁))
+    ∙ ap (λ (r : List ℕ). r ++ (b ∷ [])) (ap (λ (k : ℕ). take k (set l at a)) first ∙ take-suc-set l at a (omega arith)))
+    ∙ append-assoc (take at l ++ (a ∷ [])) (b ∷ []) (c ∷ []) ∙ append-assoc (take at l) (a ∷ []) (b ∷ c ∷ [])
+  where
+    first : at + 1 ≡ suc at
+    first = omega arith
+
+    second : at + 2 ≡ suc (at + 1)
+    second = omega arith
+
+    third : at + 3 ≡ suc (at + 2)
+    third = omega arith
+
+    size₁ : length (set l at a) ≡ length l
+    size₁ = length-set l at a
+
+    size₂ : length (set (set l at a) (at + 1) b) ≡ length l
+    size₂ = length-set (set l at a) (at + 1) b ∙ size₁
+
+module _ (mass : ℕ → ℕ) (d : ℕ) where
+  shares-append : (a b : List ℕ) → sharesOver mass d (a ++ b) ≡ sharesOver mass d a ++ sharesOver mass d b
+  shares-append [] b = refl
+  shares-append (m ∷ a) b =
+      ap (λ (r : List ℕ). entryOf m (mass m) d ++ r) (shares-append a b)
+      ∙ sym (append-assoc (entryOf m (mass m) d) (sharesOver mass d a) (sharesOver mass d b))
+
+  -- One name more.
+  pub shares-on : (S start l : List ℕ) (j m : ℕ) → j < length S → m ≡ getD S j 0 → l ≡ start ++ sharesOver mass d (take j S)
+      → l ++ entryOf m (mass m) d ≡ start ++ sharesOver mass d (take (j + 1) S)
+  shares-on S start l j m h is e =
+      ap₂ (λ (r : List ℕ) (k : ℕ). r ++ entryOf k (mass k) d) e is
+      ∙ append-assoc start (sharesOver mass d (take j S)) (entryOf (getD S j 0) (mass (getD S j 0)) d)
+      ∙ ap (λ (r : List ℕ). start ++ r) (sym (ap (λ (k : ℕ). sharesOver mass d (take k S)) (add-one j)
+      ∙ ap (sharesOver mass d) (take-suc S j 0 h) ∙ shares-append (take j S) (getD S j 0 ∷ [])
+      ∙ ap (λ (r : List ℕ). sharesOver mass d (take j S) ++ r) (append-nil (entryOf (getD S j 0) (mass (getD S j 0)) d))))
+
+-- The list of a step, from its first number and the shares.
+pub step-made : (edges raw list names l : List ℕ) (action d : ℕ) → 0 < length list → action ≡ actionOf edges (rawEdge raw)
+    → names ≡ setOf (rawNames raw (length raw - 1))
+    → l ≡ take 1 (set list 0 action) ++ sharesOver (λ m. massOf m (rawBranches edges raw (length raw - 1))) (denominatorOf edges (rawEdge raw)) names
+    → l ≡ rawStep edges raw
+unfolding rawStep stepList
+step-made edges raw list names l action d some is same e =
+    e ∙ ap (λ (r : List ℕ). r ++ sharesOver (λ m. massOf m (rawBranches edges raw (length raw - 1))) (denominatorOf edges (rawEdge raw)) names)
+    (take-suc-set list 0 action some)
+    ∙ ap₂ (λ (a : ℕ) (n : List ℕ). a ∷ sharesOver (λ m. massOf m (rawBranches edges raw (length raw - 1))) (denominatorOf edges (rawEdge raw)) n)
+    is (same ∙ ap setOf (sym (names-raw edges raw (length raw - 1))))

@@ -1,0 +1,33 @@
+-- The raw form of a step: an edge, and the names that its branches land in, in the edge's order. It says all that the step's list is made of.
+use Prim.Native.Nat.{ℕ, zero, suc, _+_, _-_, _≤_, _<_}
+use mathlib.Core.Path.{_≡_}
+use mathlib.Core.List.{List, [], _∷_}
+use lib.ListN.{length, getD}
+use Rattle.bisimulation.specs.Structures.{Branch}
+use Rattle.graph.specs.Readers.{branchCount, branchSlot, landingOf, actionOf, denominatorOf, lowOf}
+use Rattle.signatures.specs.Steps.{nameOf, stepList}
+
+-- The edge of a raw form.
+abbrev pub rawEdge : List ℕ → ℕ
+rawEdge raw = getD raw 0 0
+
+-- The first k branches, and the names that they land in.
+abbrev pub rawBranches : (edges raw : List ℕ) → ℕ → List (Branch ℕ)
+rawBranches edges raw zero = []
+rawBranches edges raw (suc k) = record { weight = lowOf edges (rawEdge raw) k; target = getD raw (1 + k) 0 } ∷ rawBranches edges raw k
+
+abbrev pub rawNames : List ℕ → ℕ → List ℕ
+rawNames raw zero = []
+rawNames raw (suc k) = getD raw (1 + k) 0 ∷ rawNames raw k
+
+-- The list of the step.
+unfoldable pub rawStep : (edges raw : List ℕ) → List ℕ
+rawStep edges raw =
+    stepList (actionOf edges (rawEdge raw)) (denominatorOf edges (rawEdge raw)) (rawBranches edges raw (length raw - 1))
+
+-- The first numbers of a slice are the raw form of an edge from the regions of a class.
+pub record Landed (graph names : List ℕ) (edge class : ℕ) (raw : List ℕ) (size : ℕ) : Type 0 where
+  pub edge-is : rawEdge raw ≡ edge
+  pub size-is : size ≡ branchCount graph edge + 1
+  pub few : size ≤ 9
+  pub names-are : (i : ℕ) → i < branchCount graph edge → getD raw (1 + i) 0 ≡ nameOf names (landingOf graph class (branchSlot graph edge i))
