@@ -8,6 +8,7 @@
 --   Shares      equal numbers exactly for equal cross products
 --   Steps       equal lists exactly for edges that are alike
 --   Raw         raw forms, and the loops over them
+--   Memo        the memo stays right
 --   Signatures  equal exactly for items that are related in the next round
 pub mod Order
 pub mod Sets
@@ -19,3 +20,4 @@ pub mod Shares
 pub mod Steps
 pub mod Signatures
 pub mod Raw
+pub mod Memo

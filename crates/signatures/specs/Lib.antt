@@ -8,6 +8,7 @@
 --   Signatures  the signature of an item
 --   Structure   the slices of a graph as a finite structure
 --   Raw         the raw form of a step
+--   Memo        ids of steps by their raw forms
 -- Laws on these stand in Laws.
 pub mod Sets
 pub mod Chain
@@ -18,4 +19,5 @@ pub mod Steps
 pub mod Signatures
 pub mod Structure
 pub mod Raw
+pub mod Memo
 pub mod Laws

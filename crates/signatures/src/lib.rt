@@ -1,5 +1,6 @@
 // Signatures of the regions of a graph: equal exactly for regions that the next round relates.
 mod dictionary;
+mod memo;
 mod sets;
 mod shares;
 mod steps;

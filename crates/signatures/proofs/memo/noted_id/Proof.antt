@@ -1,0 +1,120 @@
+use native.Mathlib.Omega.{arith}
+use mathlib.Core.Path.{_≡_, sym, _∙_}
+use Rattle.signatures.specs.Raw.{rawStep}
+use Rattle.signatures.specs.Laws.Memo.{notes-hit, notes-full, notes-new, id-small}
+use borrow.Author.Needs.{needs}
+use Rattle.signatures.proofs.memo.noted_id.Statement.{statement}
+use Rattle.signatures.proofs.memo.noted_id.Tie as tie
+use Rattle.signatures.proofs.memo.noted_id.Reads as reads
+use Rattle.signatures.proofs.memo.noted_id.Lts as lts
+use Rattle.signatures.proofs.dictionary.load.Reads as load-reads
+use Rattle.signatures.proofs.memo.intern_step.Reads as intern-step-reads
+use Rattle.signatures.proofs.memo.is_noted.Reads as is-noted-reads
+use Rattle.signatures.proofs.memo.note.Reads as note-reads
+use Rattle.signatures.proofs.memo.slot_of.Reads as slot-of-reads
+
+-- src/memo.rt:102:9
+slot-of-requires : tie.Need-slot-of-requires
+slot-of-requires c κs = search needs
+
+-- src/memo.rt:103:8
+is-noted-requires : tie.Need-is-noted-requires
+is-noted-requires c κs = ((c .before .slot-of) .ensures, (c .before .before .before .before .before .before .before .pre) .1 .0 .size, (c .before .before .before .before .before .before .before .pre) .1 .0 .short ((c .before .slot-of) .result) ((c .before .slot-of) .ensures))
+
+-- src/memo.rt:104:40
+mul-load : tie.Need-mul-load
+mul-load c = search needs
+
+-- src/memo.rt:104:40
+add-load : tie.Need-add-load
+add-load c = search needs
+
+-- src/memo.rt:104:29
+load-requires : tie.Need-load-requires
+load-requires c κs = search needs
+
+-- src/memo.rt:104:9
+same-length : tie.Need-same-length
+same-length c = search needs
+
+-- src/memo.rt:104:9
+returns : tie.Need-returns
+returns c = notes-hit (rawStep ((c .before .before .before .before .before .before .before .before .before .before .before .args) .edges .now)) ((c .before .before .before .before .before .before .before .before .before .before .before .args) .raw .now) ((c .before .before .before .before .before .before .before .before .before .before .before .args) .index .now) ((c .before .before .before .before .before .before .before .before .before .before .before .args) .numbers .now) ((c .before .before .before .before .before .before .before .before .before .before .before .args) .memo .now) ((c .before .before .before .before .before .slot-of) .result) ((c .load) .result) ((c .before .before .before .before .before .before .before .before .before .before .before .pre) .0) ((c .before .before .before .before .before .before .before .before .before .before .before .pre) .1 .0) ((c .before .before .before .before .before .slot-of) .ensures)
+    ((c .before .before .before .is-noted) .ensures .holds ((c .before .before .if1) .taken)) ((c .load) .ensures .0)
+
+-- src/memo.rt:106:9
+intern-step-requires : tie.Need-intern-step-requires
+intern-step-requires c κs = search needs
+
+-- src/memo.rt:108:22
+enum-known-answer : tie.Need-enum-known-answer
+enum-known-answer c = (c .match) .keys1
+
+-- src/memo.rt:109:13
+note-requires : tie.Need-note-requires
+note-requires c κs = ((c .before .before .before .before .before .before .before .before .before .before .before .before .before .before .slot-of) .ensures, (c .before .before .before .before .before .before .before .before .before .before .before .before .before .before .before .before .before .before .before .before .pre) .1 .0 .size, (c .before .before .before .before .before .before .before .before .before .before .before .before .before .before .before .before .before .before .before .before .pre) .1 .1 .1,
+    id-small (rawStep ((c .before .before .before .before .before .before .before .before .before .before .before .before .before .before .before .before .before .before .before .before .args) .edges .now) ((c .before .before .before .before .before .before .before .before .before .before .before .before .before .before .before .before .before .before .before .before .args) .raw .now)) ((c .before .before .before .before .before .before .before .before .before .before .before .before .before .before .before .before .before .before .before .before .args) .index .now) ((c .before .before .before .before .before .before .before .before .before .before .before .before .before .before .before .before .before .before .before .before .args) .numbers .now) ((c .before .before .before .before .before .before .before .before .intern-step) .last .1 .1 .0) ((c .before .before .before .before .before .before .before .before .intern-step) .last .1 .1 .1 .0) ((c .before .before .answer) .given .0 .0)
+    (rw ((c .before .before .answer) .given .1) at ((c .before .before .before .before .before .before .before .before .intern-step) .ensures)))
+
+-- src/memo.rt:112:27
+enum-told : tie.Need-enum-told
+enum-told c = (c .match) .keys2
+
+-- src/memo.rt:89:1
+same-length-2 : tie.Need-same-length-2
+same-length-2 c = search needs
+
+-- src/memo.rt:89:1
+same-length-3 : tie.Need-same-length-3
+same-length-3 c = search needs
+
+-- src/memo.rt:89:1
+same-length-4 : tie.Need-same-length-4
+same-length-4 c = search needs
+
+-- src/memo.rt:89:1
+returns-2 : tie.Need-returns-2
+returns-2 c = notes-new (rawStep ((c .before .before .before .before .before .before .before .before .before .before .before .before .before .before .before .before .before .before .before .before .before .before .before .args) .edges .now)) ((c .before .before .before .before .before .before .before .before .before .before .before .before .before .before .before .before .before .before .before .before .before .before .before .args) .raw .now) ((c .before .before .before .before .before .before .before .before .before .before .before .before .before .before .before .before .before .before .before .before .before .before .before .args) .index .now) ((c .before .before .before .before .before .before .before .before .before .before .before .before .before .before .before .before .before .before .before .before .before .before .before .args) .numbers .now) ((c .before .before .before .before .before .before .before .before .before .before .before .intern-step) .last .1 .1 .0) ((c .before .before .before .before .before .before .before .before .before .before .before .intern-step) .last .1 .1 .1 .0) ((c .before .before .before .before .before .before .before .before .before .before .before .before .before .before .before .before .before .before .before .before .before .before .before .args) .memo .now) ((c .before .before .note) .last .1 .1 .1 .0)
+    ((c .before .before .before .before .before .before .before .before .before .before .before .before .before .before .before .before .before .slot-of) .result) ((c .before .before .before .before .before .answer) .given .0 .0) ((c .before .before .before .before .before .before .before .before .before .before .before .before .before .before .before .before .before .before .before .before .before .before .before .pre) .1 .0) ((c .before .before .before .before .before .before .before .before .before .before .before .before .before .before .before .before .before .slot-of) .ensures) ((c .before .before .before .before .before .before .before .before .before .before .before .before .before .before .before .before .before .before .before .before .before .before .before .pre) .1 .1 .1) (rw ((c .before .before .before .before .before .answer) .given .1) at ((c .before .before .before .before .before .before .before .before .before .before .before .intern-step) .ensures))
+    ((c .before .before .note) .ensures)
+
+-- src/memo.rt:89:1
+same-length-5 : tie.Need-same-length-5
+same-length-5 c = search needs
+
+-- src/memo.rt:89:1
+same-length-6 : tie.Need-same-length-6
+same-length-6 c = search needs
+
+-- src/memo.rt:89:1
+same-length-7 : tie.Need-same-length-7
+same-length-7 c = search needs
+
+-- src/memo.rt:89:1
+returns-3 : tie.Need-returns-3
+returns-3 c = notes-full (rawStep ((c .before .before .before .before .before .before .before .before .before .before .before .before .before .before .before .before .before .before .args) .edges .now)) ((c .before .before .before .before .before .before .before .before .before .before .before .before .before .before .before .before .before .before .args) .raw .now) ((c .before .before .before .before .before .before .before .before .before .before .before .before .before .before .before .before .before .before .args) .index .now) ((c .before .before .before .before .before .before .before .before .before .before .before .before .before .before .before .before .before .before .args) .numbers .now) ((c .before .before .before .before .before .before .intern-step) .last .1 .1 .0) ((c .before .before .before .before .before .before .intern-step) .last .1 .1 .1 .0) ((c .before .before .before .before .before .before .before .before .before .before .before .before .before .before .before .before .before .before .args) .memo .now) ((c .before .before .before .before .before .before .before .before .before .before .before .before .before .before .before .before .before .before .pre) .1 .0)
+    (rw ((c .enum-told) .given .1) at ((c .before .before .before .before .before .before .intern-step) .ensures))
+
+pub noted-id-spec : {M : Type 1} → statement M
+noted-id-spec =
+    tie.close
+    (tie.spec
+    slot-of-requires
+    is-noted-requires
+    mul-load
+    add-load
+    load-requires
+    same-length
+    returns
+    intern-step-requires
+    enum-known-answer
+    note-requires
+    enum-told
+    same-length-2
+    same-length-3
+    same-length-4
+    returns-2
+    same-length-5
+    same-length-6
+    same-length-7
+    returns-3)
