@@ -4,10 +4,12 @@
 --   Index      the region of a clock class and a location
 --   Bits       available edges
 --   Walks      the cases of what the code does step by step
+--   Bounds     what is read is within bounds
 --   Stores     what each writer stores, and what it leaves as it was
 pub mod Columns
 pub mod Latest
 pub mod Index
 pub mod Bits
 pub mod Walks
+pub mod Bounds
 pub mod Stores

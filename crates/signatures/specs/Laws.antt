@@ -9,6 +9,9 @@
 --   Steps       equal lists exactly for edges that are alike
 --   Raw         raw forms, and the loops over them
 --   Memo        the memo stays right
+--   Named       what ids of signatures tell
+--   Delays      names gathered along delays
+--   Available   available edges, one after the other
 --   Signatures  equal exactly for items that are related in the next round
 pub mod Order
 pub mod Sets
@@ -21,3 +24,6 @@ pub mod Steps
 pub mod Signatures
 pub mod Raw
 pub mod Memo
+pub mod Named
+pub mod Delays
+pub mod Available

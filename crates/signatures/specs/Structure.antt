@@ -5,6 +5,7 @@ use mathlib.Core.List.{List, [], _∷_}
 use lib.Dec.{ltb}
 use Rattle.bisimulation.specs.Structures.{Branch}
 use Rattle.bisimulation.specs.Finite.{Finite}
+use Rattle.signatures.specs.Steps.{named, stepList}
 use Rattle.graph.specs.Columns.{mostEdges}
 use Rattle.graph.specs.Readers.{labelOf, edgeCount, edgeAt, branchCount, branchSlot, actionOf, denominatorOf, lowOf}
 use Rattle.graph.specs.Readers.{classOf, locationOf, delayOf, isAvailable, landingOf}
@@ -38,3 +39,8 @@ structureOf n graph edges =
       whole = λ x rank. denominatorOf edges (edgeOf graph x rank);
       branches = λ x rank. branchesTo graph edges (classOf graph x) (edgeOf graph x rank) (branchCount graph (edgeOf graph x rank));
     }
+
+-- The step of an edge from the regions of a class.
+unfoldable pub stepAt : (graph edges names : List ℕ) → (class edge : ℕ) → List ℕ
+stepAt graph edges names class edge =
+    stepList (actionOf edges edge) (denominatorOf edges edge) (named names (branchesTo graph edges class edge (branchCount graph edge)))

@@ -3,4 +3,5 @@ mod dictionary;
 mod memo;
 mod sets;
 mod shares;
+mod signature;
 mod steps;

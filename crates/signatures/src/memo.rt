@@ -124,3 +124,15 @@ fn intern_step(raw: &[u16], edges: &[u32], index: &mut [u16], numbers: &mut [u32
     let len = list_step(raw, edges, &mut list);
     intern(&list[..len], index, numbers)
 }
+
+// Empties the memo.
+pub(crate) fn clear_memo(memo: &mut [u16])
+    requires { ⌜ length (now memo) ≡ memoSize ⌝ }
+    ensures { λ _. ⌜ (length (now (memo .exit)) ≡ memoSize) × ((s : ℕ) → s < slots → getD (now (memo .exit)) (11 * s) 0 ≡ 0) ⌝ }
+{
+    let mut slot = 0;
+    while slot < 4096 {
+        memo[SLOT * slot] = 0;
+        slot += 1;
+    }
+}

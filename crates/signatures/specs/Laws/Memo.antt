@@ -193,3 +193,12 @@ notes-new meaning raw index numbers index′ numbers′ memo memo′ s id n h sh
 
 pub id-small : (raw index numbers index′ numbers′ : List ℕ) (id : ℕ) → Interns raw index numbers index′ numbers′ (Id id) → id < 8192
 id-small raw index numbers index′ numbers′ id i = omega (arith, i .told .0 .0, count-is (i .kept), i .kept .few)
+
+-- One slot more is empty.
+pub empty-on : (memo : List ℕ) (slot : ℕ) → 11 * slot < length memo → ((s : ℕ) → s < slot → getD memo (11 * s) 0 ≡ 0)
+    → (s : ℕ) → s < slot + 1 → getD (set memo (11 * slot) 0) (11 * s) 0 ≡ 0
+empty-on memo slot room before s h = go (decide s slot)
+  where
+    go : (s ≡ slot) ⊎ (s ≡ slot → ⊥) → getD (set memo (11 * slot) 0) (11 * s) 0 ≡ 0
+    go (inl e) = rw e (getD-set-same memo (11 * slot) 0 0 room)
+    go (inr d) = getD-set-other memo (11 * slot) (11 * s) 0 0 (omega (arith, d)) ∙ before s (omega (arith, h, d))

@@ -52,9 +52,13 @@ enum-known-answer c = (c .match) .keys1
 
 -- src/memo.rt:109:13
 note-requires : tie.Need-note-requires
-note-requires c κs = ((c .before .before .before .before .before .before .before .before .before .before .before .before .before .before .slot-of) .ensures, (c .before .before .before .before .before .before .before .before .before .before .before .before .before .before .before .before .before .before .before .before .pre) .1 .0 .size, (c .before .before .before .before .before .before .before .before .before .before .before .before .before .before .before .before .before .before .before .before .pre) .1 .1 .1,
-    id-small (rawStep ((c .before .before .before .before .before .before .before .before .before .before .before .before .before .before .before .before .before .before .before .before .args) .edges .now) ((c .before .before .before .before .before .before .before .before .before .before .before .before .before .before .before .before .before .before .before .before .args) .raw .now)) ((c .before .before .before .before .before .before .before .before .before .before .before .before .before .before .before .before .before .before .before .before .args) .index .now) ((c .before .before .before .before .before .before .before .before .before .before .before .before .before .before .before .before .before .before .before .before .args) .numbers .now) ((c .before .before .before .before .before .before .before .before .intern-step) .last .1 .1 .0) ((c .before .before .before .before .before .before .before .before .intern-step) .last .1 .1 .1 .0) ((c .before .before .answer) .given .0 .0)
-    (rw ((c .before .before .answer) .given .1) at ((c .before .before .before .before .before .before .before .before .intern-step) .ensures)))
+note-requires c κs = (
+  (c .before .before .before .before .before .before .before .before .before .before .before .before .before .before .slot-of) .ensures,
+  (c .before .before .before .before .before .before .before .before .before .before .before .before .before .before .before .before .before .before .before .before .pre) .1 .0 .size,
+  (c .before .before .before .before .before .before .before .before .before .before .before .before .before .before .before .before .before .before .before .before .pre) .1 .1 .1,
+  id-small (rawStep ((c .before .before .before .before .before .before .before .before .before .before .before .before .before .before .before .before .before .before .before .before .args) .edges .now) ((c .before .before .before .before .before .before .before .before .before .before .before .before .before .before .before .before .before .before .before .before .args) .raw .now)) ((c .before .before .before .before .before .before .before .before .before .before .before .before .before .before .before .before .before .before .before .before .args) .index .now) ((c .before .before .before .before .before .before .before .before .before .before .before .before .before .before .before .before .before .before .before .before .args) .numbers .now) ((c .before .before .before .before .before .before .before .before .intern-step) .last .1 .1 .0) ((c .before .before .before .before .before .before .before .before .intern-step) .last .1 .1 .1 .0) ((c .before .before .answer) .given .0 .0)
+      (rw ((c .before .before .answer) .given .1) at ((c .before .before .before .before .before .before .before .before .intern-step) .ensures)),
+)
 
 -- src/memo.rt:112:27
 enum-told : tie.Need-enum-told

@@ -1,0 +1,145 @@
+// The signature of an item: the ids of its steps, its name, and the id of the names that it reaches by delay; and a pass that gives items ids.
+ghost use Prim.Native.Nat.{ℕ, _+_, _/_, _≤_, _<_};
+ghost use mathlib.Core.Path.{_≡_};
+ghost use mathlib.Core.Bool.{Bool, true, false};
+ghost use lib.ListN.{length, getD, take};
+ghost use Rattle.graph.specs.Readers.{isAvailable};
+ghost use Rattle.signatures.specs.Dictionary.{Dictionary, Interns, entriesOf};
+ghost use Rattle.signatures.specs.Memo.{Noted};
+ghost use Rattle.signatures.specs.Raw.{rawStep};
+ghost use Rattle.signatures.specs.Named.{itemsIn, reachedFrom, Partial, Stepped, Gathering, Signs, Passed, Roomy, Signed, stepsFrom};
+ghost use Rattle.signatures.specs.Steps.{nameOf};
+ghost use Rattle.signatures.specs.Available.{NextAvailable};
+use crate::dictionary::Interned;
+use crate::dictionary::clear;
+use crate::dictionary::intern;
+use crate::memo::clear_memo;
+use crate::memo::noted_id;
+use crate::sets::insert;
+use crate::steps::list_landed;
+use crate::steps::name_at;
+
+// How many numbers the list of a signature has at most: 128 ids, a name, and the id of the delays.
+const WHOLE: usize = 130;
+
+const NO_ID: u16 = 65535;
+
+// The steps of an item: how many ids their set has, or that one of them found no room.
+pub(crate) enum Gathered {
+    Ids(usize),
+    Short,
+}
+
+// Lists the names that an item reaches by delay as a set; returns how many there are.
+fn list_delays(x: usize, names: &[u16], list: &mut [u32]) -> usize
+    requires { ⌜ (itemsIn (now names) ≤ 4096) × (4096 ≤ length (now list)) ⌝ }
+    ensures { λ r. ⌜ (take r (now (list .exit)) ≡ reachedFrom (now (names .entry)) x)
+        × (r ≤ 4096) × (length (now (list .exit)) ≡ length (now (list .entry))) ⌝ }
+{
+    let n = names.len() / 2;
+    let mut len = 0;
+    let mut y = x;
+    let mut i = 0;
+    while i < n {
+        if n <= y {
+            return len;
+        }
+        len = insert(name_at(names, y), len, list);
+        y = name_at(names, n + y);
+        i = i + 1;
+    }
+    len
+}
+
+// Returns the id of the names that an item reaches by delay.
+fn delay_id(
+    x: usize,
+    names: &[u16],
+    index: &mut [u16],
+    numbers: &mut [u32],
+    list: &mut [u32],
+) -> Interned
+    requires { ⌜ Dictionary (now index) (now numbers) ⌝ }
+    requires { ⌜ (itemsIn (now names) ≤ 4096) × (4096 ≤ length (now list)) ⌝ }
+    ensures { λ r. ⌜ Interns (reachedFrom (now (names .entry)) x) (now (index .entry)) (now (numbers .entry))
+        (now (index .exit)) (now (numbers .exit)) r ⌝ }
+    ensures { λ _. ⌜ (length (reachedFrom (now (names .entry)) x) ≤ 4096) × (length (now (list .exit)) ≡ length (now (list .entry))) ⌝ }
+{
+    let len = list_delays(x, names, list);
+    intern(&list[..len], index, numbers)
+}
+
+// Returns the first rank from one on whose edge is available, or the count.
+fn next_available(x: usize, from: usize, count: usize, graph: &[u16]) -> usize
+    requires { ⌜ (from ≤ count) × (count ≤ 128) ⌝ }
+    ensures { λ r. ⌜ NextAvailable (now (graph .entry)) x from count r ⌝ }
+{
+    let mut rank = from;
+    while rank < count {
+        if graph::is_available(graph, x, rank) {
+            return rank;
+        }
+        rank = rank + 1;
+    }
+    rank
+}
+
+// Returns the id of the step of an edge from the regions of a class.
+fn step_id(
+    edge: usize,
+    class: usize,
+    graph: &[u16],
+    edges: &[u32],
+    names: &[u16],
+    index: &mut [u16],
+    numbers: &mut [u32],
+    memo: &mut [u16],
+) -> Interned
+    requires { ⌜ Dictionary (now index) (now numbers) ⌝ }
+    requires { ⌜ Noted (rawStep (now edges)) (entriesOf (now index) (now numbers)) (now memo) ⌝ }
+    requires { ⌜ edge < 128 ⌝ }
+    ensures { λ r. ⌜ Stepped (now (graph .entry)) (now (edges .entry)) (now (names .entry)) class edge
+        (now (index .entry)) (now (numbers .entry)) (now (index .exit)) (now (numbers .exit)) (now (memo .exit)) r ⌝ }
+{
+    let mut raw = [0u16; 9];
+    let size = list_landed(edge, class, graph, names, &mut raw);
+    noted_id(&raw[..size], edges, index, numbers, memo)
+}
+
+// Lists the ids of the steps of an item as a set.
+fn list_steps(
+    x: usize,
+    graph: &[u16],
+    edges: &[u32],
+    names: &[u16],
+    index: &mut [u16],
+    numbers: &mut [u32],
+    memo: &mut [u16],
+    list: &mut [u32],
+) -> Gathered
+    requires { ⌜ Dictionary (now index) (now numbers) ⌝ }
+    requires { ⌜ Noted (rawStep (now edges)) (entriesOf (now index) (now numbers)) (now memo) ⌝ }
+    requires { ⌜ 130 ≤ length (now list) ⌝ }
+    ensures { λ r. ⌜ Gathering (now (graph .entry)) (now (edges .entry)) (now (names .entry)) x (now (index .entry)) (now (numbers .entry))
+        (now (list .entry)) (now (index .exit)) (now (numbers .exit)) (now (memo .exit)) (now (list .exit)) r ⌝ }
+{
+    let class = graph::class_of(graph, x);
+    let location = graph::location_of(graph, x);
+    let count = graph::edge_count(graph, location);
+    let mut len = 0;
+    let mut rank = next_available(x, 0, count, graph);
+    while rank < count {
+        let edge = graph::edge_at(graph, location, rank);
+        let step = step_id(edge, class, graph, edges, names, index, numbers, memo);
+        match step {
+            Interned::Id(id) => {
+                len = insert(id, len, list);
+            }
+            Interned::Full => {
+                return Gathered::Short;
+            }
+        }
+        rank = next_available(x, rank + 1, count, graph);
+    }
+    Gathered::Ids(len)
+}
