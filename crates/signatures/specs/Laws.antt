@@ -12,6 +12,7 @@
 --   Named       what ids of signatures tell
 --   Delays      names gathered along delays
 --   Available   available edges, one after the other
+--   Passes      a pass over items
 --   Signatures  equal exactly for items that are related in the next round
 pub mod Order
 pub mod Sets
@@ -27,3 +28,4 @@ pub mod Memo
 pub mod Named
 pub mod Delays
 pub mod Available
+pub mod Passes

@@ -7,7 +7,8 @@ use lib.ListN.{length, getD, take}
 use Rattle.bisimulation.specs.Finite.{Finite}
 use Rattle.signatures.specs.declared.dictionary.Interned.{Interned}
 use Rattle.signatures.specs.declared.dictionary.Interned.the-variants.{Id, Full}
-use mathlib.Core.Bool.{true}
+use mathlib.Core.Bool.{true, cond}
+use lib.Dec.{ltb}
 use mathlib.Core.Logic.{_⊎_}
 use Rattle.graph.specs.Readers.{isAvailable}
 use Rattle.signatures.specs.declared.signature.Gathered.{Gathered}
@@ -121,6 +122,14 @@ pub record Gathering (graph edges names : List ℕ) (x : ℕ) (index numbers lis
   pub size : length list′ ≡ length list
   pub answered : Answered graph edges names x (entriesOf index numbers) (entriesOf index′ numbers′) list′ answer
 
+-- The delays and the name are put behind the ids of steps, whatever steps these are of.
+pub record Finishes (names : List ℕ) (x len : ℕ) (index numbers list index′ numbers′ list′ : List ℕ) (answer : Interned) : Type 0 where
+  pub kept : Dictionary index′ numbers′
+  pub size : length list′ ≡ length list
+  pub grows : Grows (entriesOf index numbers) (entriesOf index′ numbers′)
+  pub signed : (held : List (List ℕ)) (steps : List (List ℕ)) → Partial held (entriesOf index numbers) steps 128 list len
+      → Signed held (entriesOf index′ numbers′) (nameOf names x) (reachedFrom names x) steps answer
+
 -- The signature of an item.
 pub record Signs (graph edges names : List ℕ) (x : ℕ) (index numbers list index′ numbers′ memo′ list′ : List ℕ) (answer : Interned) : Type 0 where
   pub kept : Dictionary index′ numbers′
@@ -135,6 +144,11 @@ pub record Signs (graph edges names : List ℕ) (x : ℕ) (index numbers list in
 abbrev pub noId : ℕ
 noId = 65535
 
+-- An answer as a number.
+abbrev pub numberOf : Interned → ℕ
+numberOf (Id id) = cond (ltb id noId) id noId
+numberOf Full = noId
+
 -- The items before k have their ids, or found no room; the others stand as they were.
 pub record Passing (graph edges names items items′ : List ℕ) (held : List (List ℕ)) (k : ℕ) : Type 0 where
   pub size : length items′ ≡ length items
@@ -144,6 +158,15 @@ pub record Passing (graph edges names items items′ : List ℕ) (held : List (L
       → Refused held (nameOf names (getD items j 0)) (reachedFrom names (getD items j 0)) (stepsFrom graph edges names (getD items j 0))
   pub rest : (j : ℕ) → k ≤ j → getD items′ j 0 ≡ getD items j 0
   pub first : 0 < k → getD items′ 0 0 ≡ noId → ⊥
+
+-- A pass has come to item k.
+pub record Signing (graph edges names items list index numbers memo list′ items′ : List ℕ) (k : ℕ) : Type 0 where
+  pub kept : Dictionary index numbers
+  pub noted : Noted (rawStep edges) (entriesOf index numbers) memo
+  pub size : length list′ ≡ length list
+  pub passing : Passing graph edges names items items′ (entriesOf index numbers) k
+  pub empty : k ≡ 0 → entriesOf index numbers ≡ []
+  pub within : k ≤ length items
 
 -- After a pass each item has the id of its signature, or found no room; the first always has one.
 pub record Passed (graph edges names items items′ : List ℕ) : Type 0 where

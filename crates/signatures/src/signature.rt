@@ -2,12 +2,13 @@
 ghost use Prim.Native.Nat.{ℕ, _+_, _/_, _≤_, _<_};
 ghost use mathlib.Core.Path.{_≡_};
 ghost use mathlib.Core.Bool.{Bool, true, false};
+ghost use mathlib.Core.List.{List, [], _∷_, _++_};
 ghost use lib.ListN.{length, getD, take};
 ghost use Rattle.graph.specs.Readers.{isAvailable};
-ghost use Rattle.signatures.specs.Dictionary.{Dictionary, Interns, entriesOf};
+ghost use Rattle.signatures.specs.Dictionary.{Dictionary, Interns, Empty, entriesOf};
 ghost use Rattle.signatures.specs.Memo.{Noted};
 ghost use Rattle.signatures.specs.Raw.{rawStep};
-ghost use Rattle.signatures.specs.Named.{itemsIn, reachedFrom, Partial, Stepped, Gathering, Signs, Passed, Roomy, Signed, stepsFrom};
+ghost use Rattle.signatures.specs.Named.{itemsIn, reachedFrom, Partial, Stepped, Gathering, Finishes, Signs, Passed, Roomy, numberOf, Signed, stepsFrom};
 ghost use Rattle.signatures.specs.Steps.{nameOf};
 ghost use Rattle.signatures.specs.Available.{NextAvailable};
 use crate::dictionary::Interned;
@@ -51,7 +52,7 @@ fn list_delays(x: usize, names: &[u16], list: &mut [u32]) -> usize
     len
 }
 
-// Returns the id of the names that an item reaches by delay.
+// Returns the id of the names that an item reaches by delay. The first numbers of the list stay.
 fn delay_id(
     x: usize,
     names: &[u16],
@@ -60,13 +61,15 @@ fn delay_id(
     list: &mut [u32],
 ) -> Interned
     requires { ⌜ Dictionary (now index) (now numbers) ⌝ }
-    requires { ⌜ (itemsIn (now names) ≤ 4096) × (4096 ≤ length (now list)) ⌝ }
+    requires { ⌜ (itemsIn (now names) ≤ 4096) × (4226 ≤ length (now list)) ⌝ }
     ensures { λ r. ⌜ Interns (reachedFrom (now (names .entry)) x) (now (index .entry)) (now (numbers .entry))
         (now (index .exit)) (now (numbers .exit)) r ⌝ }
-    ensures { λ _. ⌜ (length (reachedFrom (now (names .entry)) x) ≤ 4096) × (length (now (list .exit)) ≡ length (now (list .entry))) ⌝ }
+    ensures { λ _. ⌜ (length (reachedFrom (now (names .entry)) x) ≤ 4096) × (length (now (list .exit)) ≡ length (now (list .entry)))
+        × (take 130 (now (list .exit)) ≡ take 130 (now (list .entry))) ⌝ }
 {
-    let len = list_delays(x, names, list);
-    intern(&list[..len], index, numbers)
+    let len = list_delays(x, names, &mut list[WHOLE..]);
+    let end = WHOLE + len;
+    intern(&list[WHOLE..end], index, numbers)
 }
 
 // Returns the first rank from one on whose edge is available, or the count.
@@ -142,4 +145,106 @@ fn list_steps(
         rank = next_available(x, rank + 1, count, graph);
     }
     Gathered::Ids(len)
+}
+
+// Puts the name and the id of the delays behind the ids of steps; returns the id of the whole.
+fn close(
+    name: usize,
+    delays: usize,
+    len: usize,
+    index: &mut [u16],
+    numbers: &mut [u32],
+    list: &mut [u32],
+) -> Interned
+    requires { ⌜ Dictionary (now index) (now numbers) ⌝ }
+    requires { ⌜ (len ≤ 128) × (130 ≤ length (now list)) × (name < 4294967296) × (delays < 4294967296) ⌝ }
+    ensures { λ r. ⌜ Interns (take len (now (list .entry)) ++ (name ∷ delays ∷ [])) (now (index .entry)) (now (numbers .entry))
+        (now (index .exit)) (now (numbers .exit)) r ⌝ }
+    ensures { λ _. ⌜ length (now (list .exit)) ≡ length (now (list .entry)) ⌝ }
+{
+    list[len] = name as u32;
+    list[len + 1] = delays as u32;
+    intern(&list[..len + 2], index, numbers)
+}
+
+// Returns the id of the signature of an item whose steps' ids are in the first numbers of the list.
+fn finish(
+    x: usize,
+    len: usize,
+    names: &[u16],
+    index: &mut [u16],
+    numbers: &mut [u32],
+    list: &mut [u32],
+) -> Interned
+    requires { ⌜ Dictionary (now index) (now numbers) ⌝ }
+    requires { ⌜ (len ≤ 128) × (itemsIn (now names) ≤ 4096) × (4226 ≤ length (now list)) ⌝ }
+    ensures { λ r. ⌜ Finishes (now (names .entry)) x len (now (index .entry)) (now (numbers .entry)) (now (list .entry))
+        (now (index .exit)) (now (numbers .exit)) (now (list .exit)) r ⌝ }
+{
+    let delays = delay_id(x, names, index, numbers, list);
+    match delays {
+        Interned::Id(id) => close(name_at(names, x), id, len, index, numbers, list),
+        Interned::Full => Interned::Full,
+    }
+}
+
+// Returns the id of the signature of an item.
+fn signature(
+    x: usize,
+    graph: &[u16],
+    edges: &[u32],
+    names: &[u16],
+    index: &mut [u16],
+    numbers: &mut [u32],
+    memo: &mut [u16],
+    list: &mut [u32],
+) -> Interned
+    requires { ⌜ Dictionary (now index) (now numbers) ⌝ }
+    requires { ⌜ Noted (rawStep (now edges)) (entriesOf (now index) (now numbers)) (now memo) ⌝ }
+    requires { ⌜ (itemsIn (now names) ≤ 4096) × (4226 ≤ length (now list)) ⌝ }
+    ensures { λ r. ⌜ Signs (now (graph .entry)) (now (edges .entry)) (now (names .entry)) x (now (index .entry)) (now (numbers .entry))
+        (now (list .entry)) (now (index .exit)) (now (numbers .exit)) (now (memo .exit)) (now (list .exit)) r ⌝ }
+{
+    let steps = list_steps(x, graph, edges, names, index, numbers, memo, list);
+    match steps {
+        Gathered::Ids(len) => finish(x, len, names, index, numbers, list),
+        Gathered::Short => Interned::Full,
+    }
+}
+
+// Returns an id as a number, or 65,535 if there is none.
+fn id_number(answer: Interned) -> u16
+    ensures { λ r. ⌜ r ≡ numberOf answer ⌝ }
+{
+    match answer {
+        Interned::Id(id) => { if id < 65535 { id as u16 } else { NO_ID } }
+        Interned::Full => NO_ID,
+    }
+}
+
+// Gives all items of a list the ids of their signatures.
+fn sign_all(
+    graph: &[u16],
+    edges: &[u32],
+    names: &[u16],
+    index: &mut [u16],
+    numbers: &mut [u32],
+    memo: &mut [u16],
+    list: &mut [u32],
+    items: &mut [u16],
+)
+    requires { ⌜ Empty (now index) (now numbers) ⌝ }
+    requires { ⌜ Noted (rawStep (now edges)) (entriesOf (now index) (now numbers)) (now memo) ⌝ }
+    requires { ⌜ (itemsIn (now names) ≤ 4096) × (4226 ≤ length (now list)) × (length (now items) ≤ 4096) ⌝ }
+    ensures { λ _. ⌜ Passed (now (graph .entry)) (now (edges .entry)) (now (names .entry)) (now (items .entry)) (now (items .exit)) ⌝ }
+    ensures { λ _. ⌜ (length (now (index .exit)) ≡ length (now (index .entry))) × (length (now (numbers .exit)) ≡ length (now (numbers .entry)))
+        × (length (now (memo .exit)) ≡ length (now (memo .entry))) × (length (now (list .exit)) ≡ length (now (list .entry))) ⌝ }
+{
+    let mut k = 0;
+    while k < items.len() {
+        let x = name_at(items, k);
+        let id = signature(x, graph, edges, names, index, numbers, memo, list);
+        items[k] = id_number(id);
+        k = k + 1;
+    }
 }

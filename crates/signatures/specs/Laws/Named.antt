@@ -1,11 +1,13 @@
 -- What ids of signatures tell: equal ids exactly for equal names, delays and sets of steps; and what is refused is like nothing that has an id.
-use Prim.Native.Nat.{ℕ, zero, suc, _+_, _*_, _≤_, _<_}
+use Prim.Native.Nat.{ℕ, zero, suc, _+_, _-_, _*_, _≤_, _<_}
 use native.Mathlib.Omega.{arith}
 use native.Mathlib.Numerals.{add-one}
 use mathlib.Core.Path.{_≡_, refl, sym, _∙_, ap, ap₂, subst}
 use mathlib.Core.List.{List, [], _∷_, _++_, List·Memᴰ, List·Memᴰ·head, List·Memᴰ·tail}
 use lib.ListN.{length, take, set, getD, length-append, length-set}
-use lib.Seq.{take-suc-set, length-take-le, take-set-le}
+use lib.ListN.{drop}
+use lib.Seq.{take-suc-set, length-take-le, take-set-le, take-take, take-append-le, drop-at}
+use borrow.Rule.Slice.PartMut.{putMid, postOf, take-put}
 use mathlib.Core.List.{append-assoc}
 use Rattle.signatures.specs.declared.dictionary.Interned.{Interned}
 use Rattle.signatures.specs.declared.dictionary.Interned.the-variants.{Id, Full}
@@ -13,7 +15,12 @@ use Rattle.signatures.specs.Book.{maxIds, room, At, Absent, Different, n
 use Rattle.signatures.specs.Laws.Book.{grows-same, grows-then, told-grows, told-few}
 use Rattle.signatures.specs.Sets.{putIn, setOf}
 use Rattle.signatures.specs.Laws.Sets.{set-same, same-set}
-use Rattle.signatures.specs.Named.{AllIds, none, more, spelled, Named, Refused, by-step, by-delays, by-whole, Alike, Partial, Signed}
+use Rattle.signatures.specs.Named.{AllIds, none, more, spelled, Named, Refused, by-step, by-delays, by-whole, Alike, Partial, Signed, reachedFrom, stepsFrom, Finishes, Gathering, Signs}
+use Rattle.signatures.specs.declared.signature.Gathered.the-variants.{Ids, Short}
+use Rattle.signatures.specs.Raw.{rawStep}
+use Rattle.signatures.specs.Laws.Memo.{noted-grows}
+use Rattle.signatures.specs.Steps.{nameOf}
+use Rattle.signatures.specs.Dictionary.{Interns, entriesOf}
 
 -- ---- Ids
 
@@ -201,3 +208,76 @@ two-more l at a b room =
 
     second : at + 2 ≡ suc (at + 1)
     second = omega arith
+
+-- A part behind the first numbers, written and lent again.
+pub part-behind : (a k len : ℕ) (xs ys : List ℕ) → a ≤ length xs → len ≤ length ys
+    → take (a + len - a) (drop a (putMid a k xs ys)) ≡ take len ys
+part-behind a k len xs ys h l =
+    let e : a + len - a ≡ len = omega arith in
+    ap₂ (λ (n : ℕ) (r : List ℕ). take n r) e (drop-at (take a xs) (ys ++ postOf a k xs) a (length-take-le a xs h))
+    ∙ take-append-le len ys (postOf a k xs) l
+
+-- What a part does not reach stays.
+pub part-before : (a k len : ℕ) (xs ys : List ℕ) → a ≤ length xs → len ≤ a → take len (putMid a k xs ys) ≡ take len xs
+part-before a k len xs ys h l =
+    sym (take-take len a (putMid a k xs ys) l) ∙ ap (take len) (take-put a k xs ys h) ∙ take-take len a xs l
+
+pub first-same : (len : ℕ) (l m : List ℕ) → len ≤ 130 → take 130 l ≡ take 130 m → take len l ≡ take len m
+first-same len l m h e = sym (take-take len 130 l h) ∙ ap (take len) e ∙ take-take len 130 m h
+
+-- ---- What the code leaves
+
+module _ (names : List ℕ) (x len : ℕ) (index numbers list index₁ numbers₁ list₁ : List ℕ) (fits : length (reachedFrom names x) ≤ 4096)
+    (size : length list₁ ≡ length list) where
+  pub finished-full : Interns (reachedFrom names x) index numbers index₁ numbers₁ Full
+      → Finishes names x len index numbers list index₁ numbers₁ list₁ Full
+  finished-full i =
+      record {
+        kept = i .kept;
+        size = size;
+        grows = told-grows (reachedFrom names x) (entriesOf index numbers) (entriesOf index₁ numbers₁) Full (i .told);
+        signed = λ held steps p. delays-full p (omega arith) (nameOf names x) (reachedFrom names x) (entriesOf index₁ numbers₁) fits (i .told);
+      }
+
+  pub finished-closed : (delay name : ℕ) (index₂ numbers₂ list₂ : List ℕ) (answer : Interned) → len ≤ 128 → 4226 ≤ length list
+      → take 130 list₁ ≡ take 130 list → Interns (reachedFrom names x) index numbers index₁ numbers₁ (Id delay) → name ≡ nameOf names x
+      → length list₂ ≡ length list₁ → Interns (take len list₁ ++ (name ∷ delay ∷ [])) index₁ numbers₁ index₂ numbers₂ answer
+      → Finishes names x len index numbers list index₂ numbers₂ list₂ answer
+  finished-closed delay name index₂ numbers₂ list₂ answer few room first i is size₂ j =
+      record {
+        kept = j .kept;
+        size = size₂ ∙ size;
+        grows = grows-then (entriesOf index numbers) (entriesOf index₁ numbers₁) (entriesOf index₂ numbers₂)
+            (told-grows (reachedFrom names x) (entriesOf index numbers) (entriesOf index₁ numbers₁) (Id delay) (i .told))
+            (told-grows (take len list₁ ++ (name ∷ delay ∷ [])) (entriesOf index₁ numbers₁) (entriesOf index₂ numbers₂) answer (j .told));
+        signed = λ held steps p. whole-told p (omega arith) (nameOf names x) (reachedFrom names x) (entriesOf index₁ numbers₁) delay
+            (entriesOf index₂ numbers₂) answer fits (i .told)
+            (omega (arith, sym (ap length (p .put)), length-take-le len list (omega (arith, few, room)), few))
+            (subst (λ (l : List ℕ). Told l (entriesOf index₁ numbers₁) (entriesOf index₂ numbers₂) answer)
+            (ap₂ (λ (l : List ℕ) (n : ℕ). l ++ (n ∷ delay ∷ [])) (first-same len list₁ list (omega (arith, few)) first ∙ p .put) is) (j .told));
+      }
+
+module _ (graph edges names : List ℕ) (x : ℕ) (index numbers list index₁ numbers₁ memo₁ list₁ : List ℕ) where
+  pub signed-whole : (len : ℕ) (index₂ numbers₂ list₂ : List ℕ) (answer : Interned)
+      → Gathering graph edges names x index numbers list index₁ numbers₁ memo₁ list₁ (Ids len)
+      → Finishes names x len index₁ numbers₁ list₁ index₂ numbers₂ list₂ answer
+      → Signs graph edges names x index numbers list index₂ numbers₂ memo₁ list₂ answer
+  signed-whole len index₂ numbers₂ list₂ answer g f =
+      record {
+        kept = f .kept;
+        noted = noted-grows (rawStep edges) (entriesOf index₁ numbers₁) (entriesOf index₂ numbers₂) memo₁ (f .grows) (g .noted);
+        size = f .size ∙ g .size;
+        grows = grows-then (entriesOf index numbers) (entriesOf index₁ numbers₁) (entriesOf index₂ numbers₂) (g .answered .grows) (f .grows);
+        signed = f .signed (entriesOf index numbers) (stepsFrom graph edges names x) (g .answered);
+      }
+
+  pub signed-short : Gathering graph edges names x index numbers list index₁ numbers₁ memo₁ list₁ Short
+      → Signs graph edges names x index numbers list index₁ numbers₁ memo₁ list₁ Full
+  signed-short g =
+      record {
+        kept = g .kept;
+        noted = g .noted;
+        size = g .size;
+        grows = g .answered .0;
+        signed = g .answered .1 (nameOf names x) (reachedFrom names x);
+      }

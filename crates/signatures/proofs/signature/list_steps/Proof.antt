@@ -53,14 +53,14 @@ next-available-requires c κs = (omega arith, omega (arith, (c .edge-count) .ens
 -- src/signature.rt:131:5
 loop-holds : tie.Need-loop-holds Inv-loop μ-loop
 loop-holds c = record {
-      kept = (c .before .before .before .before .before .before .before .before .before .before .before .pre) .0;
-      noted = (c .before .before .before .before .before .before .before .before .before .before .before .pre) .1 .0;
-      size = refl;
-      part = steps-start (itemsIn ((c .before .before .before .before .before .before .before .before .before .before .before .args) .names .now)) ((c .before .before .before .before .before .before .before .before .before .before .before .args) .graph .now) ((c .before .before .before .before .before .before .before .before .before .before .before .args) .edges .now) ((c .before .before .before .before .before .before .before .before .before .before .before .args) .names .now) ((c .before .before .before .before .before .before .before .before .before .before .before .args) .x) (entriesOf ((c .before .before .before .before .before .before .before .before .before .before .before .args) .index .now) ((c .before .before .before .before .before .before .before .before .before .before .before .args) .numbers .now)) ((c .before .before .before .before .before .before .before .before .before .before .before .args) .list .now) ((c .before .edge-count) .result) ((c .next-available) .result)
-          ((c .before .edge-count) .ensures .0 ∙ ap (edgeCount ((c .before .before .before .before .before .before .before .before .before .before .before .args) .graph .now)) ((c .before .before .location-of) .ensures .0)) ((c .next-available) .ensures);
-      within = (c .next-available) .ensures .within;
-      here = (c .next-available) .ensures .here;
-    }
+  kept = (c .before .before .before .before .before .before .before .before .before .before .before .pre) .0;
+  noted = (c .before .before .before .before .before .before .before .before .before .before .before .pre) .1 .0;
+  size = refl;
+  part = steps-start (itemsIn ((c .before .before .before .before .before .before .before .before .before .before .before .args) .names .now)) ((c .before .before .before .before .before .before .before .before .before .before .before .args) .graph .now) ((c .before .before .before .before .before .before .before .before .before .before .before .args) .edges .now) ((c .before .before .before .before .before .before .before .before .before .before .before .args) .names .now) ((c .before .before .before .before .before .before .before .before .before .before .before .args) .x) (entriesOf ((c .before .before .before .before .before .before .before .before .before .before .before .args) .index .now) ((c .before .before .before .before .before .before .before .before .before .before .before .args) .numbers .now)) ((c .before .before .before .before .before .before .before .before .before .before .before .args) .list .now) ((c .before .edge-count) .result) ((c .next-available) .result)
+      ((c .before .edge-count) .ensures .0 ∙ ap (edgeCount ((c .before .before .before .before .before .before .before .before .before .before .before .args) .graph .now)) ((c .before .before .location-of) .ensures .0)) ((c .next-available) .ensures);
+  within = (c .next-available) .ensures .within;
+  here = (c .next-available) .ensures .here;
+}
 
 -- src/signature.rt:132:13
 edge-at-requires : tie.Need-edge-at-requires Inv-loop μ-loop
@@ -77,9 +77,10 @@ enum-known-step c = (c .match) .keys1
 -- src/signature.rt:136:17
 insert-requires : tie.Need-insert-requires Inv-loop μ-loop
 insert-requires c κs = let id = id-small (stepAt ((c .before .before .before .before .before .before .before .before .before .before .before .before .before .before .before .before .before .before .before .before .before .before .before .before .before .before .before .before .args) .graph .now) ((c .before .before .before .before .before .before .before .before .before .before .before .before .before .before .before .before .before .before .before .before .before .before .before .before .before .before .before .before .args) .edges .now) ((c .before .before .before .before .before .before .before .before .before .before .before .before .before .before .before .before .before .before .before .before .before .before .before .before .before .before .before .before .args) .names .now) ((c .before .before .before .before .before .before .before .before .before .before .before .before .before .before .before .before .before .before .before .before .class-of) .result) ((c .before .before .before .before .before .before .before .before .before .before .before .before .before .before .edge-at) .result)) ((c .before .before .before .before .before .before .before .before .before .before .before .before .before .before .before .before .loop) .index) ((c .before .before .before .before .before .before .before .before .before .before .before .before .before .before .before .before .loop) .numbers)
-    ((c .before .before .before .before .before .before .before .before .before .before .step-id) .last .1 .1 .1 .1 .1 .0) ((c .before .before .before .before .before .before .before .before .before .before .step-id) .last .1 .1 .1 .1 .1 .1 .0) ((c .before .before .step) .given .0 .0) (rw ((c .before .before .step) .given .1) at ((c .before .before .before .before .before .before .before .before .before .before .step-id) .ensures .interns)) in
-    ((omega (arith, id), omega (arith, (c .before .before .before .before .before .before .before .before .before .before .before .before .before .before .before .before .loop) .inv .part .short, (c .before .before .before .before .before .before .before .before .before .before .before .before .before .before .before .loop-test) .taken, (c .before .before .before .before .before .before .before .before .before .before .before .before .before .before .before .before .before .before .edge-count) .ensures .1, (c .before .before .before .before .before .before .before .before .before .before .before .before .before .before .before .before .loop) .inv .size, (c .before .before .before .before .before .before .before .before .before .before .before .before .before .before .before .before .before .before .before .before .before .before .before .before .before .before .before .before .pre) .1 .1)),
-    subst Rising (sym ((c .before .before .before .before .before .before .before .before .before .before .before .before .before .before .before .before .loop) .inv .part .put)) (set-rises ((c .before .before .before .before .before .before .before .before .before .before .before .before .before .before .before .before .loop) .inv .part .ids)))
+    ((c .before .before .before .before .before .before .before .before .before .before .step-id) .last .1 .1 .1 .1 .1 .0) ((c .before .before .before .before .before .before .before .before .before .before .step-id) .last .1 .1 .1 .1 .1 .1 .0) ((c .before .before .step) .given .0 .0) (rw ((c .before .before .step) .given .1) at ((c .before .before .before .before .before .before .before .before .before .before .step-id) .ensures .interns)) in (
+      (omega (arith, id), omega (arith, (c .before .before .before .before .before .before .before .before .before .before .before .before .before .before .before .before .loop) .inv .part .short, (c .before .before .before .before .before .before .before .before .before .before .before .before .before .before .before .loop-test) .taken, (c .before .before .before .before .before .before .before .before .before .before .before .before .before .before .before .before .before .before .edge-count) .ensures .1, (c .before .before .before .before .before .before .before .before .before .before .before .before .before .before .before .before .loop) .inv .size, (c .before .before .before .before .before .before .before .before .before .before .before .before .before .before .before .before .before .before .before .before .before .before .before .before .before .before .before .before .pre) .1 .1)),
+      subst Rising (sym ((c .before .before .before .before .before .before .before .before .before .before .before .before .before .before .before .before .loop) .inv .part .put)) (set-rises ((c .before .before .before .before .before .before .before .before .before .before .before .before .before .before .before .before .loop) .inv .part .ids)),
+    )
 
 -- src/signature.rt:139:17
 enum-told : tie.Need-enum-told Inv-loop μ-loop
@@ -105,13 +106,13 @@ same-length-4 c = (c .before .before .before .before .before .before .before .be
 returns : tie.Need-returns Inv-loop μ-loop
 unfolding stepsFrom
 returns c = record {
-      kept = (c .before .before .before .before .before .before .before .before .step-id) .ensures .interns .kept;
-      noted = (c .before .before .before .before .before .before .before .before .step-id) .ensures .noted;
-      size = (c .before .before .before .before .before .before .before .before .before .before .before .before .before .before .loop) .inv .size;
-      answered = steps-full (itemsIn ((c .before .before .before .before .before .before .before .before .before .before .before .before .before .before .before .before .before .before .before .before .before .before .before .before .before .before .args) .names .now)) ((c .before .before .before .before .before .before .before .before .before .before .before .before .before .before .before .before .before .before .before .before .before .before .before .before .before .before .args) .graph .now) ((c .before .before .before .before .before .before .before .before .before .before .before .before .before .before .before .before .before .before .before .before .before .before .before .before .before .before .args) .edges .now) ((c .before .before .before .before .before .before .before .before .before .before .before .before .before .before .before .before .before .before .before .before .before .before .before .before .before .before .args) .names .now) ((c .before .before .before .before .before .before .before .before .before .before .before .before .before .before .before .before .before .before .before .before .before .before .before .before .before .before .args) .x) ((c .before .before .before .before .before .before .before .before .before .before .before .before .before .before .loop) .inv .part) ((c .before .before .before .before .before .before .before .before .before .before .before .before .before .before .before .before .edge-count) .result) ((c .before .before .before .before .before .before .before .before .before .before .before .before .before .before .before .before .edge-count) .ensures .0 ∙ ap (edgeCount ((c .before .before .before .before .before .before .before .before .before .before .before .before .before .before .before .before .before .before .before .before .before .before .before .before .before .before .args) .graph .now)) ((c .before .before .before .before .before .before .before .before .before .before .before .before .before .before .before .before .before .location-of) .ensures .0))
-          ((c .before .before .before .before .before .before .before .before .before .before .before .before .before .loop-test) .taken) ((c .before .before .before .before .before .before .before .before .before .before .before .before .before .before .loop) .inv .here ((c .before .before .before .before .before .before .before .before .before .before .before .before .before .loop-test) .taken)) (entriesOf ((c .before .before .before .before .before .before .before .before .step-id) .last .1 .1 .1 .1 .1 .0) ((c .before .before .before .before .before .before .before .before .step-id) .last .1 .1 .1 .1 .1 .1 .0))
-          (subst (λ (l : List ℕ). Told l (entriesOf ((c .before .before .before .before .before .before .before .before .before .before .before .before .before .before .loop) .index) ((c .before .before .before .before .before .before .before .before .before .before .before .before .before .before .loop) .numbers)) (entriesOf ((c .before .before .before .before .before .before .before .before .step-id) .last .1 .1 .1 .1 .1 .0) ((c .before .before .before .before .before .before .before .before .step-id) .last .1 .1 .1 .1 .1 .1 .0)) Full) (ap₂ (stepAt ((c .before .before .before .before .before .before .before .before .before .before .before .before .before .before .before .before .before .before .before .before .before .before .before .before .before .before .args) .graph .now) ((c .before .before .before .before .before .before .before .before .before .before .before .before .before .before .before .before .before .before .before .before .before .before .before .before .before .before .args) .edges .now) ((c .before .before .before .before .before .before .before .before .before .before .before .before .before .before .before .before .before .before .before .before .before .before .before .before .before .before .args) .names .now)) ((c .before .before .before .before .before .before .before .before .before .before .before .before .before .before .before .before .before .before .class-of) .ensures .0) ((c .before .before .before .before .before .before .before .before .before .before .before .before .edge-at) .ensures .0 ∙ ap (λ (l : ℕ). edgeAt ((c .before .before .before .before .before .before .before .before .before .before .before .before .before .before .before .before .before .before .before .before .before .before .before .before .before .before .args) .graph .now) l ((c .before .before .before .before .before .before .before .before .before .before .before .before .before .before .loop) .rank)) ((c .before .before .before .before .before .before .before .before .before .before .before .before .before .before .before .before .before .location-of) .ensures .0))) ((rw ((c .enum-told) .given .1) at ((c .before .before .before .before .before .before .before .before .step-id) .ensures .interns)) .told));
-    }
+  kept = (c .before .before .before .before .before .before .before .before .step-id) .ensures .interns .kept;
+  noted = (c .before .before .before .before .before .before .before .before .step-id) .ensures .noted;
+  size = (c .before .before .before .before .before .before .before .before .before .before .before .before .before .before .loop) .inv .size;
+  answered = steps-full (itemsIn ((c .before .before .before .before .before .before .before .before .before .before .before .before .before .before .before .before .before .before .before .before .before .before .before .before .before .before .args) .names .now)) ((c .before .before .before .before .before .before .before .before .before .before .before .before .before .before .before .before .before .before .before .before .before .before .before .before .before .before .args) .graph .now) ((c .before .before .before .before .before .before .before .before .before .before .before .before .before .before .before .before .before .before .before .before .before .before .before .before .before .before .args) .edges .now) ((c .before .before .before .before .before .before .before .before .before .before .before .before .before .before .before .before .before .before .before .before .before .before .before .before .before .before .args) .names .now) ((c .before .before .before .before .before .before .before .before .before .before .before .before .before .before .before .before .before .before .before .before .before .before .before .before .before .before .args) .x) ((c .before .before .before .before .before .before .before .before .before .before .before .before .before .before .loop) .inv .part) ((c .before .before .before .before .before .before .before .before .before .before .before .before .before .before .before .before .edge-count) .result) ((c .before .before .before .before .before .before .before .before .before .before .before .before .before .before .before .before .edge-count) .ensures .0 ∙ ap (edgeCount ((c .before .before .before .before .before .before .before .before .before .before .before .before .before .before .before .before .before .before .before .before .before .before .before .before .before .before .args) .graph .now)) ((c .before .before .before .before .before .before .before .before .before .before .before .before .before .before .before .before .before .location-of) .ensures .0))
+      ((c .before .before .before .before .before .before .before .before .before .before .before .before .before .loop-test) .taken) ((c .before .before .before .before .before .before .before .before .before .before .before .before .before .before .loop) .inv .here ((c .before .before .before .before .before .before .before .before .before .before .before .before .before .loop-test) .taken)) (entriesOf ((c .before .before .before .before .before .before .before .before .step-id) .last .1 .1 .1 .1 .1 .0) ((c .before .before .before .before .before .before .before .before .step-id) .last .1 .1 .1 .1 .1 .1 .0))
+      (subst (λ (l : List ℕ). Told l (entriesOf ((c .before .before .before .before .before .before .before .before .before .before .before .before .before .before .loop) .index) ((c .before .before .before .before .before .before .before .before .before .before .before .before .before .before .loop) .numbers)) (entriesOf ((c .before .before .before .before .before .before .before .before .step-id) .last .1 .1 .1 .1 .1 .0) ((c .before .before .before .before .before .before .before .before .step-id) .last .1 .1 .1 .1 .1 .1 .0)) Full) (ap₂ (stepAt ((c .before .before .before .before .before .before .before .before .before .before .before .before .before .before .before .before .before .before .before .before .before .before .before .before .before .before .args) .graph .now) ((c .before .before .before .before .before .before .before .before .before .before .before .before .before .before .before .before .before .before .before .before .before .before .before .before .before .before .args) .edges .now) ((c .before .before .before .before .before .before .before .before .before .before .before .before .before .before .before .before .before .before .before .before .before .before .before .before .before .before .args) .names .now)) ((c .before .before .before .before .before .before .before .before .before .before .before .before .before .before .before .before .before .before .class-of) .ensures .0) ((c .before .before .before .before .before .before .before .before .before .before .before .before .edge-at) .ensures .0 ∙ ap (λ (l : ℕ). edgeAt ((c .before .before .before .before .before .before .before .before .before .before .before .before .before .before .before .before .before .before .before .before .before .before .before .before .before .before .args) .graph .now) l ((c .before .before .before .before .before .before .before .before .before .before .before .before .before .before .loop) .rank)) ((c .before .before .before .before .before .before .before .before .before .before .before .before .before .before .before .before .before .location-of) .ensures .0))) ((rw ((c .enum-told) .given .1) at ((c .before .before .before .before .before .before .before .before .step-id) .ensures .interns)) .told));
+}
 
 -- src/signature.rt:142:34
 add-next-available : tie.Need-add-next-available Inv-loop μ-loop
@@ -128,16 +129,16 @@ loop-less c = omega (arith, (c .next-available2) .ensures .after, (c .before .be
 -- src/signature.rt:131:5
 loop-again : tie.Need-loop-again Inv-loop μ-loop
 loop-again c = record {
-      kept = (c .before .before .before .before .before .before .before .before .before .before .before .before .before .before .step-id) .ensures .interns .kept;
-      noted = (c .before .before .before .before .before .before .before .before .before .before .before .before .before .before .step-id) .ensures .noted;
-      size = (c .before .before .before .insert) .ensures .size ∙ (c .before .before .before .before .before .before .before .before .before .before .before .before .before .before .before .before .before .before .before .before .loop) .inv .size;
-      part = steps-turn (itemsIn ((c .before .before .before .before .before .before .before .before .before .before .before .before .before .before .before .before .before .before .before .before .before .before .before .before .before .before .before .before .before .before .before .before .args) .names .now)) ((c .before .before .before .before .before .before .before .before .before .before .before .before .before .before .before .before .before .before .before .before .before .before .before .before .before .before .before .before .before .before .before .before .args) .graph .now) ((c .before .before .before .before .before .before .before .before .before .before .before .before .before .before .before .before .before .before .before .before .before .before .before .before .before .before .before .before .before .before .before .before .args) .edges .now) ((c .before .before .before .before .before .before .before .before .before .before .before .before .before .before .before .before .before .before .before .before .before .before .before .before .before .before .before .before .before .before .before .before .args) .names .now) ((c .before .before .before .before .before .before .before .before .before .before .before .before .before .before .before .before .before .before .before .before .before .before .before .before .before .before .before .before .before .before .before .before .args) .x) ((c .before .before .before .before .before .before .before .before .before .before .before .before .before .before .before .before .before .before .before .before .loop) .inv .part) ((c .before .before .before .before .before .before .before .before .before .before .before .before .before .before .before .before .before .before .before .before .before .before .edge-count) .result) ((c .before .before .before .before .before .before .before .before .before .before .before .before .before .before .before .before .before .before .before .before .before .before .edge-count) .ensures .0 ∙ ap (edgeCount ((c .before .before .before .before .before .before .before .before .before .before .before .before .before .before .before .before .before .before .before .before .before .before .before .before .before .before .before .before .before .before .before .before .args) .graph .now)) ((c .before .before .before .before .before .before .before .before .before .before .before .before .before .before .before .before .before .before .before .before .before .before .before .location-of) .ensures .0))
-          ((c .before .before .before .before .before .before .before .before .before .before .before .before .before .before .before .before .before .before .before .loop-test) .taken) ((c .before .before .before .before .before .before .before .before .before .before .before .before .before .before .before .before .before .before .before .before .loop) .inv .here ((c .before .before .before .before .before .before .before .before .before .before .before .before .before .before .before .before .before .before .before .loop-test) .taken)) (entriesOf ((c .before .before .before .before .before .before .before .before .before .before .before .before .before .before .step-id) .last .1 .1 .1 .1 .1 .0) ((c .before .before .before .before .before .before .before .before .before .before .before .before .before .before .step-id) .last .1 .1 .1 .1 .1 .1 .0)) ((c .before .before .before .insert) .last .1 .1 .0) ((c .before .before .before .insert) .result) ((c .before .before .before .before .before .before .step) .given .0 .0) ((c .next-available2) .result)
-          (subst (λ (l : List ℕ). Told l (entriesOf ((c .before .before .before .before .before .before .before .before .before .before .before .before .before .before .before .before .before .before .before .before .loop) .index) ((c .before .before .before .before .before .before .before .before .before .before .before .before .before .before .before .before .before .before .before .before .loop) .numbers)) (entriesOf ((c .before .before .before .before .before .before .before .before .before .before .before .before .before .before .step-id) .last .1 .1 .1 .1 .1 .0) ((c .before .before .before .before .before .before .before .before .before .before .before .before .before .before .step-id) .last .1 .1 .1 .1 .1 .1 .0)) (Id ((c .before .before .before .before .before .before .step) .given .0 .0))) (ap₂ (stepAt ((c .before .before .before .before .before .before .before .before .before .before .before .before .before .before .before .before .before .before .before .before .before .before .before .before .before .before .before .before .before .before .before .before .args) .graph .now) ((c .before .before .before .before .before .before .before .before .before .before .before .before .before .before .before .before .before .before .before .before .before .before .before .before .before .before .before .before .before .before .before .before .args) .edges .now) ((c .before .before .before .before .before .before .before .before .before .before .before .before .before .before .before .before .before .before .before .before .before .before .before .before .before .before .before .before .before .before .before .before .args) .names .now)) ((c .before .before .before .before .before .before .before .before .before .before .before .before .before .before .before .before .before .before .before .before .before .before .before .before .class-of) .ensures .0) ((c .before .before .before .before .before .before .before .before .before .before .before .before .before .before .before .before .before .before .edge-at) .ensures .0 ∙ ap (λ (l : ℕ). edgeAt ((c .before .before .before .before .before .before .before .before .before .before .before .before .before .before .before .before .before .before .before .before .before .before .before .before .before .before .before .before .before .before .before .before .args) .graph .now) l ((c .before .before .before .before .before .before .before .before .before .before .before .before .before .before .before .before .before .before .before .before .loop) .rank)) ((c .before .before .before .before .before .before .before .before .before .before .before .before .before .before .before .before .before .before .before .before .before .before .before .location-of) .ensures .0))) ((rw ((c .before .before .before .before .before .before .step) .given .1) at ((c .before .before .before .before .before .before .before .before .before .before .before .before .before .before .step-id) .ensures .interns)) .told))
-          ((c .before .before .before .insert) .ensures .put) ((c .before .before .before .insert) .ensures .short) ((c .next-available2) .ensures);
-      within = (c .next-available2) .ensures .within;
-      here = (c .next-available2) .ensures .here;
-    }
+  kept = (c .before .before .before .before .before .before .before .before .before .before .before .before .before .before .step-id) .ensures .interns .kept;
+  noted = (c .before .before .before .before .before .before .before .before .before .before .before .before .before .before .step-id) .ensures .noted;
+  size = (c .before .before .before .insert) .ensures .size ∙ (c .before .before .before .before .before .before .before .before .before .before .before .before .before .before .before .before .before .before .before .before .loop) .inv .size;
+  part = steps-turn (itemsIn ((c .before .before .before .before .before .before .before .before .before .before .before .before .before .before .before .before .before .before .before .before .before .before .before .before .before .before .before .before .before .before .before .before .args) .names .now)) ((c .before .before .before .before .before .before .before .before .before .before .before .before .before .before .before .before .before .before .before .before .before .before .before .before .before .before .before .before .before .before .before .before .args) .graph .now) ((c .before .before .before .before .before .before .before .before .before .before .before .before .before .before .before .before .before .before .before .before .before .before .before .before .before .before .before .before .before .before .before .before .args) .edges .now) ((c .before .before .before .before .before .before .before .before .before .before .before .before .before .before .before .before .before .before .before .before .before .before .before .before .before .before .before .before .before .before .before .before .args) .names .now) ((c .before .before .before .before .before .before .before .before .before .before .before .before .before .before .before .before .before .before .before .before .before .before .before .before .before .before .before .before .before .before .before .before .args) .x) ((c .before .before .before .before .before .before .before .before .before .before .before .before .before .before .before .before .before .before .before .before .loop) .inv .part) ((c .before .before .before .before .before .before .before .before .before .before .before .before .before .before .before .before .before .before .before .before .before .before .edge-count) .result) ((c .before .before .before .before .before .before .before .before .before .before .before .before .before .before .before .before .before .before .before .before .before .before .edge-count) .ensures .0 ∙ ap (edgeCount ((c .before .before .before .before .before .before .before .before .before .before .before .before .before .before .before .before .before .before .before .before .before .before .before .before .before .before .before .before .before .before .before .before .args) .graph .now)) ((c .before .before .before .before .before .before .before .before .before .before .before .before .before .before .before .before .before .before .before .before .before .before .before .location-of) .ensures .0))
+      ((c .before .before .before .before .before .before .before .before .before .before .before .before .before .before .before .before .before .before .before .loop-test) .taken) ((c .before .before .before .before .before .before .before .before .before .before .before .before .before .before .before .before .before .before .before .before .loop) .inv .here ((c .before .before .before .before .before .before .before .before .before .before .before .before .before .before .before .before .before .before .before .loop-test) .taken)) (entriesOf ((c .before .before .before .before .before .before .before .before .before .before .before .before .before .before .step-id) .last .1 .1 .1 .1 .1 .0) ((c .before .before .before .before .before .before .before .before .before .before .before .before .before .before .step-id) .last .1 .1 .1 .1 .1 .1 .0)) ((c .before .before .before .insert) .last .1 .1 .0) ((c .before .before .before .insert) .result) ((c .before .before .before .before .before .before .step) .given .0 .0) ((c .next-available2) .result)
+      (subst (λ (l : List ℕ). Told l (entriesOf ((c .before .before .before .before .before .before .before .before .before .before .before .before .before .before .before .before .before .before .before .before .loop) .index) ((c .before .before .before .before .before .before .before .before .before .before .before .before .before .before .before .before .before .before .before .before .loop) .numbers)) (entriesOf ((c .before .before .before .before .before .before .before .before .before .before .before .before .before .before .step-id) .last .1 .1 .1 .1 .1 .0) ((c .before .before .before .before .before .before .before .before .before .before .before .before .before .before .step-id) .last .1 .1 .1 .1 .1 .1 .0)) (Id ((c .before .before .before .before .before .before .step) .given .0 .0))) (ap₂ (stepAt ((c .before .before .before .before .before .before .before .before .before .before .before .before .before .before .before .before .before .before .before .before .before .before .before .before .before .before .before .before .before .before .before .before .args) .graph .now) ((c .before .before .before .before .before .before .before .before .before .before .before .before .before .before .before .before .before .before .before .before .before .before .before .before .before .before .before .before .before .before .before .before .args) .edges .now) ((c .before .before .before .before .before .before .before .before .before .before .before .before .before .before .before .before .before .before .before .before .before .before .before .before .before .before .before .before .before .before .before .before .args) .names .now)) ((c .before .before .before .before .before .before .before .before .before .before .before .before .before .before .before .before .before .before .before .before .before .before .before .before .class-of) .ensures .0) ((c .before .before .before .before .before .before .before .before .before .before .before .before .before .before .before .before .before .before .edge-at) .ensures .0 ∙ ap (λ (l : ℕ). edgeAt ((c .before .before .before .before .before .before .before .before .before .before .before .before .before .before .before .before .before .before .before .before .before .before .before .before .before .before .before .before .before .before .before .before .args) .graph .now) l ((c .before .before .before .before .before .before .before .before .before .before .before .before .before .before .before .before .before .before .before .before .loop) .rank)) ((c .before .before .before .before .before .before .before .before .before .before .before .before .before .before .before .before .before .before .before .before .before .before .before .location-of) .ensures .0))) ((rw ((c .before .before .before .before .before .before .step) .given .1) at ((c .before .before .before .before .before .before .before .before .before .before .before .before .before .before .step-id) .ensures .interns)) .told))
+      ((c .before .before .before .insert) .ensures .put) ((c .before .before .before .insert) .ensures .short) ((c .next-available2) .ensures);
+  within = (c .next-available2) .ensures .within;
+  here = (c .next-available2) .ensures .here;
+}
 
 -- src/signature.rt:110:1
 same-length-5 : tie.Need-same-length-5 Inv-loop μ-loop
@@ -159,11 +160,11 @@ same-length-8 c = (c .before .loop) .inv .size
 returns-2 : tie.Need-returns-2 Inv-loop μ-loop
 unfolding stepsFrom
 returns-2 c = record {
-      kept = (c .before .loop) .inv .kept;
-      noted = (c .before .loop) .inv .noted;
-      size = (c .before .loop) .inv .size;
-      answered = steps-end (itemsIn ((c .before .before .before .before .before .before .before .before .before .before .before .before .before .args) .names .now)) ((c .before .before .before .before .before .before .before .before .before .before .before .before .before .args) .graph .now) ((c .before .before .before .before .before .before .before .before .before .before .before .before .before .args) .edges .now) ((c .before .before .before .before .before .before .before .before .before .before .before .before .before .args) .names .now) ((c .before .before .before .before .before .before .before .before .before .before .before .before .before .args) .x) ((c .before .loop) .inv .part) ((c .before .before .before .edge-count) .result) ((c .before .before .before .edge-count) .ensures .0 ∙ ap (edgeCount ((c .before .before .before .before .before .before .before .before .before .before .before .before .before .args) .graph .now)) ((c .before .before .before .before .location-of) .ensures .0)) ((c .loop-test) .left) ((c .before .loop) .inv .within);
-    }
+  kept = (c .before .loop) .inv .kept;
+  noted = (c .before .loop) .inv .noted;
+  size = (c .before .loop) .inv .size;
+  answered = steps-end (itemsIn ((c .before .before .before .before .before .before .before .before .before .before .before .before .before .args) .names .now)) ((c .before .before .before .before .before .before .before .before .before .before .before .before .before .args) .graph .now) ((c .before .before .before .before .before .before .before .before .before .before .before .before .before .args) .edges .now) ((c .before .before .before .before .before .before .before .before .before .before .before .before .before .args) .names .now) ((c .before .before .before .before .before .before .before .before .before .before .before .before .before .args) .x) ((c .before .loop) .inv .part) ((c .before .before .before .edge-count) .result) ((c .before .before .before .edge-count) .ensures .0 ∙ ap (edgeCount ((c .before .before .before .before .before .before .before .before .before .before .before .before .before .args) .graph .now)) ((c .before .before .before .before .location-of) .ensures .0)) ((c .loop-test) .left) ((c .before .loop) .inv .within);
+}
 
 pub list-steps-spec : {M : Type 1} → statement M
 list-steps-spec =
