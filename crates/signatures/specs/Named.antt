@@ -174,7 +174,10 @@ pub record Passed (graph edges names items items′ : List ℕ) : Type 0 where
   pub different : Different held
   pub all : Passing graph edges names items items′ held (length items)
 
--- The sizes that a pass asks of the memory that it works in, and of the names.
-abbrev pub Roomy : (names index numbers memo : List ℕ) → Type 0
-Roomy names index numbers memo =
-    (length names ≤ 8192) × (length index ≡ indexSize) × (length numbers ≡ room) × (length memo ≡ memoSize)
+-- The sizes that a pass asks of the memory that it works in, of the names and of the items.
+pub record Roomy (names index numbers memo items : List ℕ) : Type 0 where
+  pub names-few : length names ≤ 8192
+  pub items-few : length items ≤ 4096
+  pub indexed : length index ≡ indexSize
+  pub numbered : length numbers ≡ room
+  pub memoed : length memo ≡ memoSize

@@ -5,3 +5,8 @@ mod sets;
 mod shares;
 mod signature;
 mod steps;
+
+pub use signature::INDEX;
+pub use signature::MEMO;
+pub use signature::NUMBERS;
+pub use signature::sign;

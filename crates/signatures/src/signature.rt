@@ -5,7 +5,7 @@ ghost use mathlib.Core.Bool.{Bool, true, false};
 ghost use mathlib.Core.List.{List, [], _∷_, _++_};
 ghost use lib.ListN.{length, getD, take};
 ghost use Rattle.graph.specs.Readers.{isAvailable};
-ghost use Rattle.signatures.specs.Dictionary.{Dictionary, Interns, Empty, entriesOf};
+ghost use Rattle.signatures.specs.Dictionary.{Dictionary, Interns, Empty, Tells, entriesOf};
 ghost use Rattle.signatures.specs.Memo.{Noted};
 ghost use Rattle.signatures.specs.Raw.{rawStep};
 ghost use Rattle.signatures.specs.Named.{itemsIn, reachedFrom, Partial, Stepped, Gathering, Finishes, Signs, Passed, Roomy, numberOf, Signed, stepsFrom};
@@ -24,6 +24,13 @@ use crate::steps::name_at;
 const WHOLE: usize = 130;
 
 const NO_ID: u16 = 65535;
+
+// The sizes of the work memory of a pass.
+pub const INDEX: usize = 24578;
+
+pub const NUMBERS: usize = 36864;
+
+pub const MEMO: usize = 45056;
 
 // The steps of an item: how many ids their set has, or that one of them found no room.
 pub(crate) enum Gathered {
@@ -247,4 +254,52 @@ fn sign_all(
         items[k] = id_number(id);
         k = k + 1;
     }
+}
+
+// Has the memory the sizes that a pass asks?
+fn is_roomy(names: &[u16], index: &[u16], numbers: &[u32], memo: &[u16], items: &[u16]) -> bool
+    ensures { λ r. ⌜ Tells r (Roomy (now (names .entry)) (now (index .entry)) (now (numbers .entry)) (now (memo .entry)) (now (items .entry))) ⌝ }
+{
+    if 8192 < names.len() {
+        return false;
+    }
+    if 4096 < items.len() {
+        return false;
+    }
+    if index.len() != INDEX {
+        return false;
+    }
+    if numbers.len() != NUMBERS {
+        return false;
+    }
+    memo.len() == MEMO
+}
+
+// Gives each item of a list the id of its signature over names: equal ids exactly for items that the next round relates. An item whose lists
+// find no room in the dictionary gets 65,535, and is related to none that has an id; the first item always gets one.
+//
+// names has two halves: the names of the items, and for each item where to go on along its delays. index, numbers and memo are work memory of
+// INDEX, NUMBERS and MEMO numbers: what stood there does not matter, and what stands there afterwards is unspecified. Where they have other
+// sizes, there are more than 4,096 items in the list or more than 8,192 numbers in names, nothing is done and the answer is false.
+pub fn sign(
+    graph: &[u16],
+    edges: &[u32],
+    names: &[u16],
+    index: &mut [u16],
+    numbers: &mut [u32],
+    memo: &mut [u16],
+    items: &mut [u16],
+) -> bool
+    ensures { λ r. ⌜ Tells r (Roomy (now (names .entry)) (now (index .entry)) (now (numbers .entry)) (now (memo .entry)) (now (items .entry))) ⌝ }
+    ensures { λ r. ⌜ (r ≡ true → Passed (now (graph .entry)) (now (edges .entry)) (now (names .entry)) (now (items .entry)) (now (items .exit)))
+        × (r ≡ false → now (items .exit) ≡ now (items .entry)) ⌝ }
+{
+    if !is_roomy(names, index, numbers, memo, items) {
+        return false;
+    }
+    clear(numbers, index);
+    clear_memo(memo);
+    let mut list = [0u32; 4226];
+    sign_all(graph, edges, names, index, numbers, memo, &mut list, items);
+    true
 }

@@ -109,8 +109,8 @@ pub signs-small : {graph edges names : List ℕ} {x : ℕ} {index numbers list i
     → Signs graph edges names x index numbers list index′ numbers′ memo′ list′ answer → (id : ℕ) → answer ≡ Id id → id < 8192
 signs-small {graph} {edges} {names} {x} {index} {numbers} {list} {index′} {numbers′} s id e =
     let named : Named (entriesOf index′ numbers′) (nameOf names x) (reachedFrom names x) (stepsFrom graph edges names x) id =
-        subst (λ (a : Interned). Signed (entriesOf index numbers) (entriesOf index′ numbers′) (nameOf names x) (reachedFrom names x)
-        (stepsFrom graph edges names x) a) e (s .signed) in
+    subst (λ (a : Interned). Signed (entriesOf index numbers) (entriesOf index′ numbers′) (nameOf names x) (reachedFrom names x)
+    (stepsFrom graph edges names x) a) e (s .signed) in
     omega (arith, named .whole .0, count-is (s .kept), s .kept .few)
 
 pub passed : (graph edges names items list index numbers memo list′ items′ : List ℕ) (k : ℕ)

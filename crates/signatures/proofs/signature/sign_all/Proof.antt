@@ -24,13 +24,13 @@ abbrev μ-loop : tie.MeasureT-loop
 -- src/signature.rt:244:5
 loop-holds : tie.Need-loop-holds Inv-loop μ-loop
 loop-holds c = record {
-      kept = (c .before .before .before .before .before .before .before .before .pre) .0 .kept;
-      noted = (c .before .before .before .before .before .before .before .before .pre) .1 .0;
-      size = refl;
-      passing = passing-none ((c .before .before .before .before .before .before .before .before .args) .graph .now) ((c .before .before .before .before .before .before .before .before .args) .edges .now) ((c .before .before .before .before .before .before .before .before .args) .names .now) ((c .before .before .before .before .before .before .before .before .args) .items .now) (entriesOf ((c .before .before .before .before .before .before .before .before .args) .index .now) ((c .before .before .before .before .before .before .before .before .args) .numbers .now));
-      empty = λ e. (c .before .before .before .before .before .before .before .before .pre) .0 .none;
-      within = omega arith;
-    }
+  kept = (c .before .before .before .before .before .before .before .before .pre) .0 .kept;
+  noted = (c .before .before .before .before .before .before .before .before .pre) .1 .0;
+  size = refl;
+  passing = passing-none ((c .before .before .before .before .before .before .before .before .args) .graph .now) ((c .before .before .before .before .before .before .before .before .args) .edges .now) ((c .before .before .before .before .before .before .before .before .args) .names .now) ((c .before .before .before .before .before .before .before .before .args) .items .now) (entriesOf ((c .before .before .before .before .before .before .before .before .args) .index .now) ((c .before .before .before .before .before .before .before .before .args) .numbers .now));
+  empty = λ e. (c .before .before .before .before .before .before .before .before .pre) .0 .none;
+  within = omega arith;
+}
 
 -- src/signature.rt:245:13
 name-at-requires : tie.Need-name-at-requires Inv-loop μ-loop
@@ -63,16 +63,16 @@ loop-less c = omega (arith, length-set ((c .before .before .before .before .befo
 -- src/signature.rt:244:5
 loop-again : tie.Need-loop-again Inv-loop μ-loop
 loop-again c = record {
-      kept = (c .before .before .before .before .before .before .before .before .before .signature) .ensures .kept;
-      noted = (c .before .before .before .before .before .before .before .before .before .signature) .ensures .noted;
-      size = (c .before .before .before .before .before .before .before .before .before .signature) .ensures .size ∙ (c .before .before .before .before .before .before .before .before .before .before .before .before .before .before .before .before .before .loop) .inv .size;
-      passing = passing-on ((c .before .before .before .before .before .before .before .before .before .before .before .before .before .before .before .before .before .before .before .before .before .before .before .before .before .before .args) .graph .now) ((c .before .before .before .before .before .before .before .before .before .before .before .before .before .before .before .before .before .before .before .before .before .before .before .before .before .before .args) .edges .now) ((c .before .before .before .before .before .before .before .before .before .before .before .before .before .before .before .before .before .before .before .before .before .before .before .before .before .before .args) .names .now) ((c .before .before .before .before .before .before .before .before .before .before .before .before .before .before .before .before .before .before .before .before .before .before .before .before .before .before .args) .items .now) ((c .before .before .before .before .before .before .before .before .before .before .before .before .before .before .before .before .before .loop) .items) (entriesOf ((c .before .before .before .before .before .before .before .before .before .before .before .before .before .before .before .before .before .loop) .index) ((c .before .before .before .before .before .before .before .before .before .before .before .before .before .before .before .before .before .loop) .numbers)) (entriesOf ((c .before .before .before .before .before .before .before .before .before .signature) .last .1 .1 .1 .1 .0) ((c .before .before .before .before .before .before .before .before .before .signature) .last .1 .1 .1 .1 .1 .0)) ((c .before .before .before .before .before .before .before .before .before .before .before .before .before .before .before .before .before .loop) .k)
-          ((c .before .before .before .before .before .before .before .before .before .before .before .before .before .before .before .before .before .loop) .inv .passing) (omega (arith, (c .before .before .before .before .before .before .before .before .before .before .before .before .before .before .before .before .loop-test) .taken, (c .before .before .before .before .before .before .before .before .before .before .before .before .before .before .before .before .before .loop) .inv .passing .size)) ((c .before .before .before .before .before .before .before .before .before .signature) .ensures .grows) ((c .before .before .before .before .before .before .before .before .before .before .before .before .before .before .before .before .before .loop) .inv .empty)
-          ((c .before .before .before .before .before .before .before .before .before .signature) .result) ((c .id-number) .result) ((c .before .before .before .before .before .before .before .before .before .before .before .before .before .before .name-at) .result) (signs-small ((c .before .before .before .before .before .before .before .before .before .signature) .ensures)) ((c .id-number) .ensures) ((c .before .before .before .before .before .before .before .before .before .before .before .before .before .before .name-at) .ensures .0)
-          ((c .before .before .before .before .before .before .before .before .before .signature) .ensures .signed);
-      empty = λ e. absurd (omega (arith, e));
-      within = omega (arith, (c .before .before .before .before .before .before .before .before .before .before .before .before .before .before .before .before .loop-test) .taken, (c .before .before .before .before .before .before .before .before .before .before .before .before .before .before .before .before .before .loop) .inv .passing .size);
-    }
+  kept = (c .before .before .before .before .before .before .before .before .before .signature) .ensures .kept;
+  noted = (c .before .before .before .before .before .before .before .before .before .signature) .ensures .noted;
+  size = (c .before .before .before .before .before .before .before .before .before .signature) .ensures .size ∙ (c .before .before .before .before .before .before .before .before .before .before .before .before .before .before .before .before .before .loop) .inv .size;
+  passing = passing-on ((c .before .before .before .before .before .before .before .before .before .before .before .before .before .before .before .before .before .before .before .before .before .before .before .before .before .before .args) .graph .now) ((c .before .before .before .before .before .before .before .before .before .before .before .before .before .before .before .before .before .before .before .before .before .before .before .before .before .before .args) .edges .now) ((c .before .before .before .before .before .before .before .before .before .before .before .before .before .before .before .before .before .before .before .before .before .before .before .before .before .before .args) .names .now) ((c .before .before .before .before .before .before .before .before .before .before .before .before .before .before .before .before .before .before .before .before .before .before .before .before .before .before .args) .items .now) ((c .before .before .before .before .before .before .before .before .before .before .before .before .before .before .before .before .before .loop) .items) (entriesOf ((c .before .before .before .before .before .before .before .before .before .before .before .before .before .before .before .before .before .loop) .index) ((c .before .before .before .before .before .before .before .before .before .before .before .before .before .before .before .before .before .loop) .numbers)) (entriesOf ((c .before .before .before .before .before .before .before .before .before .signature) .last .1 .1 .1 .1 .0) ((c .before .before .before .before .before .before .before .before .before .signature) .last .1 .1 .1 .1 .1 .0)) ((c .before .before .before .before .before .before .before .before .before .before .before .before .before .before .before .before .before .loop) .k)
+      ((c .before .before .before .before .before .before .before .before .before .before .before .before .before .before .before .before .before .loop) .inv .passing) (omega (arith, (c .before .before .before .before .before .before .before .before .before .before .before .before .before .before .before .before .loop-test) .taken, (c .before .before .before .before .before .before .before .before .before .before .before .before .before .before .before .before .before .loop) .inv .passing .size)) ((c .before .before .before .before .before .before .before .before .before .signature) .ensures .grows) ((c .before .before .before .before .before .before .before .before .before .before .before .before .before .before .before .before .before .loop) .inv .empty)
+      ((c .before .before .before .before .before .before .before .before .before .signature) .result) ((c .id-number) .result) ((c .before .before .before .before .before .before .before .before .before .before .before .before .before .before .name-at) .result) (signs-small ((c .before .before .before .before .before .before .before .before .before .signature) .ensures)) ((c .id-number) .ensures) ((c .before .before .before .before .before .before .before .before .before .before .before .before .before .before .name-at) .ensures .0)
+      ((c .before .before .before .before .before .before .before .before .before .signature) .ensures .signed);
+  empty = λ e. absurd (omega (arith, e));
+  within = omega (arith, (c .before .before .before .before .before .before .before .before .before .before .before .before .before .before .before .before .loop-test) .taken, (c .before .before .before .before .before .before .before .before .before .before .before .before .before .before .before .before .before .loop) .inv .passing .size);
+}
 
 -- src/signature.rt:226:1
 same-length : tie.Need-same-length Inv-loop μ-loop
@@ -96,9 +96,15 @@ same-length-5 c = (c .before .loop) .inv .passing .size
 
 -- src/signature.rt:226:1
 returns : tie.Need-returns Inv-loop μ-loop
-returns c = (passed ((c .before .before .before .before .before .before .before .before .before .before .args) .graph .now) ((c .before .before .before .before .before .before .before .before .before .before .args) .edges .now) ((c .before .before .before .before .before .before .before .before .before .before .args) .names .now) ((c .before .before .before .before .before .before .before .before .before .before .args) .items .now) ((c .before .before .before .before .before .before .before .before .before .before .args) .list .now) ((c .before .loop) .index) ((c .before .loop) .numbers) ((c .before .loop) .memo) ((c .before .loop) .list) ((c .before .loop) .items) ((c .before .loop) .k) ((c .before .loop) .inv) ((c .loop-test) .left),
-    ((c .before .loop) .inv .kept .indexed ∙ sym ((c .before .before .before .before .before .before .before .before .before .before .pre) .0 .kept .indexed), (c .before .loop) .inv .kept .roomy ∙ sym ((c .before .before .before .before .before .before .before .before .before .before .pre) .0 .kept .roomy),
-    (c .before .loop) .inv .noted .size ∙ sym ((c .before .before .before .before .before .before .before .before .before .before .pre) .1 .0 .size), (c .before .loop) .inv .size))
+returns c = (
+  passed ((c .before .before .before .before .before .before .before .before .before .before .args) .graph .now) ((c .before .before .before .before .before .before .before .before .before .before .args) .edges .now) ((c .before .before .before .before .before .before .before .before .before .before .args) .names .now) ((c .before .before .before .before .before .before .before .before .before .before .args) .items .now) ((c .before .before .before .before .before .before .before .before .before .before .args) .list .now) ((c .before .loop) .index) ((c .before .loop) .numbers) ((c .before .loop) .memo) ((c .before .loop) .list) ((c .before .loop) .items) ((c .before .loop) .k) ((c .before .loop) .inv) ((c .loop-test) .left),
+  (
+    (c .before .loop) .inv .kept .indexed ∙ sym ((c .before .before .before .before .before .before .before .before .before .before .pre) .0 .kept .indexed),
+    (c .before .loop) .inv .kept .roomy ∙ sym ((c .before .before .before .before .before .before .before .before .before .before .pre) .0 .kept .roomy),
+    (c .before .loop) .inv .noted .size ∙ sym ((c .before .before .before .before .before .before .before .before .before .before .pre) .1 .0 .size),
+    (c .before .loop) .inv .size,
+  ),
+)
 
 pub sign-all-spec : {M : Type 1} → statement M
 sign-all-spec =
