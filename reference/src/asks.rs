@@ -191,7 +191,7 @@ fn near_the_limit(rng: &mut Rng) -> Model {
 }
 
 /// A model of any kind that fits.
-fn sized(rng: &mut Rng, fits: impl Fn(&Model) -> bool) -> Model {
+pub(crate) fn sized(rng: &mut Rng, fits: impl Fn(&Model) -> bool) -> Model {
     loop {
         let model = model_of_some_kind(rng);
         if fits(&model) {
@@ -201,7 +201,7 @@ fn sized(rng: &mut Rng, fits: impl Fn(&Model) -> bool) -> Model {
 }
 
 /// N if it is at most so many and region 0 is one.
-fn regions_up_to(model: &Model, most: usize) -> Option<usize> {
+pub(crate) fn regions_up_to(model: &Model, most: usize) -> Option<usize> {
     match explore::explore(model, most) {
         Exploration::Whole(net) => Some(net.count()),
         Exploration::Cut(_) | Exploration::NoStart => None,

@@ -3,6 +3,7 @@
 //   reference vectors DIR                         holds the calls to the test vectors in DIR
 //   reference cases DIR IN OUT [CALLS [TABLES]]   writes the stored cases and the answers they expect, up to a
 //                                                 call; the tables in TABLES join those of the listing
+//   reference graphs IN OUT SEED                  writes graphs under names and what the next round relates in them
 //   reference read FILE                           reads one table and prints the answer
 //   reference list FILE [ENTRIES]                 prints the listing of one table
 //   reference mix SEED COUNT                      says what the first asks of a seed meet
@@ -10,12 +11,12 @@
 //
 // For FILE "-" stands for standard input.
 
-use crate::{answer, cases, listing, mix, region, speed, table, vector_check};
+use crate::{answer, cases, graphs, listing, mix, region, speed, table, vector_check};
 use std::fs;
 use std::io::{self, Read, Write};
 
-const USAGE: &str = "usage: reference vectors DIR | cases DIR IN OUT [CALLS [TABLES]] | read FILE | \
-                     list FILE [ENTRIES] | mix SEED COUNT | speed [TABLES]";
+const USAGE: &str = "usage: reference vectors DIR | cases DIR IN OUT [CALLS [TABLES]] | \
+                     graphs IN OUT SEED | read FILE | list FILE [ENTRIES] | mix SEED COUNT | speed [TABLES]";
 
 /// Carries out a command: whether all agreed, or what stood in the way.
 pub fn run(arguments: &[&str]) -> Result<bool, String> {
@@ -25,6 +26,9 @@ pub fn run(arguments: &[&str]) -> Result<bool, String> {
         ["cases", folder, input, output, calls] => write_cases(folder, input, output, calls, None),
         ["cases", folder, input, output, calls, tables] => {
             write_cases(folder, input, output, calls, Some(tables))
+        }
+        ["graphs", input, output, seed] => {
+            number(seed, "SEED").and_then(|seed| graphs::write(input, output, seed)).map(|()| true)
         }
         ["read", file] => read(file).map(|()| true),
         ["list", file] => list(file, listing::ENTRIES_OF_PROGRAM).map(|()| true),

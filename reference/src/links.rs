@@ -7,13 +7,14 @@ use crate::table::Model;
 use std::collections::HashMap;
 
 /// One branch of an available edge: its weight and the region in which it lands.
-#[derive(Clone, Copy)]
+#[derive(Clone, Copy, PartialEq, Eq, Debug)]
 pub struct Landing {
     pub weight: u64,
     pub target: usize,
 }
 
 /// An available edge of a region.
+#[derive(PartialEq, Eq, Debug)]
 pub struct Step {
     pub action: u8,
     pub denominator: u64,

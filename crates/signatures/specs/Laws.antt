@@ -13,6 +13,7 @@
 --   Delays      names gathered along delays
 --   Available   available edges, one after the other
 --   Passes      a pass over items
+--   Tells       what the ids of a pass tell of the next round
 --   Signatures  equal exactly for items that are related in the next round
 pub mod Order
 pub mod Sets
@@ -29,3 +30,4 @@ pub mod Named
 pub mod Delays
 pub mod Available
 pub mod Passes
+pub mod Tells

@@ -40,8 +40,10 @@ same-length-4 c = search needs
 
 -- src/signature.rt:298:9
 returns : tie.Need-returns
-returns c = (record { holds = λ e. absurd (false≢true e); fails = λ e roomy. (c .before .is-roomy) .ensures .fails (not-true _ ((c .if1) .taken)) roomy },
-    (λ e. absurd (false≢true e), λ e. refl))
+returns c = (
+  record { holds = λ e. absurd (false≢true e); fails = λ e roomy. (c .before .is-roomy) .ensures .fails (not-true _ ((c .if1) .taken)) roomy },
+  (λ e. absurd (false≢true e), λ e. refl),
+)
 
 -- src/signature.rt:300:5
 clear-requires : tie.Need-clear-requires
@@ -58,9 +60,13 @@ slice-aggregate-sign-all c = search needs
 -- src/signature.rt:303:5
 sign-all-requires : tie.Need-sign-all-requires
 unfolding itemsIn
-sign-all-requires c κs = let roomy = (c .before .before .before .before .before .before .before .before .before .before .before .before .before .before .before .is-roomy) .ensures .holds (not-false _ ((c .before .before .before .before .before .before .before .before .before .before .before .before .before .before .if1) .left)) in
-    ((c .before .before .before .before .before .before .before .before .before .before .before .clear) .ensures, (noted-none (rawStep ((c .before .before .before .before .before .before .before .before .before .before .before .before .before .before .before .before .before .before .before .before .before .before .before .before .before .before .before .args) .edges .now)) (entriesOf ((c .before .before .before .before .before .before .before .before .before .before .before .clear) .last .1 .0) ((c .before .before .before .before .before .before .before .before .before .before .before .before .before .before .before .before .before .before .before .before .before .before .before .before .before .before .before .args) .numbers .now)) ((c .before .before .before .before .before .before .before .clear-memo) .last .0) ((c .before .before .before .before .before .before .before .clear-memo) .ensures .0) ((c .before .before .before .before .before .before .before .clear-memo) .ensures .1),
-    (omega (arith, roomy .names-few), omega (arith, length-replicate {A = ℕ} 4226 0), roomy .items-few)))
+sign-all-requires c κs = let roomy = (c .before .before .before .before .before .before .before .before .before .before .before .before .before .before .before .is-roomy) .ensures .holds (not-false _ ((c .before .before .before .before .before .before .before .before .before .before .before .before .before .before .if1) .left)) in (
+  (c .before .before .before .before .before .before .before .before .before .before .before .clear) .ensures,
+  (
+    noted-none (rawStep ((c .before .before .before .before .before .before .before .before .before .before .before .before .before .before .before .before .before .before .before .before .before .before .before .before .before .before .before .args) .edges .now)) (entriesOf ((c .before .before .before .before .before .before .before .before .before .before .before .clear) .last .1 .0) ((c .before .before .before .before .before .before .before .before .before .before .before .before .before .before .before .before .before .before .before .before .before .before .before .before .before .before .before .args) .numbers .now)) ((c .before .before .before .before .before .before .before .clear-memo) .last .0) ((c .before .before .before .before .before .before .before .clear-memo) .ensures .0) ((c .before .before .before .before .before .before .before .clear-memo) .ensures .1),
+    (omega (arith, roomy .names-few), omega (arith, length-replicate {A = ℕ} 4226 0), roomy .items-few),
+  ),
+)
 
 -- src/signature.rt:284:1
 same-length-5 : tie.Need-same-length-5

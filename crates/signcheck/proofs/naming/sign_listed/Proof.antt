@@ -1,0 +1,56 @@
+use Prim.Native.Nat.{ℕ, _+_, _-_, _*_, _≤_, _<_}
+use mathlib.Core.Path.{_≡_, refl, sym, _∙_}
+use native.Mathlib.Omega.{arith}
+use lib.ListN.{length, length-replicate}
+use lib.Seq.{length-take-le}
+use borrow.Author.Needs.{needs}
+use Rattle.signcheck.proofs.naming.sign_listed.Statement.{statement}
+use Rattle.signcheck.proofs.naming.sign_listed.Tie as tie
+use Rattle.signcheck.proofs.naming.sign_listed.Reads as reads
+use Rattle.signcheck.proofs.naming.sign_listed.Lts as lts
+use Rattle.signatures.proofs.sign.Reads as sign-reads
+
+-- src/naming.rt:99:17
+slice-relend-prefix-items : tie.Need-slice-relend-prefix-items
+slice-relend-prefix-items c = search needs
+
+-- src/naming.rt:99:9
+slice-aggregate-items : tie.Need-slice-aggregate-items
+slice-aggregate-items c = sym (length-take-le ((c .before .before .before .before .before .args) .count) ((c .before .before .before .before .before .args) .ids .now) (c .before .before .before .before .before .pre))
+
+-- src/naming.rt:104:9
+slice-aggregate-sign : tie.Need-slice-aggregate-sign
+slice-aggregate-sign c = search needs
+
+-- src/naming.rt:105:9
+slice-aggregate-sign-2 : tie.Need-slice-aggregate-sign-2
+slice-aggregate-sign-2 c = search needs
+
+-- src/naming.rt:106:9
+slice-aggregate-sign-3 : tie.Need-slice-aggregate-sign-3
+slice-aggregate-sign-3 c = search needs
+
+-- src/naming.rt:100:5
+sign-requires : tie.Need-sign-requires
+sign-requires c κs = search needs
+
+-- src/naming.rt:93:1
+same-length : tie.Need-same-length
+same-length c = search needs
+
+-- src/naming.rt:93:1
+returns : tie.Need-returns
+returns c = search needs
+
+pub sign-listed-spec : {M : Type 1} → statement M
+sign-listed-spec =
+    tie.close
+    (tie.spec
+    slice-relend-prefix-items
+    slice-aggregate-items
+    slice-aggregate-sign
+    slice-aggregate-sign-2
+    slice-aggregate-sign-3
+    sign-requires
+    same-length
+    returns)
