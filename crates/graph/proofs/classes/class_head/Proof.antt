@@ -1,3 +1,4 @@
+-- `class_head` meets its contract. Assumes nothing.
 use Rattle.graph.specs.Readers.{classHead}
 use Rattle.graph.specs.Columns.{load}
 use borrow.Author.Needs.{needs}

@@ -1,3 +1,4 @@
+-- `class_link` meets its contract. Assumes nothing.
 use Rattle.graph.specs.Readers.{classLink}
 use Rattle.graph.specs.Columns.{load}
 use borrow.Author.Needs.{needs}

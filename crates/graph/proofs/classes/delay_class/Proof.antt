@@ -1,3 +1,4 @@
+-- `delay_class` meets its contract. Assumes nothing.
 use Rattle.graph.specs.Readers.{delayClass}
 use Rattle.graph.specs.Columns.{load}
 use borrow.Author.Needs.{needs}

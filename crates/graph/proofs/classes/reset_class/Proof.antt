@@ -1,3 +1,4 @@
+-- `reset_class` meets its contract. Assumes nothing.
 use Rattle.graph.specs.Readers.{resetClass}
 use Rattle.graph.specs.Columns.{load}
 use borrow.Author.Needs.{needs}

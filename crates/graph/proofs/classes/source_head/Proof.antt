@@ -1,3 +1,4 @@
+-- `source_head` meets its contract. Assumes nothing.
 use Rattle.graph.specs.Readers.{sourceHead}
 use Rattle.graph.specs.Columns.{load}
 use borrow.Author.Needs.{needs}

@@ -1,3 +1,4 @@
+-- `source_link` meets its contract. Assumes nothing.
 use Rattle.graph.specs.Readers.{sourceLink}
 use Rattle.graph.specs.Columns.{load}
 use borrow.Author.Needs.{needs}

@@ -1,3 +1,4 @@
+-- `store_class` meets its contract. Assumes nothing.
 use Prim.Native.Nat.{ℕ, _+_, _*_, _/_, _%_, _^_}
 use mathlib.Core.Path.{_≡_, sym, _∙_, ap}
 use lib.ListN.{set}
@@ -39,8 +40,13 @@ same-length c = search needs
 -- src/classes.rt:74:1
 returns : tie.Need-returns
 unfolding withClass store
-returns c = (c .before .before .store2) .ensures ∙ ap (λ (g : List ℕ). set g (2498 + (c .before .before .before .before .before .before .before .before .before .before .before .args) .bucket % 4096) ((c .before .before .before .before .before .before .before .before .before .before .before .args) .class % 65536))
-    ((c .before .before .before .before .before .before .store) .ensures ∙ ap (λ (h : ℕ). set ((c .before .before .before .before .before .before .before .before .before .before .before .args) .graph .now) (6594 + (c .before .before .before .before .before .before .before .before .before .before .before .args) .class % 4096) (h % 65536)) ((c .before .before .before .before .before .before .before .before .class-head) .ensures .0))
+returns c =
+    let store2 = c .before .before .store2 in
+    let args = c .before .before .before .before .before .before .before .before .before .before .before .args in
+    let store′ = c .before .before .before .before .before .before .store in
+    let class-head = c .before .before .before .before .before .before .before .before .class-head in
+    store2.ensures ∙ ap (λ (g : List ℕ). set g (2498 + args.bucket % 4096) (args.class % 65536))
+    (store′.ensures ∙ ap (λ (h : ℕ). set args.graph.now (6594 + args.class % 4096) (h % 65536)) class-head.ensures.0)
 
 pub store-class-spec : {M : Type 1} → statement M
 store-class-spec =

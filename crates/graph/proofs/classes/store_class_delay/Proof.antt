@@ -1,3 +1,4 @@
+-- `store_class_delay` meets its contract. Assumes nothing.
 use Rattle.graph.specs.Writers.{withClassDelay}
 use Rattle.graph.specs.Columns.{store}
 use borrow.Author.Needs.{needs}

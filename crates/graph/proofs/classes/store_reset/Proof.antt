@@ -1,3 +1,4 @@
+-- `store_reset` meets its contract. Assumes nothing.
 use Prim.Native.Nat.{ℕ, _+_, _*_, _/_, _%_, _^_}
 use mathlib.Core.Path.{_≡_, sym, _∙_, ap}
 use lib.ListN.{set}
@@ -25,7 +26,9 @@ same-length c = search needs
 
 -- src/classes.rt:104:9
 returns : tie.Need-returns
-returns c = sym (reset-known ((c .before .before .before .before .args) .graph .now) ((c .before .before .before .before .args) .class) ((c .before .before .before .before .args) .mask) ((c .before .before .before .before .args) .after) (λ e. (c .if1) .taken ((c .before .reset-class) .ensures .0 ∙ e)))
+returns c =
+    let args = c .before .before .before .before .args in
+    sym (reset-known args.graph.now args.class args.mask args.after (λ e. (c .if1) .taken ((c .before .reset-class) .ensures .0 ∙ e)))
 
 -- src/classes.rt:106:21
 mul-store : tie.Need-mul-store
@@ -50,7 +53,13 @@ same-length-2 c = search needs
 -- src/classes.rt:108:9
 returns-2 : tie.Need-returns-2
 unfolding store
-returns-2 c = (c .before .before .before .store) .ensures ∙ sym (reset-plain ((c .before .before .before .before .before .before .before .before .before .args) .graph .now) ((c .before .before .before .before .before .before .before .before .before .args) .class) ((c .before .before .before .before .before .before .before .before .before .args) .mask) ((c .before .before .before .before .before .before .before .before .before .args) .after) (sym ((c .before .before .before .before .before .before .reset-class) .ensures .0) ∙ (c .before .before .before .before .before .if1) .left) ((c .if2) .taken))
+returns-2 c =
+    let store′ = c .before .before .before .store in
+    let args = c .before .before .before .before .before .before .before .before .before .args in
+    let reset-class = c .before .before .before .before .before .before .reset-class in
+    let if1 = c .before .before .before .before .before .if1 in
+    store′.ensures ∙ sym (reset-plain args.graph.now args.class args.mask args.after (sym reset-class.ensures.0 ∙ if1.left)
+    ((c .if2) .taken))
 
 -- src/classes.rt:110:5
 store-source-requires : tie.Need-store-source-requires
@@ -63,8 +72,15 @@ same-length-3 c = search needs
 -- src/classes.rt:100:1
 returns-3 : tie.Need-returns-3
 unfolding store
-returns-3 c = (c .before .before .store-source) .ensures ∙ ap (λ (g : List ℕ). withSource g ((c .before .before .before .before .before .before .before .before .before .before .before .before .before .args) .class) ((c .before .before .before .before .before .before .before .before .before .before .before .before .before .args) .mask % 16) ((c .before .before .before .before .before .before .before .before .before .before .before .before .before .args) .after)) ((c .before .before .before .before .before .before .before .store) .ensures)
-    ∙ sym (reset-both ((c .before .before .before .before .before .before .before .before .before .before .before .before .before .args) .graph .now) ((c .before .before .before .before .before .before .before .before .before .before .before .before .before .args) .class) ((c .before .before .before .before .before .before .before .before .before .before .before .before .before .args) .mask) ((c .before .before .before .before .before .before .before .before .before .before .before .before .before .args) .after) (sym ((c .before .before .before .before .before .before .before .before .before .before .reset-class) .ensures .0) ∙ (c .before .before .before .before .before .before .before .before .before .if1) .left) ((c .before .before .before .before .if2) .left))
+returns-3 c =
+    let store-source = c .before .before .store-source in
+    let args = c .before .before .before .before .before .before .before .before .before .before .before .before .before .args in
+    let store′ = c .before .before .before .before .before .before .before .store in
+    let reset-class = c .before .before .before .before .before .before .before .before .before .before .reset-class in
+    let if1 = c .before .before .before .before .before .before .before .before .before .if1 in
+    let if2 = c .before .before .before .before .if2 in
+    store-source.ensures ∙ ap (λ (g : List ℕ). withSource g args.class (args.mask % 16) args.after) store′.ensures
+    ∙ sym (reset-both args.graph.now args.class args.mask args.after (sym reset-class.ensures.0 ∙ if1.left) if2.left)
 
 pub store-reset-spec : {M : Type 1} → statement M
 store-reset-spec =

@@ -1,3 +1,4 @@
+-- `store_source` meets its contract. Assumes nothing.
 use Prim.Native.Nat.{ℕ, _+_, _*_, _/_, _%_, _^_}
 use mathlib.Core.Path.{_≡_, sym, _∙_, ap}
 use lib.ListN.{set}
@@ -45,10 +46,16 @@ same-length c = search needs
 -- src/classes.rt:90:1
 returns : tie.Need-returns
 unfolding withSource store
-returns c = (c .before .before .store2) .ensures ∙ ap (λ (g : List ℕ). set g (144834 + (c .before .before .before .before .before .before .before .before .before .before .before .before .args) .after % 4096) ((c .before .before .before .before .before .before .before .before .before .before .reset-number) .result % 65536))
-    ((c .before .before .before .before .before .before .store) .ensures ∙ ap (λ (h : ℕ). set ((c .before .before .before .before .before .before .before .before .before .before .before .before .args) .graph .now) (148930 + (c .before .before .before .before .before .before .before .before .before .before .reset-number) .result) (h % 65536)) ((c .before .before .before .before .before .before .before .before .source-head) .ensures .0))
-    ∙ ap (λ (r : ℕ). set (set ((c .before .before .before .before .before .before .before .before .before .before .before .before .args) .graph .now) (148930 + r) (sourceHead ((c .before .before .before .before .before .before .before .before .before .before .before .before .args) .graph .now) ((c .before .before .before .before .before .before .before .before .before .before .before .before .args) .after) % 65536)) (144834 + (c .before .before .before .before .before .before .before .before .before .before .before .before .args) .after % 4096) (r % 65536))
-    ((c .before .before .before .before .before .before .before .before .before .before .reset-number) .ensures .0)
+returns c =
+    let store2 = c .before .before .store2 in
+    let args = c .before .before .before .before .before .before .before .before .before .before .before .before .args in
+    let reset-number = c .before .before .before .before .before .before .before .before .before .before .reset-number in
+    let store′ = c .before .before .before .before .before .before .store in
+    let source-head = c .before .before .before .before .before .before .before .before .source-head in
+    store2.ensures ∙ ap (λ (g : List ℕ). set g (144834 + args.after % 4096) (reset-number.result % 65536))
+    (store′.ensures ∙ ap (λ (h : ℕ). set args.graph.now (148930 + reset-number.result) (h % 65536)) source-head.ensures.0)
+    ∙ ap (λ (r : ℕ). set (set args.graph.now (148930 + r) (sourceHead args.graph.now args.after % 65536)) (144834 + args.after % 4096)
+    (r % 65536)) reset-number.ensures.0
 
 pub store-source-spec : {M : Type 1} → statement M
 store-source-spec =

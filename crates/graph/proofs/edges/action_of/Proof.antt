@@ -1,3 +1,4 @@
+-- `action_of` meets its contract. Assumes nothing.
 use Rattle.graph.specs.Readers.{actionOf}
 use Rattle.graph.specs.Columns.{edgePlace}
 use borrow.Author.Needs.{needs}

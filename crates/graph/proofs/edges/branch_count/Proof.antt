@@ -1,3 +1,4 @@
+-- `branch_count` meets its contract. Assumes nothing.
 use Rattle.graph.specs.Readers.{branchCount}
 use Rattle.graph.specs.Columns.{load}
 use borrow.Author.Needs.{needs}

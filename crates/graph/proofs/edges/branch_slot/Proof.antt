@@ -1,3 +1,4 @@
+-- `branch_slot` meets its contract. Assumes nothing.
 use Rattle.graph.specs.Readers.{branchSlot}
 use Rattle.graph.specs.Columns.{load}
 use borrow.Author.Needs.{needs}

@@ -1,3 +1,4 @@
+-- `denominator_of` meets its contract. Assumes nothing.
 use Rattle.graph.specs.Readers.{denominatorOf}
 use Rattle.graph.specs.Columns.{edgePlace}
 use borrow.Author.Needs.{needs}

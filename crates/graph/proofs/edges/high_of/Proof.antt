@@ -1,3 +1,4 @@
+-- `high_of` meets its contract. Assumes nothing.
 use Rattle.graph.specs.Readers.{highOf}
 use Rattle.graph.specs.Columns.{edgePlace}
 use borrow.Author.Needs.{needs}

@@ -1,3 +1,4 @@
+-- `low_of` meets its contract. Assumes nothing.
 use Rattle.graph.specs.Readers.{lowOf}
 use Rattle.graph.specs.Columns.{edgePlace}
 use borrow.Author.Needs.{needs}

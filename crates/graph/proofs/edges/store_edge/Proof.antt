@@ -1,3 +1,4 @@
+-- `store_edge` meets its contract. Assumes nothing.
 use Prim.Native.Nat.{ℕ, _+_, _*_, _/_, _%_, _^_}
 use mathlib.Core.Path.{_≡_, sym, _∙_, ap}
 use lib.ListN.{set}
@@ -34,7 +35,11 @@ same-length c = search needs
 -- src/edges.rt:74:1
 returns : tie.Need-returns
 unfolding withEdge edgePlace
-returns c = (c .before .before .store-wide2) .ensures ∙ ap (λ (g : List ℕ). set g (18 * ((c .before .before .before .before .before .before .before .before .before .args) .edge % 128) + 1) ((c .before .before .before .before .before .before .before .before .before .args) .denominator % 4294967296)) ((c .before .before .before .before .before .before .store-wide) .ensures)
+returns c =
+    let store-wide2 = c .before .before .store-wide2 in
+    let args = c .before .before .before .before .before .before .before .before .before .args in
+    let store-wide = c .before .before .before .before .before .before .store-wide in
+    store-wide2.ensures ∙ ap (λ (g : List ℕ). set g (18 * (args.edge % 128) + 1) (args.denominator % 4294967296)) store-wide.ensures
 
 pub store-edge-spec : {M : Type 1} → statement M
 store-edge-spec =

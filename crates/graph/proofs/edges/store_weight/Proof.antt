@@ -1,3 +1,4 @@
+-- `store_weight` meets its contract. Assumes nothing.
 use Prim.Native.Nat.{ℕ, _+_, _*_, _/_, _%_, _^_}
 use mathlib.Core.Path.{_≡_, sym, _∙_, ap}
 use lib.ListN.{set}
@@ -54,8 +55,12 @@ same-length c = search needs
 -- src/edges.rt:83:1
 returns : tie.Need-returns
 unfolding withWeight edgePlace
-returns c = (c .before .before .store-wide2) .ensures
-    ∙ ap (λ (g : List ℕ). set g (18 * ((c .before .before .before .before .before .before .before .before .before .args) .edge % 128) + (3 + 2 * ((c .before .before .before .before .before .before .before .before .before .args) .branch % 8))) ((c .before .before .before .before .before .before .before .before .before .args) .high % 4294967296)) ((c .before .before .before .before .before .before .store-wide) .ensures)
+returns c =
+    let store-wide2 = c .before .before .store-wide2 in
+    let args = c .before .before .before .before .before .before .before .before .before .args in
+    let store-wide = c .before .before .before .before .before .before .store-wide in
+    store-wide2.ensures ∙ ap (λ (g : List ℕ). set g (18 * (args.edge % 128) + (3 + 2 * (args.branch % 8))) (args.high % 4294967296))
+    store-wide.ensures
 
 pub store-weight-spec : {M : Type 1} → statement M
 store-weight-spec =

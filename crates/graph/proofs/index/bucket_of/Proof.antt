@@ -1,3 +1,4 @@
+-- `bucket_of` meets its contract. Assumes nothing.
 use Rattle.graph.specs.Readers.{bucketOf}
 use borrow.Author.Needs.{needs}
 use Rattle.graph.proofs.index.bucket_of.Statement.{statement}

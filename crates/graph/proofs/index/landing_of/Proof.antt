@@ -1,3 +1,4 @@
+-- `landing_of` meets its contract. Assumes nothing.
 use Prim.Native.Nat.{ℕ, _+_, _*_, _/_, _%_, _^_}
 use mathlib.Core.Path.{_≡_, sym, _∙_, ap}
 use Rattle.graph.specs.Readers.{regionAt, landingOf, resetClass, slotMask, slotTarget}
@@ -30,12 +31,16 @@ region-at-requires c κs = search needs
 -- src/index.rt:62:1
 returns : tie.Need-returns
 unfolding landingOf
-returns c = (
-  (c .region-at) .ensures .0 ∙ ap (λ (k : ℕ). regionAt ((c .before .before .before .before .before .args) .graph .now) k ((c .before .slot-target) .result)) ((c .before .before .reset-class) .ensures .0
-      ∙ ap (resetClass ((c .before .before .before .before .before .args) .graph .now) ((c .before .before .before .before .before .args) .class)) ((c .before .before .before .slot-mask) .ensures .0))
-      ∙ ap (regionAt ((c .before .before .before .before .before .args) .graph .now) (resetClass ((c .before .before .before .before .before .args) .graph .now) ((c .before .before .before .before .before .args) .class) (slotMask ((c .before .before .before .before .before .args) .graph .now) ((c .before .before .before .before .before .args) .slot)))) ((c .before .slot-target) .ensures .0),
-  (c .region-at) .ensures .1,
-)
+returns c =
+    let args = c .before .before .before .before .before .args in
+    let slot-target = c .before .slot-target in
+    let reset-class = c .before .before .reset-class in
+    let slot-mask = c .before .before .before .slot-mask in (
+      (c .region-at) .ensures .0 ∙ ap (λ (k : ℕ). regionAt args.graph.now k slot-target.result)
+          (reset-class.ensures.0 ∙ ap (resetClass args.graph.now args.class) slot-mask.ensures.0)
+          ∙ ap (regionAt args.graph.now (resetClass args.graph.now args.class (slotMask args.graph.now args.slot))) slot-target.ensures.0,
+      (c .region-at) .ensures .1,
+    )
 
 pub landing-of-spec : {M : Type 1} → statement M
 landing-of-spec =

@@ -15,7 +15,8 @@ use Rattle.graph.proofs.index.region_link.Reads as region-link-reads
 use Rattle.graph.proofs.regions.class_of.Reads as class-of-reads
 
 abbrev Inv-loop : tie.InvT-loop
-Inv-loop graph class location region₀ steps₀ region steps = (walk graph (4096 - steps) region class ≡ regionAt graph class location) × (region < 65536)
+Inv-loop graph class location region₀ steps₀ region steps =
+    (walk graph (4096 - steps) region class ≡ regionAt graph class location) × (region < 65536)
 
 abbrev μ-loop : tie.MeasureT-loop
 μ-loop graph class location region₀ steps₀ region steps = 4096 - steps
@@ -26,14 +27,19 @@ region-head-requires c κs = search needs
 
 -- src/index.rt:48:5
 loop-holds : tie.Need-loop-holds Inv-loop μ-loop
-loop-holds c = (
-  ap (λ (x : ℕ). walk ((c .before .before .args) .graph .now) 4096 x ((c .before .before .args) .class)) ((c .region-head) .ensures .0) ∙ walk-start ((c .before .before .args) .graph .now) ((c .before .before .args) .class) ((c .before .before .args) .location),
-  (c .region-head) .ensures .1,
-)
+loop-holds c =
+    let args = c .before .before .args in (
+      ap (λ (x : ℕ). walk args.graph.now 4096 x args.class) ((c .region-head) .ensures .0) ∙ walk-start args.graph.now args.class
+          args.location,
+      (c .region-head) .ensures .1,
+    )
 
 -- src/index.rt:50:13
 returns : tie.Need-returns Inv-loop μ-loop
-returns c = (walk-ends ((c .before .before .before .before .before .args) .graph .now) ((c .before .before .before .before .before .args) .class) ((c .before .before .loop) .steps) ((c .before .before .loop) .region) ((c .before .loop-test) .taken) ((c .if1) .taken) ∙ (c .before .before .loop) .inv .0, omega arith)
+returns c =
+    let args = c .before .before .before .before .before .args in
+    let loop = c .before .before .loop in
+    (walk-ends args.graph.now args.class loop.steps loop.region ((c .before .loop-test) .taken) ((c .if1) .taken) ∙ loop.inv.0, omega arith)
 
 -- src/index.rt:52:12
 class-of-requires : tie.Need-class-of-requires Inv-loop μ-loop
@@ -41,11 +47,15 @@ class-of-requires c κs = search needs
 
 -- src/index.rt:53:13
 returns-2 : tie.Need-returns-2 Inv-loop μ-loop
-returns-2 c = (
-  walk-here ((c .before .before .before .before .before .before .before .args) .graph .now) ((c .before .before .before .before .before .before .before .args) .class) ((c .before .before .before .before .loop) .steps) ((c .before .before .before .before .loop) .region) ((c .before .before .before .loop-test) .taken) ((c .before .before .if1) .left) (sym ((c .before .class-of) .ensures .0) ∙ (c .if2) .taken)
-      ∙ (c .before .before .before .before .loop) .inv .0,
-  (c .before .before .before .before .loop) .inv .1,
-)
+returns-2 c =
+    let args = c .before .before .before .before .before .before .before .args in
+    let loop = c .before .before .before .before .loop in
+    let loop-test = c .before .before .before .loop-test in
+    let if1 = c .before .before .if1 in (
+      walk-here args.graph.now args.class loop.steps loop.region loop-test.taken if1.left (sym ((c .before .class-of) .ensures .0)
+          ∙ (c .if2) .taken) ∙ loop.inv.0,
+      loop.inv.1,
+    )
 
 -- src/index.rt:55:9
 region-link-requires : tie.Need-region-link-requires Inv-loop μ-loop
@@ -61,16 +71,23 @@ loop-less c = search needs
 
 -- src/index.rt:48:5
 loop-again : tie.Need-loop-again Inv-loop μ-loop
-loop-again c = (
-  ap (λ (x : ℕ). walk ((c .before .before .before .before .before .before .before .before .args) .graph .now) (4096 - ((c .before .before .before .before .before .loop) .steps + 1)) x ((c .before .before .before .before .before .before .before .before .args) .class)) ((c .region-link) .ensures .0)
-      ∙ walk-on ((c .before .before .before .before .before .before .before .before .args) .graph .now) ((c .before .before .before .before .before .before .before .before .args) .class) ((c .before .before .before .before .before .loop) .steps) ((c .before .before .before .before .before .loop) .region) ((c .before .before .before .before .loop-test) .taken) ((c .before .before .before .if1) .left) (λ e. (c .before .if2) .left ((c .before .before .class-of) .ensures .0 ∙ e))
-      ∙ (c .before .before .before .before .before .loop) .inv .0,
-  (c .region-link) .ensures .1,
-)
+loop-again c =
+    let args = c .before .before .before .before .before .before .before .before .args in
+    let loop = c .before .before .before .before .before .loop in
+    let loop-test = c .before .before .before .before .loop-test in
+    let if1 = c .before .before .before .if1 in
+    let class-of = c .before .before .class-of in (
+      ap (λ (x : ℕ). walk args.graph.now (4096 - (loop.steps + 1)) x args.class) ((c .region-link) .ensures .0) ∙ walk-on args.graph.now
+          args.class loop.steps loop.region loop-test.taken if1.left (λ e. (c .before .if2) .left (class-of.ensures.0 ∙ e)) ∙ loop.inv.0,
+      (c .region-link) .ensures .1,
+    )
 
 -- src/index.rt:43:1
 returns-3 : tie.Need-returns-3 Inv-loop μ-loop
-returns-3 c = (walk-over ((c .before .before .before .before .args) .graph .now) ((c .before .before .before .before .args) .class) ((c .before .loop) .steps) ((c .before .loop) .region) ((c .loop-test) .left) ∙ (c .before .loop) .inv .0, omega arith)
+returns-3 c =
+    let args = c .before .before .before .before .args in
+    let loop = c .before .loop in
+    (walk-over args.graph.now args.class loop.steps loop.region ((c .loop-test) .left) ∙ loop.inv.0, omega arith)
 
 pub region-at-spec : {M : Type 1} → statement M
 region-at-spec =

@@ -1,3 +1,4 @@
+-- `region_link` meets its contract. Assumes nothing.
 use Rattle.graph.specs.Readers.{regionLink}
 use Rattle.graph.specs.Columns.{load}
 use borrow.Author.Needs.{needs}

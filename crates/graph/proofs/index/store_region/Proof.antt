@@ -1,3 +1,4 @@
+-- `store_region` meets its contract. Assumes nothing.
 use Prim.Native.Nat.{ℕ, _+_, _*_, _/_, _%_, _^_}
 use mathlib.Core.Path.{_≡_, sym, _∙_, ap}
 use lib.ListN.{set}
@@ -53,12 +54,20 @@ same-length c = search needs
 -- src/index.rt:70:1
 returns : tie.Need-returns
 unfolding withRegion store
-returns c = (c .before .before .store3) .ensures ∙ ap (λ (g : List ℕ). set g (10690 + (c .before .before .before .before .bucket-of) .result) ((c .before .before .before .before .before .before .before .before .before .before .before .before .before .before .before .before .args) .region % 65536))
-    ((c .before .before .before .before .before .before .before .store2) .ensures ∙ ap (λ (g : List ℕ). set g (18882 + (c .before .before .before .before .before .before .before .before .before .before .before .before .before .before .before .before .args) .region % 4096) ((c .before .before .before .before .before .before .before .before .before .before .before .before .before .region-head) .result % 65536)) ((c .before .before .before .before .before .before .before .before .before .before .before .store) .ensures))
-    ∙ ap (λ (b : ℕ). set (set (set ((c .before .before .before .before .before .before .before .before .before .before .before .before .before .before .before .before .args) .graph .now) (22978 + (c .before .before .before .before .before .before .before .before .before .before .before .before .before .before .before .before .args) .region % 4096) ((c .before .before .before .before .before .before .before .before .before .before .before .before .before .before .before .before .args) .class % 65536)) (18882 + (c .before .before .before .before .before .before .before .before .before .before .before .before .before .before .before .before .args) .region % 4096)
-    ((c .before .before .before .before .before .before .before .before .before .before .before .before .before .region-head) .result % 65536)) (10690 + b) ((c .before .before .before .before .before .before .before .before .before .before .before .before .before .before .before .before .args) .region % 65536)) ((c .before .before .before .before .bucket-of) .ensures .0)
-    ∙ ap (λ (h : ℕ). set (set (set ((c .before .before .before .before .before .before .before .before .before .before .before .before .before .before .before .before .args) .graph .now) (22978 + (c .before .before .before .before .before .before .before .before .before .before .before .before .before .before .before .before .args) .region % 4096) ((c .before .before .before .before .before .before .before .before .before .before .before .before .before .before .before .before .args) .class % 65536)) (18882 + (c .before .before .before .before .before .before .before .before .before .before .before .before .before .before .before .before .args) .region % 4096)
-    (h % 65536)) (10690 + bucketOf ((c .before .before .before .before .before .before .before .before .before .before .before .before .before .before .before .before .args) .class) ((c .before .before .before .before .before .before .before .before .before .before .before .before .before .before .before .before .args) .location)) ((c .before .before .before .before .before .before .before .before .before .before .before .before .before .before .before .before .args) .region % 65536)) ((c .before .before .before .before .before .before .before .before .before .before .before .before .before .region-head) .ensures .0)
+returns c =
+    let back10 = c .before .before .before .before .before .before .before .before .before .before in
+    let store3 = c .before .before .store3 in
+    let bucket-of = c .before .before .before .before .bucket-of in
+    let args = back10 .before .before .before .before .before .before .args in
+    let store2 = c .before .before .before .before .before .before .before .store2 in
+    let region-head = back10 .before .before .before .region-head in
+    let store′ = back10 .before .store in
+    store3.ensures ∙ ap (λ (g : List ℕ). set g (10690 + bucket-of.result) (args.region % 65536))
+    (store2.ensures ∙ ap (λ (g : List ℕ). set g (18882 + args.region % 4096) (region-head.result % 65536)) store′.ensures)
+    ∙ ap (λ (b : ℕ). set (set (set args.graph.now (22978 + args.region % 4096) (args.class % 65536)) (18882 + args.region % 4096)
+    (region-head.result % 65536)) (10690 + b) (args.region % 65536)) bucket-of.ensures.0
+    ∙ ap (λ (h : ℕ). set (set (set args.graph.now (22978 + args.region % 4096) (args.class % 65536)) (18882 + args.region % 4096)
+    (h % 65536)) (10690 + bucketOf args.class args.location) (args.region % 65536)) region-head.ensures.0
 
 pub store-region-spec : {M : Type 1} → statement M
 store-region-spec =

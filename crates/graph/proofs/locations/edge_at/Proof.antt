@@ -1,3 +1,4 @@
+-- `edge_at` meets its contract. Assumes nothing.
 use Prim.Native.Nat.{ℕ, _+_, _*_, _/_, _%_, _^_}
 use mathlib.Core.Path.{_≡_, sym, _∙_, ap}
 use lib.ListN.{getD}
@@ -32,11 +33,12 @@ load-requires c κs = search needs
 -- src/locations.rt:41:1
 returns : tie.Need-returns
 unfolding edgeAt load
-returns c = (
-  ap (λ (k : ℕ). k % 128) ((c .load) .ensures .0 ∙ ap (λ (s : ℕ). getD ((c .before .before .before .args) .graph .now) (129 + (s + (c .before .before .before .args) .rank % 128) % 128) 65535)
-      ((c .before .edge-start) .ensures .0)),
-  mod-lt _ {m = 128} (omega arith),
-)
+returns c =
+    let args = c .before .before .before .args in (
+      ap (λ (k : ℕ). k % 128) ((c .load) .ensures .0 ∙ ap (λ (s : ℕ). getD args.graph.now (129 + (s + args.rank % 128) % 128) 65535)
+          ((c .before .edge-start) .ensures .0)),
+      mod-lt _ {m = 128} (omega arith),
+    )
 
 pub edge-at-spec : {M : Type 1} → statement M
 edge-at-spec = tie.close (tie.spec edge-start-requires add-place add-load load-requires returns)

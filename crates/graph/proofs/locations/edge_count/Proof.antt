@@ -1,3 +1,4 @@
+-- `edge_count` meets its contract. Assumes nothing.
 use Rattle.graph.specs.Readers.{edgeCount}
 use Rattle.graph.specs.Columns.{load}
 use borrow.Author.Needs.{needs}

@@ -1,3 +1,4 @@
+-- `edge_start` meets its contract. Assumes nothing.
 use Rattle.graph.specs.Readers.{edgeStart}
 use Rattle.graph.specs.Columns.{load}
 use borrow.Author.Needs.{needs}

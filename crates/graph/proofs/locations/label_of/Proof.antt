@@ -1,3 +1,4 @@
+-- `label_of` meets its contract. Assumes nothing.
 use Rattle.graph.specs.Readers.{labelOf}
 use Rattle.graph.specs.Columns.{load}
 use borrow.Author.Needs.{needs}

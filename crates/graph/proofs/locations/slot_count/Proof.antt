@@ -1,3 +1,4 @@
+-- `slot_count` meets its contract. Assumes nothing.
 use Rattle.graph.specs.Readers.{slotCount}
 use Rattle.graph.specs.Columns.{load}
 use borrow.Author.Needs.{needs}

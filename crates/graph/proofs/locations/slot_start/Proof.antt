@@ -1,3 +1,4 @@
+-- `slot_start` meets its contract. Assumes nothing.
 use Rattle.graph.specs.Readers.{slotStart}
 use Rattle.graph.specs.Columns.{load}
 use borrow.Author.Needs.{needs}

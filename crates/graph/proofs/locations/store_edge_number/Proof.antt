@@ -1,3 +1,4 @@
+-- `store_edge_number` meets its contract. Assumes nothing.
 use Rattle.graph.specs.Writers.{withEdgeNumber}
 use Rattle.graph.specs.Columns.{store}
 use borrow.Author.Needs.{needs}

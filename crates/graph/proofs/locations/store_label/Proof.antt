@@ -1,3 +1,4 @@
+-- `store_label` meets its contract. Assumes nothing.
 use Rattle.graph.specs.Writers.{withLabel}
 use Rattle.graph.specs.Columns.{store}
 use borrow.Author.Needs.{needs}

@@ -1,3 +1,4 @@
+-- `store_slot_start` meets its contract. Assumes nothing.
 use Rattle.graph.specs.Writers.{withSlotStart}
 use Rattle.graph.specs.Columns.{store}
 use borrow.Author.Needs.{needs}

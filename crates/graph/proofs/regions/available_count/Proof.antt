@@ -1,3 +1,4 @@
+-- `available_count` meets its contract. Assumes nothing.
 use Rattle.graph.specs.Readers.{availableCount}
 use Rattle.graph.specs.Columns.{load}
 use borrow.Author.Needs.{needs}

@@ -1,3 +1,4 @@
+-- `available_word` meets its contract. Assumes nothing.
 use Rattle.graph.specs.Readers.{availableWord}
 use Rattle.graph.specs.Columns.{load}
 use borrow.Author.Needs.{needs}

@@ -1,3 +1,4 @@
+-- `class_of` meets its contract. Assumes nothing.
 use Rattle.graph.specs.Readers.{classOf}
 use Rattle.graph.specs.Columns.{load}
 use borrow.Author.Needs.{needs}

@@ -51,15 +51,26 @@ loop-less c = search needs
 -- src/regions.rt:94:5
 loop-again : tie.Need-loop-again Inv-loop μ-loop
 unfolding store
-loop-again c = ((c .before .before .store) .ensures ∙ cleared-more ((c .before .before .before .before .before .before .before .args) .graph .now) ((c .before .before .before .before .before .before .before .args) .region) ((c .before .before .before .before .before .loop) .graph) ((c .before .before .before .before .before .loop) .word) ((c .before .before .before .before .before .loop) .inv .0), omega (arith, (c .before .before .before .before .loop-test) .taken))
+loop-again c =
+    let store′ = c .before .before .store in
+    let args = c .before .before .before .before .before .before .before .args in
+    let loop = c .before .before .before .before .before .loop in
+    let loop-test = c .before .before .before .before .loop-test in
+    (store′.ensures ∙ cleared-more args.graph.now args.region loop.graph loop.word loop.inv.0, omega (arith, loop-test.taken))
 
 -- src/regions.rt:90:1
 same-length : tie.Need-same-length Inv-loop μ-loop
-same-length c = ap length ((c .before .loop) .inv .0) ∙ cleared-length ((c .before .before .before .args) .graph .now) ((c .before .before .before .args) .region) ((c .before .loop) .word)
+same-length c =
+    let loop = c .before .loop in
+    let args = c .before .before .before .args in
+    ap length loop.inv.0 ∙ cleared-length args.graph.now args.region loop.word
 
 -- src/regions.rt:90:1
 returns : tie.Need-returns Inv-loop μ-loop
-returns c = (c .before .loop) .inv .0 ∙ cleared-all ((c .before .before .before .args) .graph .now) ((c .before .before .before .args) .region) ((c .before .loop) .word) ((c .before .loop) .inv .1) ((c .loop-test) .left)
+returns c =
+    let loop = c .before .loop in
+    let args = c .before .before .before .args in
+    loop.inv.0 ∙ cleared-all args.graph.now args.region loop.word loop.inv.1 ((c .loop-test) .left)
 
 pub clear-available-spec : {M : Type 1} → statement M
 clear-available-spec =

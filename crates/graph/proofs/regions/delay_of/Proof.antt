@@ -1,3 +1,4 @@
+-- `delay_of` meets its contract. Assumes nothing.
 use Rattle.graph.specs.Readers.{delayOf}
 use Rattle.graph.specs.Columns.{load}
 use borrow.Author.Needs.{needs}

@@ -1,3 +1,4 @@
+-- `is_available` meets its contract. Assumes nothing.
 use Prim.Native.Nat.{ℕ, _+_, _*_, _/_, _%_, _^_}
 use mathlib.Core.Path.{_≡_, sym, _∙_, ap}
 use Rattle.graph.specs.Readers.{bitOf, isAvailable}
@@ -20,7 +21,9 @@ bit-of-requires c κs = search needs
 -- src/regions.rt:62:1
 returns : tie.Need-returns
 unfolding isAvailable
-returns c = (c .bit-of) .ensures ∙ ap (λ (w : ℕ). bitOf w ((c .before .before .before .args) .rank % 16)) ((c .before .available-word) .ensures .0)
+returns c =
+    let args = c .before .before .before .args in
+    (c .bit-of) .ensures ∙ ap (λ (w : ℕ). bitOf w (args.rank % 16)) ((c .before .available-word) .ensures .0)
 
 pub is-available-spec : {M : Type 1} → statement M
 is-available-spec = tie.close (tie.spec available-word-requires bit-of-requires returns)

@@ -1,3 +1,4 @@
+-- `location_of` meets its contract. Assumes nothing.
 use Rattle.graph.specs.Readers.{locationOf}
 use Rattle.graph.specs.Columns.{load}
 use borrow.Author.Needs.{needs}

@@ -1,3 +1,4 @@
+-- `mark_available` meets its contract. Assumes nothing.
 use Prim.Native.Nat.{ℕ, _+_, _*_, _/_, _%_, _^_}
 use mathlib.Core.Path.{_≡_, sym, _∙_, ap}
 use lib.ListN.{set}
@@ -44,8 +45,13 @@ same-length c = search needs
 -- src/regions.rt:109:1
 returns : tie.Need-returns
 unfolding withAvailable store
-returns c = (c .before .before .store) .ensures ∙ ap (λ (w : ℕ). set ((c .before .before .before .before .before .before .before .before .args) .graph .now) (39362 + (8 * ((c .before .before .before .before .before .before .before .before .args) .region % 4096) + (c .before .before .before .before .before .before .before .before .args) .rank / 16 % 8)) (w % 65536))
-    ((c .before .before .before .before .set-bit) .ensures ∙ ap (λ (w : ℕ). bitOr w (2 ^ ((c .before .before .before .before .before .before .before .before .args) .rank % 16))) ((c .before .before .before .before .before .available-word) .ensures .0))
+returns c =
+    let store′ = c .before .before .store in
+    let args = c .before .before .before .before .before .before .before .before .args in
+    let set-bit = c .before .before .before .before .set-bit in
+    let available-word = c .before .before .before .before .before .available-word in
+    store′.ensures ∙ ap (λ (w : ℕ). set args.graph.now (39362 + (8 * (args.region % 4096) + args.rank / 16 % 8)) (w % 65536))
+    (set-bit.ensures ∙ ap (λ (w : ℕ). bitOr w (2 ^ (args.rank % 16))) available-word.ensures.0)
 
 pub mark-available-spec : {M : Type 1} → statement M
 mark-available-spec =

@@ -1,3 +1,4 @@
+-- `store_available_count` meets its contract. Assumes nothing.
 use Rattle.graph.specs.Writers.{withAvailableCount}
 use Rattle.graph.specs.Columns.{store}
 use borrow.Author.Needs.{needs}

@@ -1,3 +1,4 @@
+-- `store_location` meets its contract. Assumes nothing.
 use Rattle.graph.specs.Writers.{withLocation}
 use Rattle.graph.specs.Columns.{store}
 use borrow.Author.Needs.{needs}

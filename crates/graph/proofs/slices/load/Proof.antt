@@ -1,3 +1,4 @@
+-- `load` meets its contract. Assumes nothing.
 use Prim.Native.Nat.{ℕ}
 use native.Mathlib.Omega.{arith}
 use mathlib.Core.Path.{sym, _∙_}
@@ -24,7 +25,10 @@ wide-requires c κs = search needs
 
 -- src/slices.rt:20:1
 returns : tie.Need-returns
-returns c = ((c .wide) .ensures .0 ∙ default-same ((c .before .before .before .before .args) .graph .now) ((c .before .before .before .before .args) .i) 0 65535 ((c .before .before .if1) .taken), (c .wide) .ensures .1)
+returns c =
+    let args = c .before .before .before .before .args in
+    let if1 = c .before .before .if1 in
+    ((c .wide) .ensures .0 ∙ default-same args.graph.now args.i 0 65535 if1.taken, (c .wide) .ensures .1)
 
 -- src/slices.rt:20:1
 returns-2 : tie.Need-returns-2

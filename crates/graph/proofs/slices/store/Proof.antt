@@ -1,3 +1,4 @@
+-- `store` meets its contract. Assumes nothing.
 use Prim.Native.Nat.{_%_}
 use mathlib.Core.Path.{sym}
 use lib.Seq.{set-out}

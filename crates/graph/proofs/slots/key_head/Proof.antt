@@ -1,3 +1,4 @@
+-- `key_head` meets its contract. Assumes nothing.
 use Prim.Native.Nat.{ℕ, _+_, _*_, _/_, _%_, _^_}
 use mathlib.Core.Path.{_≡_, sym, _∙_, ap}
 use lib.ListN.{getD}
@@ -26,7 +27,11 @@ load-requires c κs = search needs
 -- src/slots.rt:46:1
 returns : tie.Need-returns
 unfolding keyHead load
-returns c = ((c .load) .ensures .0 ∙ ap (λ (k : ℕ). getD ((c .before .before .before .args) .graph .now) (142786 + k) 65535) ((c .before .key-of) .ensures .0), (c .load) .ensures .1)
+returns c =
+    let args = c .before .before .before .args in (
+      (c .load) .ensures .0 ∙ ap (λ (k : ℕ). getD args.graph.now (142786 + k) 65535) ((c .before .key-of) .ensures .0),
+      (c .load) .ensures .1,
+    )
 
 pub key-head-spec : {M : Type 1} → statement M
 key-head-spec = tie.close (tie.spec key-of-requires add-load load-requires returns)

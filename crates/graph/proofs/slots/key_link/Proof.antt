@@ -1,3 +1,4 @@
+-- `key_link` meets its contract. Assumes nothing.
 use Rattle.graph.specs.Readers.{keyLink}
 use Rattle.graph.specs.Columns.{load}
 use borrow.Author.Needs.{needs}

@@ -1,3 +1,4 @@
+-- `key_of` meets its contract. Assumes nothing.
 use Rattle.graph.specs.Readers.{keyOf}
 use borrow.Author.Needs.{needs}
 use Rattle.graph.proofs.slots.key_of.Statement.{statement}

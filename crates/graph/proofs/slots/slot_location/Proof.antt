@@ -1,3 +1,4 @@
+-- `slot_location` meets its contract. Assumes nothing.
 use Rattle.graph.specs.Readers.{slotLocation}
 use Rattle.graph.specs.Columns.{load}
 use borrow.Author.Needs.{needs}

@@ -1,3 +1,4 @@
+-- `slot_mask` meets its contract. Assumes nothing.
 use Rattle.graph.specs.Readers.{slotMask}
 use Rattle.graph.specs.Columns.{load}
 use borrow.Author.Needs.{needs}

@@ -1,3 +1,4 @@
+-- `slot_target` meets its contract. Assumes nothing.
 use Rattle.graph.specs.Readers.{slotTarget}
 use Rattle.graph.specs.Columns.{load}
 use borrow.Author.Needs.{needs}

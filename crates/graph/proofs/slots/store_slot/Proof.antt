@@ -1,3 +1,4 @@
+-- `store_slot` meets its contract. Assumes nothing.
 use Prim.Native.Nat.{ℕ, _+_, _*_, _/_, _%_, _^_}
 use mathlib.Core.Path.{_≡_, sym, _∙_, ap}
 use lib.ListN.{set}
@@ -61,15 +62,24 @@ same-length c = search needs
 -- src/slots.rt:60:1
 returns : tie.Need-returns
 unfolding withSlot store
-returns c = (c .before .before .store4) .ensures ∙ ap (λ (g : List ℕ). set g (142786 + (c .before .before .before .before .before .before .before .before .before .before .before .before .before .before .before .before .key-of) .result) ((c .before .before .before .before .before .before .before .before .before .before .before .before .before .before .before .before .before .before .before .before .args) .slot % 65536))
-    ((c .before .before .before .before .before .before .store3) .ensures ∙ ap (λ (g : List ℕ). set g (143810 + (c .before .before .before .before .before .before .before .before .before .before .before .before .before .before .before .before .before .before .before .before .args) .slot % 1024) ((c .before .before .before .before .before .before .before .before .before .before .before .before .before .before .before .before .before .key-head) .result % 65536))
-    ((c .before .before .before .before .before .before .before .before .before .before .store2) .ensures ∙ ap (λ (g : List ℕ). set g (141762 + (c .before .before .before .before .before .before .before .before .before .before .before .before .before .before .before .before .before .before .before .before .args) .slot % 1024) ((c .before .before .before .before .before .before .before .before .before .before .before .before .before .before .before .before .before .before .before .before .args) .location % 65536)) ((c .before .before .before .before .before .before .before .before .before .before .before .before .before .before .store) .ensures)))
-    ∙ ap (λ (k : ℕ). set (set (set (set ((c .before .before .before .before .before .before .before .before .before .before .before .before .before .before .before .before .before .before .before .before .args) .graph .now) (322 + (c .before .before .before .before .before .before .before .before .before .before .before .before .before .before .before .before .before .before .before .before .args) .slot % 1024) (k % 65536)) (141762 + (c .before .before .before .before .before .before .before .before .before .before .before .before .before .before .before .before .before .before .before .before .args) .slot % 1024)
-    ((c .before .before .before .before .before .before .before .before .before .before .before .before .before .before .before .before .before .before .before .before .args) .location % 65536)) (143810 + (c .before .before .before .before .before .before .before .before .before .before .before .before .before .before .before .before .before .before .before .before .args) .slot % 1024) ((c .before .before .before .before .before .before .before .before .before .before .before .before .before .before .before .before .before .key-head) .result % 65536)) (142786 + k) ((c .before .before .before .before .before .before .before .before .before .before .before .before .before .before .before .before .before .before .before .before .args) .slot % 65536))
-    ((c .before .before .before .before .before .before .before .before .before .before .before .before .before .before .before .before .key-of) .ensures .0)
-    ∙ ap (λ (h : ℕ). set (set (set (set ((c .before .before .before .before .before .before .before .before .before .before .before .before .before .before .before .before .before .before .before .before .args) .graph .now) (322 + (c .before .before .before .before .before .before .before .before .before .before .before .before .before .before .before .before .before .before .before .before .args) .slot % 1024) (keyOf ((c .before .before .before .before .before .before .before .before .before .before .before .before .before .before .before .before .before .before .before .before .args) .mask) ((c .before .before .before .before .before .before .before .before .before .before .before .before .before .before .before .before .before .before .before .before .args) .target) % 65536))
-    (141762 + (c .before .before .before .before .before .before .before .before .before .before .before .before .before .before .before .before .before .before .before .before .args) .slot % 1024) ((c .before .before .before .before .before .before .before .before .before .before .before .before .before .before .before .before .before .before .before .before .args) .location % 65536)) (143810 + (c .before .before .before .before .before .before .before .before .before .before .before .before .before .before .before .before .before .before .before .before .args) .slot % 1024) (h % 65536))
-    (142786 + keyOf ((c .before .before .before .before .before .before .before .before .before .before .before .before .before .before .before .before .before .before .before .before .args) .mask) ((c .before .before .before .before .before .before .before .before .before .before .before .before .before .before .before .before .before .before .before .before .args) .target)) ((c .before .before .before .before .before .before .before .before .before .before .before .before .before .before .before .before .before .before .before .before .args) .slot % 65536)) ((c .before .before .before .before .before .before .before .before .before .before .before .before .before .before .before .before .before .key-head) .ensures .0)
+returns c =
+    let back10 = c .before .before .before .before .before .before .before .before .before .before in
+    let back20 = back10 .before .before .before .before .before .before .before .before .before .before in
+    let store4 = c .before .before .store4 in
+    let key-of = back10 .before .before .before .before .before .before .key-of in
+    let args = back20 .args in
+    let store3 = c .before .before .before .before .before .before .store3 in
+    let key-head = back10 .before .before .before .before .before .before .before .key-head in
+    let store2 = back10 .store2 in
+    let store′ = back10 .before .before .before .before .store in
+    store4.ensures ∙ ap (λ (g : List ℕ). set g (142786 + key-of.result) (args.slot % 65536))
+    (store3.ensures ∙ ap (λ (g : List ℕ). set g (143810 + args.slot % 1024) (key-head.result % 65536))
+    (store2.ensures ∙ ap (λ (g : List ℕ). set g (141762 + args.slot % 1024) (args.location % 65536)) store′.ensures))
+    ∙ ap (λ (k : ℕ). set (set (set (set args.graph.now (322 + args.slot % 1024) (k % 65536)) (141762 + args.slot % 1024)
+    (args.location % 65536)) (143810 + args.slot % 1024) (key-head.result % 65536)) (142786 + k) (args.slot % 65536)) key-of.ensures.0
+    ∙ ap (λ (h : ℕ). set (set (set (set args.graph.now (322 + args.slot % 1024) (keyOf args.mask args.target % 65536)) (141762 + args.slot
+    % 1024) (args.location % 65536)) (143810 + args.slot % 1024) (h % 65536)) (142786 + keyOf args.mask args.target) (args.slot % 65536))
+    key-head.ensures.0
 
 pub store-slot-spec : {M : Type 1} → statement M
 store-slot-spec =

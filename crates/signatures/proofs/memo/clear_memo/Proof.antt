@@ -43,11 +43,12 @@ loop-less c = search needs
 
 -- src/memo.rt:134:5
 loop-again : tie.Need-loop-again Inv-loop μ-loop
-loop-again c = (
-  length-set ((c .before .loop) .memo) (11 * (c .before .loop) .slot) 0 ∙ (c .before .loop) .inv .0,
-  empty-on ((c .before .loop) .memo) ((c .before .loop) .slot) (omega (arith, (c .before .loop) .inv .0, (c .loop-test) .taken)) ((c .before .loop) .inv .1),
-  omega (arith, (c .loop-test) .taken),
-)
+loop-again c =
+    let loop = c .before .loop in (
+      length-set loop.memo (11 * loop.slot) 0 ∙ loop.inv.0,
+      empty-on loop.memo loop.slot (omega (arith, loop.inv.0, (c .loop-test) .taken)) loop.inv.1,
+      omega (arith, (c .loop-test) .taken),
+    )
 
 -- src/memo.rt:129:1
 same-length : tie.Need-same-length Inv-loop μ-loop

@@ -1,3 +1,4 @@
+-- `intern_step` meets its contract. Assumes nothing.
 use Prim.Native.Nat.{ℕ, _≤_}
 use native.Mathlib.Omega.{arith}
 use mathlib.Core.Path.{_≡_, sym, _∙_, subst}
@@ -27,8 +28,10 @@ array-share-prefix-list c = search needs
 
 -- src/memo.rt:125:12
 slice-aggregate-intern : tie.Need-slice-aggregate-intern
-slice-aggregate-intern c = sym (length-take-le ((c .before .before .list-step) .result) ((c .before .before .list-step) .last .1 .1 .0)
-    (omega (arith, (c .before .before .list-step) .ensures .1, (c .before .before .list-step) .ensures .2, length-replicate {A = ℕ} 25 0)))
+slice-aggregate-intern c =
+    let list-step = c .before .before .list-step in
+    sym (length-take-le list-step.result list-step.last.1.1.0
+    (omega (arith, list-step.ensures.1, list-step.ensures.2, length-replicate {A = ℕ} 25 0)))
 
 -- src/memo.rt:125:5
 intern-requires : tie.Need-intern-requires
@@ -44,8 +47,13 @@ same-length-2 c = search needs
 
 -- src/memo.rt:117:1
 returns : tie.Need-returns
-returns c = subst (λ (l : List ℕ). Interns l ((c .before .before .before .before .before .before .before .before .before .before .before .before .before .before .before .args) .index .now) ((c .before .before .before .before .before .before .before .before .before .before .before .before .before .before .before .args) .numbers .now) ((c .before .before .before .before .intern) .last .1 .0) ((c .before .before .before .before .intern) .last .1 .1 .0) ((c .before .before .before .before .intern) .result))
-    ((c .before .before .before .before .before .before .before .before .before .list-step) .ensures .0) ((c .before .before .before .before .intern) .ensures)
+returns c =
+    let back10 = c .before .before .before .before .before .before .before .before .before .before in
+    let args = back10 .before .before .before .before .before .args in
+    let intern = c .before .before .before .before .intern in
+    let list-step = c .before .before .before .before .before .before .before .before .before .list-step in
+    subst (λ (l : List ℕ). Interns l args.index.now args.numbers.now intern.last.1.0 intern.last.1.1.0 intern.result) list-step.ensures.0
+    intern.ensures
 
 pub intern-step-spec : {M : Type 1} → statement M
 intern-step-spec =

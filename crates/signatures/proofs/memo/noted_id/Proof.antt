@@ -1,3 +1,4 @@
+-- `noted_id` meets its contract. Assumes nothing.
 use native.Mathlib.Omega.{arith}
 use mathlib.Core.Path.{_≡_, sym, _∙_}
 use Rattle.signatures.specs.Raw.{rawStep}
@@ -19,7 +20,10 @@ slot-of-requires c κs = search needs
 
 -- src/memo.rt:103:8
 is-noted-requires : tie.Need-is-noted-requires
-is-noted-requires c κs = ((c .before .slot-of) .ensures, (c .before .before .before .before .before .before .before .pre) .1 .0 .size, (c .before .before .before .before .before .before .before .pre) .1 .0 .short ((c .before .slot-of) .result) ((c .before .slot-of) .ensures))
+is-noted-requires c κs =
+    let slot-of = c .before .slot-of in
+    let pre = c .before .before .before .before .before .before .before .pre in
+    (slot-of.ensures, pre.1.0.size, pre.1.0.short slot-of.result slot-of.ensures)
 
 -- src/memo.rt:104:40
 mul-load : tie.Need-mul-load
@@ -39,8 +43,14 @@ same-length c = search needs
 
 -- src/memo.rt:104:9
 returns : tie.Need-returns
-returns c = notes-hit (rawStep ((c .before .before .before .before .before .before .before .before .before .before .before .args) .edges .now)) ((c .before .before .before .before .before .before .before .before .before .before .before .args) .raw .now) ((c .before .before .before .before .before .before .before .before .before .before .before .args) .index .now) ((c .before .before .before .before .before .before .before .before .before .before .before .args) .numbers .now) ((c .before .before .before .before .before .before .before .before .before .before .before .args) .memo .now) ((c .before .before .before .before .before .slot-of) .result) ((c .load) .result) ((c .before .before .before .before .before .before .before .before .before .before .before .pre) .0) ((c .before .before .before .before .before .before .before .before .before .before .before .pre) .1 .0) ((c .before .before .before .before .before .slot-of) .ensures)
-    ((c .before .before .before .is-noted) .ensures .holds ((c .before .before .if1) .taken)) ((c .load) .ensures .0)
+returns c =
+    let args = c .before .before .before .before .before .before .before .before .before .before .before .args in
+    let slot-of = c .before .before .before .before .before .slot-of in
+    let pre = c .before .before .before .before .before .before .before .before .before .before .before .pre in
+    let is-noted = c .before .before .before .is-noted in
+    let if1 = c .before .before .if1 in
+    notes-hit (rawStep args.edges.now) args.raw.now args.index.now args.numbers.now args.memo.now slot-of.result ((c .load) .result) pre.0
+    pre.1.0 slot-of.ensures (is-noted.ensures.holds if1.taken) ((c .load) .ensures .0)
 
 -- src/memo.rt:106:9
 intern-step-requires : tie.Need-intern-step-requires
@@ -52,13 +62,20 @@ enum-known-answer c = (c .match) .keys1
 
 -- src/memo.rt:109:13
 note-requires : tie.Need-note-requires
-note-requires c κs = (
-  (c .before .before .before .before .before .before .before .before .before .before .before .before .before .before .slot-of) .ensures,
-  (c .before .before .before .before .before .before .before .before .before .before .before .before .before .before .before .before .before .before .before .before .pre) .1 .0 .size,
-  (c .before .before .before .before .before .before .before .before .before .before .before .before .before .before .before .before .before .before .before .before .pre) .1 .1 .1,
-  id-small (rawStep ((c .before .before .before .before .before .before .before .before .before .before .before .before .before .before .before .before .before .before .before .before .args) .edges .now) ((c .before .before .before .before .before .before .before .before .before .before .before .before .before .before .before .before .before .before .before .before .args) .raw .now)) ((c .before .before .before .before .before .before .before .before .before .before .before .before .before .before .before .before .before .before .before .before .args) .index .now) ((c .before .before .before .before .before .before .before .before .before .before .before .before .before .before .before .before .before .before .before .before .args) .numbers .now) ((c .before .before .before .before .before .before .before .before .intern-step) .last .1 .1 .0) ((c .before .before .before .before .before .before .before .before .intern-step) .last .1 .1 .1 .0) ((c .before .before .answer) .given .0 .0)
-      (rw ((c .before .before .answer) .given .1) at ((c .before .before .before .before .before .before .before .before .intern-step) .ensures)),
-)
+note-requires c κs =
+    let back10 = c .before .before .before .before .before .before .before .before .before .before in
+    let back20 = back10 .before .before .before .before .before .before .before .before .before .before in
+    let slot-of = back10 .before .before .before .before .slot-of in
+    let pre = back20 .pre in
+    let args = back20 .args in
+    let intern-step = c .before .before .before .before .before .before .before .before .intern-step in
+    let answer = c .before .before .answer in (
+      slot-of.ensures,
+      pre.1.0.size,
+      pre.1.1.1,
+      id-small (rawStep args.edges.now args.raw.now) args.index.now args.numbers.now intern-step.last.1.1.0 intern-step.last.1.1.1.0
+          answer.given.0.0 (rw answer.given.1 at intern-step.ensures),
+    )
 
 -- src/memo.rt:112:27
 enum-told : tie.Need-enum-told
@@ -78,9 +95,18 @@ same-length-4 c = search needs
 
 -- src/memo.rt:89:1
 returns-2 : tie.Need-returns-2
-returns-2 c = notes-new (rawStep ((c .before .before .before .before .before .before .before .before .before .before .before .before .before .before .before .before .before .before .before .before .before .before .before .args) .edges .now)) ((c .before .before .before .before .before .before .before .before .before .before .before .before .before .before .before .before .before .before .before .before .before .before .before .args) .raw .now) ((c .before .before .before .before .before .before .before .before .before .before .before .before .before .before .before .before .before .before .before .before .before .before .before .args) .index .now) ((c .before .before .before .before .before .before .before .before .before .before .before .before .before .before .before .before .before .before .before .before .before .before .before .args) .numbers .now) ((c .before .before .before .before .before .before .before .before .before .before .before .intern-step) .last .1 .1 .0) ((c .before .before .before .before .before .before .before .before .before .before .before .intern-step) .last .1 .1 .1 .0) ((c .before .before .before .before .before .before .before .before .before .before .before .before .before .before .before .before .before .before .before .before .before .before .before .args) .memo .now) ((c .before .before .note) .last .1 .1 .1 .0)
-    ((c .before .before .before .before .before .before .before .before .before .before .before .before .before .before .before .before .before .slot-of) .result) ((c .before .before .before .before .before .answer) .given .0 .0) ((c .before .before .before .before .before .before .before .before .before .before .before .before .before .before .before .before .before .before .before .before .before .before .before .pre) .1 .0) ((c .before .before .before .before .before .before .before .before .before .before .before .before .before .before .before .before .before .slot-of) .ensures) ((c .before .before .before .before .before .before .before .before .before .before .before .before .before .before .before .before .before .before .before .before .before .before .before .pre) .1 .1 .1) (rw ((c .before .before .before .before .before .answer) .given .1) at ((c .before .before .before .before .before .before .before .before .before .before .before .intern-step) .ensures))
-    ((c .before .before .note) .ensures)
+returns-2 c =
+    let back10 = c .before .before .before .before .before .before .before .before .before .before in
+    let back20 = back10 .before .before .before .before .before .before .before .before .before .before in
+    let args = back20 .before .before .before .args in
+    let intern-step = back10 .before .intern-step in
+    let note = c .before .before .note in
+    let slot-of = back10 .before .before .before .before .before .before .before .slot-of in
+    let answer = c .before .before .before .before .before .answer in
+    let pre = back20 .before .before .before .pre in
+    notes-new (rawStep args.edges.now) args.raw.now args.index.now args.numbers.now intern-step.last.1.1.0 intern-step.last.1.1.1.0
+    args.memo.now note.last.1.1.1.0 slot-of.result answer.given.0.0 pre.1.0 slot-of.ensures pre.1.1.1
+    (rw answer.given.1 at intern-step.ensures) note.ensures
 
 -- src/memo.rt:89:1
 same-length-5 : tie.Need-same-length-5
@@ -96,8 +122,13 @@ same-length-7 c = search needs
 
 -- src/memo.rt:89:1
 returns-3 : tie.Need-returns-3
-returns-3 c = notes-full (rawStep ((c .before .before .before .before .before .before .before .before .before .before .before .before .before .before .before .before .before .before .args) .edges .now)) ((c .before .before .before .before .before .before .before .before .before .before .before .before .before .before .before .before .before .before .args) .raw .now) ((c .before .before .before .before .before .before .before .before .before .before .before .before .before .before .before .before .before .before .args) .index .now) ((c .before .before .before .before .before .before .before .before .before .before .before .before .before .before .before .before .before .before .args) .numbers .now) ((c .before .before .before .before .before .before .intern-step) .last .1 .1 .0) ((c .before .before .before .before .before .before .intern-step) .last .1 .1 .1 .0) ((c .before .before .before .before .before .before .before .before .before .before .before .before .before .before .before .before .before .before .args) .memo .now) ((c .before .before .before .before .before .before .before .before .before .before .before .before .before .before .before .before .before .before .pre) .1 .0)
-    (rw ((c .enum-told) .given .1) at ((c .before .before .before .before .before .before .intern-step) .ensures))
+returns-3 c =
+    let back10 = c .before .before .before .before .before .before .before .before .before .before in
+    let args = back10 .before .before .before .before .before .before .before .before .args in
+    let intern-step = c .before .before .before .before .before .before .intern-step in
+    let pre = back10 .before .before .before .before .before .before .before .before .pre in
+    notes-full (rawStep args.edges.now) args.raw.now args.index.now args.numbers.now intern-step.last.1.1.0 intern-step.last.1.1.1.0
+    args.memo.now pre.1.0 (rw ((c .enum-told) .given .1) at intern-step.ensures)
 
 pub noted-id-spec : {M : Type 1} → statement M
 noted-id-spec =

@@ -1,3 +1,4 @@
+-- `low_share` meets its contract. Assumes nothing.
 use Prim.Native.Nat.{ℕ, _+_, _-_, _*_, _/_, _%_, _≤_, _<_}
 use mathlib.Core.Path.{_≡_, refl, sym, _∙_, ap, subst}
 use native.Mathlib.Omega.{arith}
@@ -25,7 +26,9 @@ rem-result c = search needs
 
 -- src/shares.rt:27:5
 mul-result-2 : tie.Need-mul-result-2
-mul-result-2 c = omega (arith, mod-lt ((c .before .args) .weight * 1073741824) {m = (c .before .args) .denominator} (omega (arith, (c .if1) .left)), (c .before .pre) .1)
+mul-result-2 c =
+    let args = c .before .args in
+    omega (arith, mod-lt (args.weight * 1073741824) {m = args.denominator} (omega (arith, (c .if1) .left)), (c .before .pre) .1)
 
 -- src/shares.rt:27:5
 div-result : tie.Need-div-result
@@ -34,7 +37,9 @@ div-result c = search needs
 -- src/shares.rt:20:1
 returns-2 : tie.Need-returns-2
 unfolding lowShare
-returns-2 c = let low = low-small ((c .before .args) .weight) ((c .before .args) .denominator) (omega (arith, (c .if1) .left)) in (refl, omega (arith, low))
+returns-2 c =
+    let args = c .before .args in
+    let low = low-small args.weight args.denominator (omega (arith, (c .if1) .left)) in (refl, omega (arith, low))
 
 pub low-share-spec : {M : Type 1} → statement M
 low-share-spec =

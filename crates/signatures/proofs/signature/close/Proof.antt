@@ -1,3 +1,4 @@
+-- `close` meets its contract. Assumes nothing.
 use Prim.Native.Nat.{ℕ, _+_, _-_, _*_, _/_, _≤_, _<_}
 use mathlib.Core.Path.{_≡_, refl, sym, _∙_, ap, ap₂, subst}
 use native.Mathlib.Omega.{arith}
@@ -39,7 +40,9 @@ mul-list-2 c = search needs
 
 -- src/signature.rt:164:5
 slice-write-list-2 : tie.Need-slice-write-list-2
-slice-write-list-2 c = simp length-set (omega (arith, (c .before .before .before .pre) .1 .0, (c .before .before .before .pre) .1 .1))
+slice-write-list-2 c =
+    let pre = c .before .before .before .pre in
+    simp length-set (omega (arith, pre.1.0, pre.1.1))
 
 -- src/signature.rt:165:20
 add-intern : tie.Need-add-intern
@@ -47,12 +50,18 @@ add-intern c = search needs
 
 -- src/signature.rt:165:12
 slice-reshare-prefix-intern : tie.Need-slice-reshare-prefix-intern
-slice-reshare-prefix-intern c = simp length-set (omega (arith, (c .before .before .before .pre) .1 .0, (c .before .before .before .pre) .1 .1))
+slice-reshare-prefix-intern c =
+    let pre = c .before .before .before .pre in
+    simp length-set (omega (arith, pre.1.0, pre.1.1))
 
 -- src/signature.rt:165:12
 slice-aggregate-intern : tie.Need-slice-aggregate-intern
-slice-aggregate-intern c = let fits : (c .before .before .before .before .args) .len + 2 ≤ length (set (set ((c .before .before .before .before .args) .list .now) ((c .before .before .before .before .args) .len) ((c .before .before .before .before .args) .name)) ((c .before .before .before .before .args) .len + 1) ((c .before .before .before .before .args) .delays)) = simp length-set (omega (arith, (c .before .before .before .before .pre) .1 .0, (c .before .before .before .before .pre) .1 .1)) in
-    sym (length-take-le ((c .before .before .before .before .args) .len + 2) (set (set ((c .before .before .before .before .args) .list .now) ((c .before .before .before .before .args) .len) ((c .before .before .before .before .args) .name)) ((c .before .before .before .before .args) .len + 1) ((c .before .before .before .before .args) .delays)) fits)
+slice-aggregate-intern c =
+    let args = c .before .before .before .before .args in
+    let pre = c .before .before .before .before .pre in
+    let fits : args.len + 2 ≤ length (set (set args.list.now args.len args.name) (args.len + 1) args.delays) = simp length-set
+    (omega (arith, pre.1.0, pre.1.1)) in
+    sym (length-take-le (args.len + 2) (set (set args.list.now args.len args.name) (args.len + 1) args.delays) fits)
 
 -- src/signature.rt:165:5
 intern-requires : tie.Need-intern-requires
@@ -72,11 +81,14 @@ same-length-3 c = simp length-set refl
 
 -- src/signature.rt:149:1
 returns : tie.Need-returns
-returns c = (
-  subst (λ (l : List ℕ). Interns l ((c .before .before .before .before .before .before .before .before .before .before .before .args) .index .now) ((c .before .before .before .before .before .before .before .before .before .before .before .args) .numbers .now) ((c .before .before .before .before .intern) .last .1 .0) ((c .before .before .before .before .intern) .last .1 .1 .0) ((c .before .before .before .before .intern) .result))
-      (two-more ((c .before .before .before .before .before .before .before .before .before .before .before .args) .list .now) ((c .before .before .before .before .before .before .before .before .before .before .before .args) .len) ((c .before .before .before .before .before .before .before .before .before .before .before .args) .name) ((c .before .before .before .before .before .before .before .before .before .before .before .args) .delays) (omega (arith, (c .before .before .before .before .before .before .before .before .before .before .before .pre) .1 .0, (c .before .before .before .before .before .before .before .before .before .before .before .pre) .1 .1))) ((c .before .before .before .before .intern) .ensures),
-  simp length-set refl,
-)
+returns c =
+    let args = c .before .before .before .before .before .before .before .before .before .before .before .args in
+    let intern = c .before .before .before .before .intern in
+    let pre = c .before .before .before .before .before .before .before .before .before .before .before .pre in (
+      subst (λ (l : List ℕ). Interns l args.index.now args.numbers.now intern.last.1.0 intern.last.1.1.0 intern.result)
+          (two-more args.list.now args.len args.name args.delays (omega (arith, pre.1.0, pre.1.1))) intern.ensures,
+      simp length-set refl,
+    )
 
 pub close-spec : {M : Type 1} → statement M
 close-spec =

@@ -1,3 +1,4 @@
+-- `delay_id` meets its contract. Assumes nothing.
 use Prim.Native.Nat.{ℕ, _+_, _-_, _≤_}
 use native.Mathlib.Omega.{arith}
 use mathlib.Core.Path.{_≡_, refl, sym, _∙_, ap, subst}
@@ -65,16 +66,27 @@ same-length-3 c = search needs
 
 -- src/signature.rt:56:1
 returns : tie.Need-returns
-returns c = let size : length ((c .before .before .before .before .before .before .before .before .before .before .before .list-delays) .last .1 .1 .0) ≡ length ((c .before .before .before .before .before .before .before .before .before .before .before .before .before .before .before .before .before .args) .list .now) - 130 =
-    (c .before .before .before .before .before .before .before .before .before .before .before .list-delays) .ensures .2 ∙ mid-len 130 (length ((c .before .before .before .before .before .before .before .before .before .before .before .before .before .before .before .before .before .args) .list .now)) ((c .before .before .before .before .before .before .before .before .before .before .before .before .before .before .before .before .before .args) .list .now) (omega arith) in
-    let fits : (c .before .before .before .before .before .before .before .before .before .before .before .list-delays) .result ≤ length ((c .before .before .before .before .before .before .before .before .before .before .before .list-delays) .last .1 .1 .0) = omega (arith, size, (c .before .before .before .before .before .before .before .before .before .before .before .list-delays) .ensures .1, (c .before .before .before .before .before .before .before .before .before .before .before .before .before .before .before .before .before .pre) .1 .1) in (
-      subst (λ (l : List ℕ). Interns l ((c .before .before .before .before .before .before .before .before .before .before .before .before .before .before .before .before .before .args) .index .now) ((c .before .before .before .before .before .before .before .before .before .before .before .before .before .before .before .before .before .args) .numbers .now) ((c .before .before .before .before .intern) .last .1 .0) ((c .before .before .before .before .intern) .last .1 .1 .0) ((c .before .before .before .before .intern) .result))
-          (part-behind 130 (length ((c .before .before .before .before .before .before .before .before .before .before .before .before .before .before .before .before .before .args) .list .now) - 130) ((c .before .before .before .before .before .before .before .before .before .before .before .list-delays) .result) ((c .before .before .before .before .before .before .before .before .before .before .before .before .before .before .before .before .before .args) .list .now) ((c .before .before .before .before .before .before .before .before .before .before .before .list-delays) .last .1 .1 .0) (omega (arith, (c .before .before .before .before .before .before .before .before .before .before .before .before .before .before .before .before .before .pre) .1 .1)) fits
-          ∙ (c .before .before .before .before .before .before .before .before .before .before .before .list-delays) .ensures .0) ((c .before .before .before .before .intern) .ensures),
+returns c =
+    let back10 = c .before .before .before .before .before .before .before .before .before .before in
+    let list-delays = back10 .before .list-delays in
+    let args = back10 .before .before .before .before .before .before .before .args in
+    let pre = back10 .before .before .before .before .before .before .before .pre in
+    let intern = c .before .before .before .before .intern in
+    let size : length list-delays.last.1.1.0 ≡ length args.list.now - 130 = list-delays.ensures.2 ∙ mid-len 130 (length args.list.now)
+    args.list.now (omega arith) in
+    let fits : list-delays.result ≤ length list-delays.last.1.1.0 = omega (arith, size, list-delays.ensures.1, pre.1.1) in (
+      subst (λ (l : List ℕ). Interns l args.index.now args.numbers.now intern.last.1.0 intern.last.1.1.0 intern.result)
+          (part-behind 130 (length args.list.now - 130) list-delays.result args.list.now list-delays.last.1.1.0 (omega (arith, pre.1.1))
+          fits ∙ list-delays.ensures.0) intern.ensures,
       (
-        omega (arith, ap length ((c .before .before .before .before .before .before .before .before .before .before .before .list-delays) .ensures .0), length-take-le ((c .before .before .before .before .before .before .before .before .before .before .before .list-delays) .result) ((c .before .before .before .before .before .before .before .before .before .before .before .list-delays) .last .1 .1 .0) fits, (c .before .before .before .before .before .before .before .before .before .before .before .list-delays) .ensures .1),
-        same-len-mid 130 (length ((c .before .before .before .before .before .before .before .before .before .before .before .before .before .before .before .before .before .args) .list .now) - 130) ((c .before .before .before .before .before .before .before .before .before .before .before .before .before .before .before .before .before .args) .list .now) ((c .before .before .before .before .before .before .before .before .before .before .before .list-delays) .last .1 .1 .0) ((c .before .before .before .before .before .before .before .before .before .before .before .list-delays) .ensures .2),
-        take-put 130 (length ((c .before .before .before .before .before .before .before .before .before .before .before .before .before .before .before .before .before .args) .list .now) - 130) ((c .before .before .before .before .before .before .before .before .before .before .before .before .before .before .before .before .before .args) .list .now) ((c .before .before .before .before .before .before .before .before .before .before .before .list-delays) .last .1 .1 .0) (omega (arith, (c .before .before .before .before .before .before .before .before .before .before .before .before .before .before .before .before .before .pre) .1 .1)),
+        omega (
+          arith,
+          ap length list-delays.ensures.0,
+          length-take-le list-delays.result list-delays.last.1.1.0 fits,
+          list-delays.ensures.1,
+        ),
+        same-len-mid 130 (length args.list.now - 130) args.list.now list-delays.last.1.1.0 list-delays.ensures.2,
+        take-put 130 (length args.list.now - 130) args.list.now list-delays.last.1.1.0 (omega (arith, pre.1.1)),
       ),
     )
 

@@ -1,3 +1,4 @@
+-- `id_number` meets its contract. Assumes nothing.
 use Prim.Native.Nat.{ℕ, _+_, _-_, _*_, _/_, _≤_, _<_}
 use mathlib.Core.Path.{_≡_, refl, sym, _∙_, ap, ap₂, subst}
 use mathlib.Core.Bool.{Bool, cond}
@@ -24,11 +25,15 @@ enum-told c = (c .match) .keys2
 
 -- src/signature.rt:216:1
 returns : tie.Need-returns
-returns c = sym (ap numberOf ((c .before .before .answer) .given .1) ∙ ap (λ (b : Bool). cond b ((c .before .before .answer) .given .0 .0) noId) (lt-ltb ((c .before .before .answer) .given .0 .0) noId ((c .if1) .taken)))
+returns c =
+    let answer = c .before .before .answer in
+    sym (ap numberOf answer.given.1 ∙ ap (λ (b : Bool). cond b answer.given.0.0 noId) (lt-ltb answer.given.0.0 noId ((c .if1) .taken)))
 
 -- src/signature.rt:216:1
 returns-2 : tie.Need-returns-2
-returns-2 c = sym (ap numberOf ((c .before .before .answer) .given .1) ∙ ap (λ (b : Bool). cond b ((c .before .before .answer) .given .0 .0) noId) (le-ltb ((c .before .before .answer) .given .0 .0) noId ((c .if1) .left)))
+returns-2 c =
+    let answer = c .before .before .answer in
+    sym (ap numberOf answer.given.1 ∙ ap (λ (b : Bool). cond b answer.given.0.0 noId) (le-ltb answer.given.0.0 noId ((c .if1) .left)))
 
 -- src/signature.rt:216:1
 returns-3 : tie.Need-returns-3

@@ -1,3 +1,4 @@
+-- `is_roomy` meets its contract. Assumes nothing.
 use Prim.Native.Nat.{ℕ, _+_, _-_, _*_, _/_, _≤_, _<_}
 use mathlib.Core.Path.{_≡_, refl, sym, _∙_, ap, ap₂, subst}
 use native.Mathlib.Omega.{arith}
@@ -28,16 +29,18 @@ returns-4 c = record { holds = λ e. absurd (false≢true e); fails = λ e roomy
 
 -- src/signature.rt:260:1
 returns-5 : tie.Need-returns-5
-returns-5 c = record {
-  holds = λ e. record {
-    names-few = omega (arith, (c .before .before .before .if1) .left);
-    items-few = omega (arith, (c .before .before .if2) .left);
-    indexed = (c .before .if3) .left;
-    numbered = (c .if4) .left;
-    memoed = eqb-true (length ((c .before .before .before .before .args) .memo .now)) 45056 e;
-  };
-  fails = λ e roomy. eqb-false (length ((c .before .before .before .before .args) .memo .now)) 45056 e (roomy .memoed);
-}
+returns-5 c =
+    let args = c .before .before .before .before .args in
+    record {
+      holds = λ e. record {
+        names-few = omega (arith, (c .before .before .before .if1) .left);
+        items-few = omega (arith, (c .before .before .if2) .left);
+        indexed = (c .before .if3) .left;
+        numbered = (c .if4) .left;
+        memoed = eqb-true (length args.memo.now) 45056 e;
+      };
+      fails = λ e roomy. eqb-false (length args.memo.now) 45056 e (roomy .memoed);
+    }
 
 pub is-roomy-spec : {M : Type 1} → statement M
 is-roomy-spec = tie.close (tie.spec returns returns-2 returns-3 returns-4 returns-5)

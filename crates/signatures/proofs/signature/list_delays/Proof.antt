@@ -19,15 +19,19 @@ use Rattle.signatures.proofs.sets.insert.Reads as insert-reads
 use Rattle.signatures.proofs.steps.name_at.Reads as name-at-reads
 
 abbrev Inv-loop : tie.InvT-loop
-Inv-loop x names list₀ n len₀ y₀ i₀ list len y i = Walked (namesOf names (chainFrom (jumpOf names) (itemsIn names) (itemsIn names) x)) (take len list)
-    (namesOf names (chainFrom (jumpOf names) (itemsIn names) (itemsIn names - i) y)) × (len ≤ i) × (length list ≡ length list₀) × (i ≤ itemsIn names)
+Inv-loop x names list₀ n len₀ y₀ i₀ list len y i =
+    Walked (namesOf names (chainFrom (jumpOf names) (itemsIn names) (itemsIn names) x)) (take len list)
+    (namesOf names (chainFrom (jumpOf names) (itemsIn names) (itemsIn names - i) y)) × (len ≤ i) × (length list ≡ length list₀)
+    × (i ≤ itemsIn names)
 
 abbrev μ-loop : tie.MeasureT-loop
 μ-loop x names list₀ n len₀ y₀ i₀ list len y i = length names / 2 - i
 
 -- src/signature.rt:43:5
 loop-holds : tie.Need-loop-holds Inv-loop μ-loop
-loop-holds c = (delays-start ((c .before .before .args) .names .now) ((c .before .before .args) .list .now) ((c .before .before .args) .x), omega arith, refl, omega arith)
+loop-holds c =
+    let args = c .before .before .args in
+    (delays-start args.names.now args.list.now args.x, omega arith, refl, omega arith)
 
 -- src/signature.rt:45:13
 same-length : tie.Need-same-length Inv-loop μ-loop
@@ -36,11 +40,14 @@ same-length c = (c .before .before .loop) .inv .2
 -- src/signature.rt:45:13
 returns : tie.Need-returns Inv-loop μ-loop
 unfolding itemsIn
-returns c = (
-  delays-stop ((c .before .before .before .before .before .args) .names .now) ((c .before .before .before .before .before .args) .x) ((c .before .before .loop) .list) ((c .before .before .loop) .y) ((c .before .before .loop) .i) ((c .before .before .loop) .len) ((c .before .before .loop) .inv .0) ((c .before .loop-test) .taken) ((c .if1) .taken),
-  omega (arith, (c .before .before .loop) .inv .1, (c .before .before .loop) .inv .3, (c .before .before .before .before .before .pre) .0),
-  (c .before .before .loop) .inv .2,
-)
+returns c =
+    let args = c .before .before .before .before .before .args in
+    let loop = c .before .before .loop in
+    let pre = c .before .before .before .before .before .pre in (
+      delays-stop args.names.now args.x loop.list loop.y loop.i loop.len loop.inv.0 ((c .before .loop-test) .taken) ((c .if1) .taken),
+      omega (arith, loop.inv.1, loop.inv.3, pre.0),
+      loop.inv.2,
+    )
 
 -- src/signature.rt:47:22
 name-at-requires : tie.Need-name-at-requires Inv-loop μ-loop
@@ -49,7 +56,13 @@ name-at-requires c κs = search needs
 -- src/signature.rt:47:9
 insert-requires : tie.Need-insert-requires Inv-loop μ-loop
 unfolding itemsIn
-insert-requires c κs = ((omega (arith, (c .before .name-at) .ensures .1), omega (arith, (c .before .before .before .before .loop) .inv .1, (c .before .before .before .before .loop) .inv .2, (c .before .before .before .loop-test) .taken, (c .before .before .before .before .before .before .before .pre) .0, (c .before .before .before .before .before .before .before .pre) .1)), (c .before .before .before .before .loop) .inv .0 .rises)
+insert-requires c κs =
+    let loop = c .before .before .before .before .loop in
+    let loop-test = c .before .before .before .loop-test in
+    let pre = c .before .before .before .before .before .before .before .pre in (
+      (omega (arith, (c .before .name-at) .ensures .1), omega (arith, loop.inv.1, loop.inv.2, loop-test.taken, pre.0, pre.1)),
+      loop.inv.0.rises,
+    )
 
 -- src/signature.rt:48:28
 add-name-at : tie.Need-add-name-at Inv-loop μ-loop
@@ -70,14 +83,20 @@ loop-less c = search needs
 -- src/signature.rt:43:5
 loop-again : tie.Need-loop-again Inv-loop μ-loop
 unfolding itemsIn jumpOf
-loop-again c = (
-  delays-turn ((c .before .before .before .before .before .before .before .before .before .before .before .args) .names .now) ((c .before .before .before .before .before .before .before .before .before .before .before .args) .x) ((c .before .before .before .before .before .before .before .before .loop) .list) ((c .before .before .before .before .before .before .before .before .loop) .y) ((c .before .before .before .before .before .before .before .before .loop) .i) ((c .before .before .before .before .before .before .before .before .loop) .len) ((c .before .before .before .before .before .before .before .before .loop) .inv .0) ((c .before .before .before .insert) .last .1 .1 .0) ((c .before .before .before .insert) .result)
-      ((c .before .before .before .before .before .name-at) .result) ((c .name-at2) .result) ((c .before .before .before .before .before .before .before .loop-test) .taken) (omega (arith, (c .before .before .before .before .before .before .if1) .left)) ((c .before .before .before .before .before .name-at) .ensures .0) ((c .name-at2) .ensures .0)
-      ((c .before .before .before .insert) .ensures .put),
-  omega (arith, (c .before .before .before .insert) .ensures .short, (c .before .before .before .before .before .before .before .before .loop) .inv .1),
-  (c .before .before .before .insert) .ensures .size ∙ (c .before .before .before .before .before .before .before .before .loop) .inv .2,
-  omega (arith, (c .before .before .before .before .before .before .before .loop-test) .taken),
-)
+loop-again c =
+    let args = c .before .before .before .before .before .before .before .before .before .before .before .args in
+    let loop = c .before .before .before .before .before .before .before .before .loop in
+    let insert = c .before .before .before .insert in
+    let name-at = c .before .before .before .before .before .name-at in
+    let loop-test = c .before .before .before .before .before .before .before .loop-test in
+    let if1 = c .before .before .before .before .before .before .if1 in (
+      delays-turn args.names.now args.x loop.list loop.y loop.i loop.len loop.inv.0 insert.last.1.1.0 insert.result name-at.result
+          ((c .name-at2) .result) loop-test.taken (omega (arith, if1.left)) name-at.ensures.0 ((c .name-at2) .ensures .0)
+          insert.ensures.put,
+      omega (arith, insert.ensures.short, loop.inv.1),
+      insert.ensures.size ∙ loop.inv.2,
+      omega (arith, loop-test.taken),
+    )
 
 -- src/signature.rt:34:1
 same-length-2 : tie.Need-same-length-2 Inv-loop μ-loop
@@ -86,11 +105,14 @@ same-length-2 c = (c .before .loop) .inv .2
 -- src/signature.rt:34:1
 returns-2 : tie.Need-returns-2 Inv-loop μ-loop
 unfolding itemsIn
-returns-2 c = (
-  delays-over ((c .before .before .before .before .args) .names .now) ((c .before .before .before .before .args) .x) ((c .before .loop) .list) ((c .before .loop) .y) ((c .before .loop) .i) ((c .before .loop) .len) ((c .before .loop) .inv .0) ((c .loop-test) .left),
-  omega (arith, (c .before .loop) .inv .1, (c .before .loop) .inv .3, (c .before .before .before .before .pre) .0),
-  (c .before .loop) .inv .2,
-)
+returns-2 c =
+    let args = c .before .before .before .before .args in
+    let loop = c .before .loop in
+    let pre = c .before .before .before .before .pre in (
+      delays-over args.names.now args.x loop.list loop.y loop.i loop.len loop.inv.0 ((c .loop-test) .left),
+      omega (arith, loop.inv.1, loop.inv.3, pre.0),
+      loop.inv.2,
+    )
 
 pub list-delays-spec : {M : Type 1} → statement M
 list-delays-spec =

@@ -30,12 +30,14 @@ is-available-requires c κs = search needs
 
 -- src/signature.rt:80:13
 returns : tie.Need-returns Inv-loop μ-loop
-returns c = record {
-  after = (c .before .before .before .loop) .inv .0;
-  within = (c .before .before .before .loop) .inv .1;
-  none = (c .before .before .before .loop) .inv .2;
-  here = λ h. sym ((c .before .is-available) .ensures) ∙ (c .if1) .taken;
-}
+returns c =
+    let loop = c .before .before .before .loop in
+    record {
+      after = loop.inv.0;
+      within = loop.inv.1;
+      none = loop.inv.2;
+      here = λ h. sym ((c .before .is-available) .ensures) ∙ (c .if1) .taken;
+    }
 
 -- src/signature.rt:82:16
 add-rank : tie.Need-add-rank Inv-loop μ-loop
@@ -47,11 +49,14 @@ loop-less c = search needs
 
 -- src/signature.rt:78:5
 loop-again : tie.Need-loop-again Inv-loop μ-loop
-loop-again c = (
-  omega (arith, (c .before .before .before .loop) .inv .0),
-  omega (arith, (c .before .before .loop-test) .taken),
-  none-on ((c .before .before .before .before .before .args) .graph .now) ((c .before .before .before .before .before .args) .x) ((c .before .before .before .before .before .args) .from) ((c .before .before .before .loop) .rank) (sym ((c .before .is-available) .ensures) ∙ (c .if1) .left) ((c .before .before .before .loop) .inv .2),
-)
+loop-again c =
+    let loop = c .before .before .before .loop in
+    let loop-test = c .before .before .loop-test in
+    let args = c .before .before .before .before .before .args in (
+      omega (arith, loop.inv.0),
+      omega (arith, loop-test.taken),
+      none-on args.graph.now args.x args.from loop.rank (sym ((c .before .is-available) .ensures) ∙ (c .if1) .left) loop.inv.2,
+    )
 
 -- src/signature.rt:73:1
 returns-2 : tie.Need-returns-2 Inv-loop μ-loop

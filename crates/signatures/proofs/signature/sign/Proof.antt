@@ -1,3 +1,4 @@
+-- `sign` meets its contract. Assumes nothing.
 use Prim.Native.Nat.{ℕ, _+_, _-_, _*_, _/_, _≤_, _<_}
 use mathlib.Core.Path.{_≡_, refl, sym, _∙_, ap, ap₂, subst}
 use native.Mathlib.Omega.{arith}
@@ -41,17 +42,26 @@ same-length-4 c = search needs
 -- src/signature.rt:298:9
 returns : tie.Need-returns
 returns c = (
-  record { holds = λ e. absurd (false≢true e); fails = λ e roomy. (c .before .is-roomy) .ensures .fails (not-true _ ((c .if1) .taken)) roomy },
+  record {
+    holds = λ e. absurd (false≢true e);
+    fails = λ e roomy. (c .before .is-roomy) .ensures .fails (not-true _ ((c .if1) .taken)) roomy;
+  },
   (λ e. absurd (false≢true e), λ e. refl),
 )
 
 -- src/signature.rt:300:5
 clear-requires : tie.Need-clear-requires
-clear-requires c κs = let roomy = (c .before .before .before .is-roomy) .ensures .holds (not-false _ ((c .before .before .if1) .left)) in (roomy .indexed, roomy .numbered)
+clear-requires c κs =
+    let is-roomy = c .before .before .before .is-roomy in
+    let if1 = c .before .before .if1 in
+    let roomy = is-roomy.ensures.holds (not-false _ if1.left) in (roomy .indexed, roomy .numbered)
 
 -- src/signature.rt:301:5
 clear-memo-requires : tie.Need-clear-memo-requires
-clear-memo-requires c κs = (c .before .before .before .before .before .before .before .is-roomy) .ensures .holds (not-false _ ((c .before .before .before .before .before .before .if1) .left)) .memoed
+clear-memo-requires c κs =
+    let is-roomy = c .before .before .before .before .before .before .before .is-roomy in
+    let if1 = c .before .before .before .before .before .before .if1 in
+    is-roomy.ensures.holds (not-false _ if1.left) .memoed
 
 -- src/signature.rt:303:57
 slice-aggregate-sign-all : tie.Need-slice-aggregate-sign-all
@@ -60,13 +70,22 @@ slice-aggregate-sign-all c = search needs
 -- src/signature.rt:303:5
 sign-all-requires : tie.Need-sign-all-requires
 unfolding itemsIn
-sign-all-requires c κs = let roomy = (c .before .before .before .before .before .before .before .before .before .before .before .before .before .before .before .is-roomy) .ensures .holds (not-false _ ((c .before .before .before .before .before .before .before .before .before .before .before .before .before .before .if1) .left)) in (
-  (c .before .before .before .before .before .before .before .before .before .before .before .clear) .ensures,
-  (
-    noted-none (rawStep ((c .before .before .before .before .before .before .before .before .before .before .before .before .before .before .before .before .before .before .before .before .before .before .before .before .before .before .before .args) .edges .now)) (entriesOf ((c .before .before .before .before .before .before .before .before .before .before .before .clear) .last .1 .0) ((c .before .before .before .before .before .before .before .before .before .before .before .before .before .before .before .before .before .before .before .before .before .before .before .before .before .before .before .args) .numbers .now)) ((c .before .before .before .before .before .before .before .clear-memo) .last .0) ((c .before .before .before .before .before .before .before .clear-memo) .ensures .0) ((c .before .before .before .before .before .before .before .clear-memo) .ensures .1),
-    (omega (arith, roomy .names-few), omega (arith, length-replicate {A = ℕ} 4226 0), roomy .items-few),
-  ),
-)
+sign-all-requires c κs =
+    let back10 = c .before .before .before .before .before .before .before .before .before .before in
+    let back20 = back10 .before .before .before .before .before .before .before .before .before .before in
+    let is-roomy = back10 .before .before .before .before .before .is-roomy in
+    let if1 = back10 .before .before .before .before .if1 in
+    let clear = back10 .before .clear in
+    let args = back20 .before .before .before .before .before .before .before .args in
+    let clear-memo = c .before .before .before .before .before .before .before .clear-memo in
+    let roomy = is-roomy.ensures.holds (not-false _ if1.left) in (
+      clear.ensures,
+      (
+        noted-none (rawStep args.edges.now) (entriesOf clear.last.1.0 args.numbers.now) clear-memo.last.0 clear-memo.ensures.0
+            clear-memo.ensures.1,
+        (omega (arith, roomy .names-few), omega (arith, length-replicate {A = ℕ} 4226 0), roomy .items-few),
+      ),
+    )
 
 -- src/signature.rt:284:1
 same-length-5 : tie.Need-same-length-5
@@ -86,8 +105,14 @@ same-length-8 c = search needs
 
 -- src/signature.rt:284:1
 returns-2 : tie.Need-returns-2
-returns-2 c = let roomy = (c .before .before .before .before .before .before .before .before .before .before .before .before .before .before .before .before .before .before .before .before .before .before .before .before .before .is-roomy) .ensures .holds (not-false _ ((c .before .before .before .before .before .before .before .before .before .before .before .before .before .before .before .before .before .before .before .before .before .before .before .before .if1) .left)) in
-    (record { holds = λ e. roomy; fails = λ e k. false≢true (sym e) }, (λ e. (c .before .before .before .before .before .before .before .before .before .sign-all) .ensures .0, λ e. absurd (false≢true (sym e))))
+returns-2 c =
+    let back10 = c .before .before .before .before .before .before .before .before .before .before in
+    let back20 = back10 .before .before .before .before .before .before .before .before .before .before in
+    let is-roomy = back20 .before .before .before .before .before .is-roomy in
+    let if1 = back20 .before .before .before .before .if1 in
+    let sign-all = c .before .before .before .before .before .before .before .before .before .sign-all in
+    let roomy = is-roomy.ensures.holds (not-false _ if1.left) in
+    (record { holds = λ e. roomy; fails = λ e k. false≢true (sym e) }, (λ e. sign-all.ensures.0, λ e. absurd (false≢true (sym e))))
 
 pub sign-spec : {M : Type 1} → statement M
 sign-spec =

@@ -1,3 +1,4 @@
+-- `signature` meets its contract. Assumes nothing.
 use Prim.Native.Nat.{ℕ, _+_, _-_, _*_, _/_, _≤_, _<_}
 use mathlib.Core.Path.{_≡_, refl, sym, _∙_, ap, ap₂, subst}
 use native.Mathlib.Omega.{arith}
@@ -12,7 +13,9 @@ use Rattle.signatures.proofs.signature.list_steps.Reads as list-steps-r
 
 -- src/signature.rt:206:9
 list-steps-requires : tie.Need-list-steps-requires
-list-steps-requires c κs = ((c .before .before .before .before .before .before .before .before .before .before .before .pre) .0, ((c .before .before .before .before .before .before .before .before .before .before .before .pre) .1 .0, omega (arith, (c .before .before .before .before .before .before .before .before .before .before .before .pre) .1 .1 .1)))
+list-steps-requires c κs =
+    let pre = c .before .before .before .before .before .before .before .before .before .before .before .pre in
+    (pre.0, (pre.1.0, omega (arith, pre.1.1.1)))
 
 -- src/signature.rt:208:23
 enum-known-steps : tie.Need-enum-known-steps
@@ -20,8 +23,14 @@ enum-known-steps c = (c .match) .keys1
 
 -- src/signature.rt:208:31
 finish-requires : tie.Need-finish-requires
-finish-requires c κs = let g = rw ((c .before .before .before .before .steps) .given .1) at ((c .before .before .before .before .before .before .before .before .before .before .before .before .before .before .list-steps) .ensures) in
-    (g .kept, (g .answered .short, (c .before .before .before .before .before .before .before .before .before .before .before .before .before .before .before .before .before .before .before .before .before .before .before .before .before .before .pre) .1 .1 .0, omega (arith, g .size, (c .before .before .before .before .before .before .before .before .before .before .before .before .before .before .before .before .before .before .before .before .before .before .before .before .before .before .pre) .1 .1 .1)))
+finish-requires c κs =
+    let back10 = c .before .before .before .before .before .before .before .before .before .before in
+    let back20 = back10 .before .before .before .before .before .before .before .before .before .before in
+    let steps = c .before .before .before .before .steps in
+    let list-steps = back10 .before .before .before .before .list-steps in
+    let pre = back20 .before .before .before .before .before .before .pre in
+    let g = rw steps.given.1 at list-steps.ensures in
+    (g .kept, (g .answered .short, pre.1.1.0, omega (arith, g .size, pre.1.1.1)))
 
 -- src/signature.rt:209:28
 enum-told : tie.Need-enum-told
@@ -29,37 +38,83 @@ enum-told c = (c .match) .keys2
 
 -- src/signature.rt:190:1
 same-length : tie.Need-same-length
-same-length c = (c .before .before .before .before .before .before .finish) .ensures .kept .indexed ∙ sym ((c .before .before .before .before .before .before .before .before .before .before .before .before .before .before .before .before .before .before .before .before .before .before .before .before .before .before .before .before .before .before .before .before .before .pre) .0 .indexed)
+same-length c =
+    let back10 = c .before .before .before .before .before .before .before .before .before .before in
+    let back20 = back10 .before .before .before .before .before .before .before .before .before .before in
+    let back30 = back20 .before .before .before .before .before .before .before .before .before .before in
+    let finish = c .before .before .before .before .before .before .finish in
+    let pre = back30 .before .before .before .pre in
+    finish.ensures.kept.indexed ∙ sym pre.0.indexed
 
 -- src/signature.rt:190:1
 same-length-2 : tie.Need-same-length-2
-same-length-2 c = (c .before .before .before .before .before .before .finish) .ensures .kept .roomy ∙ sym ((c .before .before .before .before .before .before .before .before .before .before .before .before .before .before .before .before .before .before .before .before .before .before .before .before .before .before .before .before .before .before .before .before .before .pre) .0 .roomy)
+same-length-2 c =
+    let back10 = c .before .before .before .before .before .before .before .before .before .before in
+    let back20 = back10 .before .before .before .before .before .before .before .before .before .before in
+    let back30 = back20 .before .before .before .before .before .before .before .before .before .before in
+    let finish = c .before .before .before .before .before .before .finish in
+    let pre = back30 .before .before .before .pre in
+    finish.ensures.kept.roomy ∙ sym pre.0.roomy
 
 -- src/signature.rt:190:1
 same-length-3 : tie.Need-same-length-3
-same-length-3 c = (c .before .before .before .before .before .before .before .before .before .before .before .before .before .before .before .before .before .before .before .before .before .list-steps) .ensures .noted .size ∙ sym ((c .before .before .before .before .before .before .before .before .before .before .before .before .before .before .before .before .before .before .before .before .before .before .before .before .before .before .before .before .before .before .before .before .before .pre) .1 .0 .size)
+same-length-3 c =
+    let back10 = c .before .before .before .before .before .before .before .before .before .before in
+    let back20 = back10 .before .before .before .before .before .before .before .before .before .before in
+    let back30 = back20 .before .before .before .before .before .before .before .before .before .before in
+    let list-steps = back20 .before .list-steps in
+    let pre = back30 .before .before .before .pre in
+    list-steps.ensures.noted.size ∙ sym pre.1.0.size
 
 -- src/signature.rt:190:1
 same-length-4 : tie.Need-same-length-4
-same-length-4 c = (c .before .before .before .before .before .before .finish) .ensures .size ∙ (c .before .before .before .before .before .before .before .before .before .before .before .before .before .before .before .before .before .before .before .before .before .list-steps) .ensures .size
+same-length-4 c =
+    let back10 = c .before .before .before .before .before .before .before .before .before .before in
+    let back20 = back10 .before .before .before .before .before .before .before .before .before .before in
+    let finish = c .before .before .before .before .before .before .finish in
+    let list-steps = back20 .before .list-steps in
+    finish.ensures.size ∙ list-steps.ensures.size
 
 -- src/signature.rt:190:1
 returns : tie.Need-returns
-returns c = signed-whole ((c .before .before .before .before .before .before .before .before .before .before .before .before .before .before .before .before .before .before .before .before .before .before .before .before .before .before .before .before .before .before .before .before .before .args) .graph .now) ((c .before .before .before .before .before .before .before .before .before .before .before .before .before .before .before .before .before .before .before .before .before .before .before .before .before .before .before .before .before .before .before .before .before .args) .edges .now) ((c .before .before .before .before .before .before .before .before .before .before .before .before .before .before .before .before .before .before .before .before .before .before .before .before .before .before .before .before .before .before .before .before .before .args) .names .now) ((c .before .before .before .before .before .before .before .before .before .before .before .before .before .before .before .before .before .before .before .before .before .before .before .before .before .before .before .before .before .before .before .before .before .args) .x) ((c .before .before .before .before .before .before .before .before .before .before .before .before .before .before .before .before .before .before .before .before .before .before .before .before .before .before .before .before .before .before .before .before .before .args) .index .now) ((c .before .before .before .before .before .before .before .before .before .before .before .before .before .before .before .before .before .before .before .before .before .before .before .before .before .before .before .before .before .before .before .before .before .args) .numbers .now) ((c .before .before .before .before .before .before .before .before .before .before .before .before .before .before .before .before .before .before .before .before .before .before .before .before .before .before .before .before .before .before .before .before .before .args) .list .now) ((c .before .before .before .before .before .before .before .before .before .before .before .before .before .before .before .before .before .before .before .before .before .list-steps) .last .1 .1 .1 .1 .0) ((c .before .before .before .before .before .before .before .before .before .before .before .before .before .before .before .before .before .before .before .before .before .list-steps) .last .1 .1 .1 .1 .1 .0) ((c .before .before .before .before .before .before .before .before .before .before .before .before .before .before .before .before .before .before .before .before .before .list-steps) .last .1 .1 .1 .1 .1 .1 .0) ((c .before .before .before .before .before .before .before .before .before .before .before .before .before .before .before .before .before .before .before .before .before .list-steps) .last .1 .1 .1 .1 .1 .1 .1 .0) ((c .before .before .before .before .before .before .before .before .before .before .before .steps) .given .0 .0)
-    ((c .before .before .before .before .before .before .finish) .last .1 .1 .1 .0) ((c .before .before .before .before .before .before .finish) .last .1 .1 .1 .1 .0) ((c .before .before .before .before .before .before .finish) .last .1 .1 .1 .1 .1 .0) ((c .before .before .before .before .before .before .finish) .result)
-    (rw ((c .before .before .before .before .before .before .before .before .before .before .before .steps) .given .1) at ((c .before .before .before .before .before .before .before .before .before .before .before .before .before .before .before .before .before .before .before .before .before .list-steps) .ensures)) ((c .before .before .before .before .before .before .finish) .ensures)
+returns c =
+    let back10 = c .before .before .before .before .before .before .before .before .before .before in
+    let back20 = back10 .before .before .before .before .before .before .before .before .before .before in
+    let back30 = back20 .before .before .before .before .before .before .before .before .before .before in
+    let args = back30 .before .before .before .args in
+    let list-steps = back20 .before .list-steps in
+    let steps = back10 .before .steps in
+    let finish = c .before .before .before .before .before .before .finish in
+    signed-whole args.graph.now args.edges.now args.names.now args.x args.index.now args.numbers.now args.list.now list-steps.last.1.1.1.1.0
+    list-steps.last.1.1.1.1.1.0 list-steps.last.1.1.1.1.1.1.0 list-steps.last.1.1.1.1.1.1.1.0 steps.given.0.0 finish.last.1.1.1.0
+    finish.last.1.1.1.1.0 finish.last.1.1.1.1.1.0 finish.result (rw steps.given.1 at list-steps.ensures) finish.ensures
 
 -- src/signature.rt:190:1
 same-length-5 : tie.Need-same-length-5
-same-length-5 c = (c .before .before .before .before .before .before .before .before .before .before .list-steps) .ensures .kept .indexed ∙ sym ((c .before .before .before .before .before .before .before .before .before .before .before .before .before .before .before .before .before .before .before .before .before .before .pre) .0 .indexed)
+same-length-5 c =
+    let back10 = c .before .before .before .before .before .before .before .before .before .before in
+    let back20 = back10 .before .before .before .before .before .before .before .before .before .before in
+    let list-steps = back10 .list-steps in
+    let pre = back20 .before .before .pre in
+    list-steps.ensures.kept.indexed ∙ sym pre.0.indexed
 
 -- src/signature.rt:190:1
 same-length-6 : tie.Need-same-length-6
-same-length-6 c = (c .before .before .before .before .before .before .before .before .before .before .list-steps) .ensures .kept .roomy ∙ sym ((c .before .before .before .before .before .before .before .before .before .before .before .before .before .before .before .before .before .before .before .before .before .before .pre) .0 .roomy)
+same-length-6 c =
+    let back10 = c .before .before .before .before .before .before .before .before .before .before in
+    let back20 = back10 .before .before .before .before .before .before .before .before .before .before in
+    let list-steps = back10 .list-steps in
+    let pre = back20 .before .before .pre in
+    list-steps.ensures.kept.roomy ∙ sym pre.0.roomy
 
 -- src/signature.rt:190:1
 same-length-7 : tie.Need-same-length-7
-same-length-7 c = (c .before .before .before .before .before .before .before .before .before .before .list-steps) .ensures .noted .size ∙ sym ((c .before .before .before .before .before .before .before .before .before .before .before .before .before .before .before .before .before .before .before .before .before .before .pre) .1 .0 .size)
+same-length-7 c =
+    let back10 = c .before .before .before .before .before .before .before .before .before .before in
+    let back20 = back10 .before .before .before .before .before .before .before .before .before .before in
+    let list-steps = back10 .list-steps in
+    let pre = back20 .before .before .pre in
+    list-steps.ensures.noted.size ∙ sym pre.1.0.size
 
 -- src/signature.rt:190:1
 same-length-8 : tie.Need-same-length-8
@@ -67,7 +122,14 @@ same-length-8 c = (c .before .before .before .before .before .before .before .be
 
 -- src/signature.rt:190:1
 returns-2 : tie.Need-returns-2
-returns-2 c = signed-short ((c .before .before .before .before .before .before .before .before .before .before .before .before .before .before .before .before .before .before .before .before .before .before .args) .graph .now) ((c .before .before .before .before .before .before .before .before .before .before .before .before .before .before .before .before .before .before .before .before .before .before .args) .edges .now) ((c .before .before .before .before .before .before .before .before .before .before .before .before .before .before .before .before .before .before .before .before .before .before .args) .names .now) ((c .before .before .before .before .before .before .before .before .before .before .before .before .before .before .before .before .before .before .before .before .before .before .args) .x) ((c .before .before .before .before .before .before .before .before .before .before .before .before .before .before .before .before .before .before .before .before .before .before .args) .index .now) ((c .before .before .before .before .before .before .before .before .before .before .before .before .before .before .before .before .before .before .before .before .before .before .args) .numbers .now) ((c .before .before .before .before .before .before .before .before .before .before .before .before .before .before .before .before .before .before .before .before .before .before .args) .list .now) ((c .before .before .before .before .before .before .before .before .before .before .list-steps) .last .1 .1 .1 .1 .0) ((c .before .before .before .before .before .before .before .before .before .before .list-steps) .last .1 .1 .1 .1 .1 .0) ((c .before .before .before .before .before .before .before .before .before .before .list-steps) .last .1 .1 .1 .1 .1 .1 .0) ((c .before .before .before .before .before .before .before .before .before .before .list-steps) .last .1 .1 .1 .1 .1 .1 .1 .0) (rw ((c .enum-told) .given .1) at ((c .before .before .before .before .before .before .before .before .before .before .list-steps) .ensures))
+returns-2 c =
+    let back10 = c .before .before .before .before .before .before .before .before .before .before in
+    let back20 = back10 .before .before .before .before .before .before .before .before .before .before in
+    let args = back20 .before .before .args in
+    let list-steps = back10 .list-steps in
+    signed-short args.graph.now args.edges.now args.names.now args.x args.index.now args.numbers.now args.list.now list-steps.last.1.1.1.1.0
+    list-steps.last.1.1.1.1.1.0 list-steps.last.1.1.1.1.1.1.0 list-steps.last.1.1.1.1.1.1.1.0
+    (rw ((c .enum-told) .given .1) at list-steps.ensures)
 
 pub signature-spec : {M : Type 1} → statement M
 signature-spec =

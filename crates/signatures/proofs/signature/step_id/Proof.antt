@@ -1,3 +1,4 @@
+-- `step_id` meets its contract. Assumes nothing.
 use Prim.Native.Nat.{ℕ, _+_, _-_, _*_, _/_, _≤_, _<_}
 use mathlib.Core.Path.{_≡_, refl, sym, _∙_, ap, ap₂, subst}
 use native.Mathlib.Omega.{arith}
@@ -30,14 +31,19 @@ array-share-prefix-raw c = search needs
 
 -- src/signature.rt:106:14
 slice-aggregate-noted-id : tie.Need-slice-aggregate-noted-id
-slice-aggregate-noted-id c = sym (length-take-le ((c .before .before .list-landed) .result) ((c .before .before .list-landed) .last .1 .1 .1 .1 .0)
-    (omega (arith, (c .before .before .list-landed) .ensures .0 .few, (c .before .before .list-landed) .ensures .1, length-replicate {A = ℕ} 9 0)))
+slice-aggregate-noted-id c =
+    let list-landed = c .before .before .list-landed in
+    sym (length-take-le list-landed.result list-landed.last.1.1.1.1.0 (omega
+    (arith, list-landed.ensures.0.few, list-landed.ensures.1, length-replicate {A = ℕ} 9 0)))
 
 -- src/signature.rt:106:5
 noted-id-requires : tie.Need-noted-id-requires
-noted-id-requires c κs = let size = length-take-le ((c .before .before .before .before .before .list-landed) .result) ((c .before .before .before .before .before .list-landed) .last .1 .1 .1 .1 .0)
-    (omega (arith, (c .before .before .before .before .before .list-landed) .ensures .0 .few, (c .before .before .before .before .before .list-landed) .ensures .1, length-replicate {A = ℕ} 9 0)) in
-    ((c .before .before .before .before .before .before .before .before .before .before .before .before .before .pre) .0, ((c .before .before .before .before .before .before .before .before .before .before .before .before .before .pre) .1 .0, (omega (arith, size, (c .before .before .before .before .before .list-landed) .ensures .0 .size-is), omega (arith, size, (c .before .before .before .before .before .list-landed) .ensures .0 .few))))
+noted-id-requires c κs =
+    let list-landed = c .before .before .before .before .before .list-landed in
+    let pre = c .before .before .before .before .before .before .before .before .before .before .before .before .before .pre in
+    let size = length-take-le list-landed.result list-landed.last.1.1.1.1.0
+    (omega (arith, list-landed.ensures.0.few, list-landed.ensures.1, length-replicate {A = ℕ} 9 0)) in
+    (pre.0, (pre.1.0, (omega (arith, size, list-landed.ensures.0.size-is), omega (arith, size, list-landed.ensures.0.few))))
 
 -- src/signature.rt:88:1
 same-length : tie.Need-same-length
@@ -54,12 +60,18 @@ same-length-3 c = search needs
 -- src/signature.rt:88:1
 returns : tie.Need-returns
 unfolding stepAt
-returns c = record {
-  interns = subst (λ (l : List ℕ). Interns l ((c .before .before .before .before .before .before .before .before .before .before .before .before .before .before .before .before .before .before .before .before .args) .index .now) ((c .before .before .before .before .before .before .before .before .before .before .before .before .before .before .before .before .before .before .before .before .args) .numbers .now) ((c .before .before .before .before .before .before .noted-id) .last .1 .1 .0) ((c .before .before .before .before .before .before .noted-id) .last .1 .1 .1 .0) ((c .before .before .before .before .before .before .noted-id) .result))
-      (landed-step ((c .before .before .before .before .before .before .before .before .before .before .before .before .list-landed) .ensures .0) ((c .before .before .before .before .before .before .before .before .before .before .before .before .before .before .before .before .before .before .before .before .args) .edges .now)
-      (omega (arith, (c .before .before .before .before .before .before .before .before .before .before .before .before .list-landed) .ensures .0 .few, (c .before .before .before .before .before .before .before .before .before .before .before .before .list-landed) .ensures .1, length-replicate {A = ℕ} 9 0))) ((c .before .before .before .before .before .before .noted-id) .ensures .interns);
-  noted = (c .before .before .before .before .before .before .noted-id) .ensures .noted;
-}
+returns c =
+    let back10 = c .before .before .before .before .before .before .before .before .before .before in
+    let back20 = back10 .before .before .before .before .before .before .before .before .before .before in
+    let args = back20 .args in
+    let noted-id = c .before .before .before .before .before .before .noted-id in
+    let list-landed = back10 .before .before .list-landed in
+    record {
+      interns = subst (λ (l : List ℕ). Interns l args.index.now args.numbers.now noted-id.last.1.1.0 noted-id.last.1.1.1.0 noted-id.result)
+          (landed-step list-landed.ensures.0 args.edges.now
+          (omega (arith, list-landed.ensures.0.few, list-landed.ensures.1, length-replicate {A = ℕ} 9 0))) noted-id.ensures.interns;
+      noted = noted-id.ensures.noted;
+    }
 
 pub step-id-spec : {M : Type 1} → statement M
 step-id-spec =

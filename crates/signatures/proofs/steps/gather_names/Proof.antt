@@ -17,7 +17,8 @@ use Rattle.signatures.proofs.sets.insert.Reads as insert-reads
 use Rattle.signatures.proofs.steps.name_at.Reads as name-at-reads
 
 abbrev Inv-loop : tie.InvT-loop
-Inv-loop raw list₀ count len₀ i₀ list len i = (take len list ≡ setOf (rawNames raw i)) × (len ≤ i) × (length list ≡ length list₀) × (i ≤ length raw - 1)
+Inv-loop raw list₀ count len₀ i₀ list len i =
+    (take len list ≡ setOf (rawNames raw i)) × (len ≤ i) × (length list ≡ length list₀) × (i ≤ length raw - 1)
 
 abbrev μ-loop : tie.MeasureT-loop
 μ-loop raw list₀ count len₀ i₀ list len i = length raw - 1 - i
@@ -40,10 +41,14 @@ name-at-requires c κs = search needs
 
 -- src/steps.rt:68:9
 insert-requires : tie.Need-insert-requires Inv-loop μ-loop
-insert-requires c κs = (
-  (omega (arith, (c .before .name-at) .ensures .1), omega (arith, (c .before .before .before .loop) .inv .1, (c .before .before .before .loop) .inv .2, (c .before .before .loop-test) .taken, (c .before .before .before .before .before .before .pre) .1, (c .before .before .before .before .before .before .pre) .2)),
-  subst Rising (sym ((c .before .before .before .loop) .inv .0)) (set-rises (rawNames ((c .before .before .before .before .before .before .args) .raw .now) ((c .before .before .before .loop) .i))),
-)
+insert-requires c κs =
+    let loop = c .before .before .before .loop in
+    let loop-test = c .before .before .loop-test in
+    let pre = c .before .before .before .before .before .before .pre in
+    let args = c .before .before .before .before .before .before .args in (
+      (omega (arith, (c .before .name-at) .ensures .1), omega (arith, loop.inv.1, loop.inv.2, loop-test.taken, pre.1, pre.2)),
+      subst Rising (sym loop.inv.0) (set-rises (rawNames args.raw.now loop.i)),
+    )
 
 -- src/steps.rt:69:13
 add-i : tie.Need-add-i Inv-loop μ-loop
@@ -55,14 +60,18 @@ loop-less c = search needs
 
 -- src/steps.rt:67:5
 loop-again : tie.Need-loop-again Inv-loop μ-loop
-loop-again c = (
-  (c .before .before .insert) .ensures .put ∙ ap (putIn ((c .before .before .before .before .name-at) .result)) ((c .before .before .before .before .before .before .loop) .inv .0)
-      ∙ ap (λ (k : ℕ). putIn k (setOf (rawNames ((c .before .before .before .before .before .before .before .before .before .args) .raw .now) ((c .before .before .before .before .before .before .loop) .i)))) ((c .before .before .before .before .name-at) .ensures .0)
-      ∙ sym (ap (λ (k : ℕ). setOf (rawNames ((c .before .before .before .before .before .before .before .before .before .args) .raw .now) k)) (add-one ((c .before .before .before .before .before .before .loop) .i))),
-  omega (arith, (c .before .before .insert) .ensures .short, (c .before .before .before .before .before .before .loop) .inv .1),
-  (c .before .before .insert) .ensures .size ∙ (c .before .before .before .before .before .before .loop) .inv .2,
-  omega (arith, (c .before .before .before .before .before .loop-test) .taken),
-)
+loop-again c =
+    let insert = c .before .before .insert in
+    let name-at = c .before .before .before .before .name-at in
+    let loop = c .before .before .before .before .before .before .loop in
+    let args = c .before .before .before .before .before .before .before .before .before .args in
+    let loop-test = c .before .before .before .before .before .loop-test in (
+      insert.ensures.put ∙ ap (putIn name-at.result) loop.inv.0 ∙ ap (λ (k : ℕ). putIn k (setOf (rawNames args.raw.now loop.i)))
+          name-at.ensures.0 ∙ sym (ap (λ (k : ℕ). setOf (rawNames args.raw.now k)) (add-one loop.i)),
+      omega (arith, insert.ensures.short, loop.inv.1),
+      insert.ensures.size ∙ loop.inv.2,
+      omega (arith, loop-test.taken),
+    )
 
 -- src/steps.rt:59:1
 same-length : tie.Need-same-length Inv-loop μ-loop
@@ -70,8 +79,12 @@ same-length c = (c .before .loop) .inv .2
 
 -- src/steps.rt:59:1
 returns : tie.Need-returns Inv-loop μ-loop
-returns c = let whole : (c .before .loop) .i ≡ length ((c .before .before .before .before .args) .raw .now) - 1 = omega (arith, (c .before .loop) .inv .3, (c .loop-test) .left) in
-    ((c .before .loop) .inv .0 ∙ ap (λ (k : ℕ). setOf (rawNames ((c .before .before .before .before .args) .raw .now) k)) whole, omega (arith, (c .before .loop) .inv .1, (c .before .loop) .inv .3, (c .before .before .before .before .pre) .1), (c .before .loop) .inv .2)
+returns c =
+    let loop = c .before .loop in
+    let args = c .before .before .before .before .args in
+    let pre = c .before .before .before .before .pre in
+    let whole : loop.i ≡ length args.raw.now - 1 = omega (arith, loop.inv.3, (c .loop-test) .left) in
+    (loop.inv.0 ∙ ap (λ (k : ℕ). setOf (rawNames args.raw.now k)) whole, omega (arith, loop.inv.1, loop.inv.3, pre.1), loop.inv.2)
 
 pub gather-names-spec : {M : Type 1} → statement M
 gather-names-spec =

@@ -1,3 +1,4 @@
+-- `landed_at` meets its contract. Assumes nothing.
 use Prim.Native.Nat.{ℕ, _+_, _-_, _*_, _/_, _%_, _≤_, _<_}
 use mathlib.Core.Path.{_≡_, refl, sym, _∙_, ap, subst}
 use lib.ListN.{length, getD, set, take}
@@ -25,11 +26,13 @@ name-at-requires c κs = search needs
 
 -- src/steps.rt:28:1
 returns : tie.Need-returns
-returns c = (
-  (c .name-at) .ensures .0 ∙ ap (λ (k : ℕ). getD ((c .before .before .before .before .before .args) .names .now) k 0) ((c .before .landing-of) .ensures .0
-      ∙ ap (landingOf ((c .before .before .before .before .before .args) .graph .now) ((c .before .before .before .before .before .args) .class)) ((c .before .before .branch-slot) .ensures .0)),
-  (c .name-at) .ensures .1,
-)
+returns c =
+    let args = c .before .before .before .before .before .args in
+    let branch-slot = c .before .before .branch-slot in (
+      (c .name-at) .ensures .0 ∙ ap (λ (k : ℕ). getD args.names.now k 0) ((c .before .landing-of) .ensures .0
+          ∙ ap (landingOf args.graph.now args.class) branch-slot.ensures.0),
+      (c .name-at) .ensures .1,
+    )
 
 pub landed-at-spec : {M : Type 1} → statement M
 landed-at-spec =

@@ -18,7 +18,8 @@ use Rattle.graph.proofs.branch_count.Reads as branch-count-reads
 use Rattle.signatures.proofs.steps.landed_at.Reads as landed-at-reads
 
 abbrev Inv-loop : tie.InvT-loop
-Inv-loop edge class graph names raw₀ count i₀ raw i = (rawEdge raw ≡ edge) × ((j : ℕ) → j < i → getD raw (1 + j) 0 ≡ nameOf names (landingOf graph class (branchSlot graph edge j)))
+Inv-loop edge class graph names raw₀ count i₀ raw i =
+    (rawEdge raw ≡ edge) × ((j : ℕ) → j < i → getD raw (1 + j) 0 ≡ nameOf names (landingOf graph class (branchSlot graph edge j)))
     × (length raw ≡ length raw₀) × (i ≤ count)
 
 abbrev μ-loop : tie.MeasureT-loop
@@ -38,7 +39,10 @@ slice-write-raw c = search needs
 
 -- src/steps.rt:51:5
 loop-holds : tie.Need-loop-holds Inv-loop μ-loop
-loop-holds c = (getD-set-same ((c .before .before .before .before .args) .raw .now) 0 ((c .before .before .before .before .args) .edge) 0 (omega (arith, (c .before .before .before .before .pre) .1)), λ j h. absurd (omega arith), refl, omega arith)
+loop-holds c =
+    let args = c .before .before .before .before .args in
+    let pre = c .before .before .before .before .pre in
+    (getD-set-same args.raw.now 0 args.edge 0 (omega (arith, pre.1)), λ j h. absurd (omega arith), refl, omega arith)
 
 -- src/steps.rt:52:22
 landed-at-requires : tie.Need-landed-at-requires Inv-loop μ-loop
@@ -58,7 +62,12 @@ mul-raw c = search needs
 
 -- src/steps.rt:52:9
 slice-write-raw-2 : tie.Need-slice-write-raw-2 Inv-loop μ-loop
-slice-write-raw-2 c = omega (arith, (c .before .before .loop) .inv .2, length-set ((c .before .before .before .before .before .before .before .args) .raw .now) 0 ((c .before .before .before .before .before .before .before .args) .edge), (c .before .loop-test) .taken, (c .before .before .before .branch-count) .ensures .1, (c .before .before .before .before .before .before .before .pre) .1)
+slice-write-raw-2 c =
+    let loop = c .before .before .loop in
+    let args = c .before .before .before .before .before .before .before .args in
+    let branch-count = c .before .before .before .branch-count in
+    let pre = c .before .before .before .before .before .before .before .pre in
+    omega (arith, loop.inv.2, length-set args.raw.now 0 args.edge, (c .before .loop-test) .taken, branch-count.ensures.1, pre.1)
 
 -- src/steps.rt:53:13
 add-i : tie.Need-add-i Inv-loop μ-loop
@@ -70,10 +79,16 @@ loop-less c = search needs
 
 -- src/steps.rt:51:5
 loop-again : tie.Need-loop-again Inv-loop μ-loop
-loop-again c = let on = landed-on ((c .before .before .before .before .before .before .before .args) .graph .now) ((c .before .before .before .before .before .before .before .args) .names .now) ((c .before .before .before .before .before .before .before .args) .edge) ((c .before .before .before .before .before .before .before .args) .class) ((c .before .before .loop) .raw) ((c .before .before .loop) .i) ((c .landed-at) .result)
-    (omega (arith, (c .before .before .loop) .inv .2, length-set ((c .before .before .before .before .before .before .before .args) .raw .now) 0 ((c .before .before .before .before .before .before .before .args) .edge), (c .before .loop-test) .taken, (c .before .before .before .branch-count) .ensures .1, (c .before .before .before .before .before .before .before .pre) .1))
-    ((c .before .before .loop) .inv .0) ((c .before .before .loop) .inv .1) ((c .landed-at) .ensures .0) in
-    (on .0, on .1, length-set ((c .before .before .loop) .raw) (1 + (c .before .before .loop) .i) ((c .landed-at) .result) ∙ (c .before .before .loop) .inv .2, omega (arith, (c .before .loop-test) .taken))
+loop-again c =
+    let args = c .before .before .before .before .before .before .before .args in
+    let loop = c .before .before .loop in
+    let loop-test = c .before .loop-test in
+    let branch-count = c .before .before .before .branch-count in
+    let pre = c .before .before .before .before .before .before .before .pre in
+    let on = landed-on args.graph.now args.names.now args.edge args.class loop.raw loop.i ((c .landed-at) .result)
+    (omega (arith, loop.inv.2, length-set args.raw.now 0 args.edge, loop-test.taken, branch-count.ensures.1, pre.1)) loop.inv.0 loop.inv.1
+    ((c .landed-at) .ensures .0) in
+    (on .0, on .1, length-set loop.raw (1 + loop.i) ((c .landed-at) .result) ∙ loop.inv.2, omega (arith, loop-test.taken))
 
 -- src/steps.rt:55:5
 add-result : tie.Need-add-result Inv-loop μ-loop
@@ -81,19 +96,24 @@ add-result c = search needs
 
 -- src/steps.rt:37:1
 same-length : tie.Need-same-length Inv-loop μ-loop
-same-length c = (c .before .loop) .inv .2 ∙ length-set ((c .before .before .before .before .before .before .args) .raw .now) 0 ((c .before .before .before .before .before .before .args) .edge)
+same-length c =
+    let args = c .before .before .before .before .before .before .args in
+    (c .before .loop) .inv .2 ∙ length-set args.raw.now 0 args.edge
 
 -- src/steps.rt:37:1
 returns : tie.Need-returns Inv-loop μ-loop
-returns c = (
-  record {
-    edge-is = (c .before .loop) .inv .0;
-    size-is = ap (λ (k : ℕ). k + 1) ((c .before .before .branch-count) .ensures .0);
-    few = omega (arith, (c .before .before .branch-count) .ensures .1);
-    names-are = λ i h. (c .before .loop) .inv .1 i (omega (arith, h, (c .before .before .branch-count) .ensures .0, (c .loop-test) .left));
-  },
-  (c .before .loop) .inv .2 ∙ length-set ((c .before .before .before .before .before .before .args) .raw .now) 0 ((c .before .before .before .before .before .before .args) .edge),
-)
+returns c =
+    let loop = c .before .loop in
+    let branch-count = c .before .before .branch-count in
+    let args = c .before .before .before .before .before .before .args in (
+      record {
+        edge-is = loop.inv.0;
+        size-is = ap (λ (k : ℕ). k + 1) branch-count.ensures.0;
+        few = omega (arith, branch-count.ensures.1);
+        names-are = λ i h. loop.inv.1 i (omega (arith, h, branch-count.ensures.0, (c .loop-test) .left));
+      },
+      loop.inv.2 ∙ length-set args.raw.now 0 args.edge,
+    )
 
 pub list-landed-spec : {M : Type 1} → statement M
 list-landed-spec =

@@ -1,3 +1,4 @@
+-- `mass_at` meets its contract. Assumes nothing.
 use Prim.Native.Nat.{ℕ, _+_, _-_, _*_, _/_, _%_, _≤_, _<_}
 use mathlib.Core.Path.{_≡_, refl, sym, _∙_, ap, ap₂, subst}
 use native.Mathlib.Omega.{arith}
@@ -25,11 +26,12 @@ name-at-requires c κs = search needs
 
 -- src/steps.rt:83:9
 returns : tie.Need-returns
-returns c = (
-  sym (ap (λ (b : Bool). cond b (lowOf ((c .before .before .before .before .args) .edges .now) (rawEdge ((c .before .before .before .before .args) .raw .now)) ((c .before .before .before .before .args) .branch)) 0)
-      (ne-eqb (getD ((c .before .before .before .before .args) .raw .now) (1 + (c .before .before .before .before .args) .branch) 0) ((c .before .before .before .before .args) .name) (λ e. (c .if1) .taken ((c .before .name-at) .ensures .0 ∙ e)))),
-  omega arith,
-)
+returns c =
+    let args = c .before .before .before .before .args in (
+      sym (ap (λ (b : Bool). cond b (lowOf args.edges.now (rawEdge args.raw.now) args.branch) 0)
+          (ne-eqb (getD args.raw.now (1 + args.branch) 0) args.name (λ e. (c .if1) .taken ((c .before .name-at) .ensures .0 ∙ e)))),
+      omega arith,
+    )
 
 -- src/steps.rt:85:26
 name-at-requires-2 : tie.Need-name-at-requires-2
@@ -41,12 +43,15 @@ low-of-requires c κs = search needs
 
 -- src/steps.rt:77:1
 returns-2 : tie.Need-returns-2
-returns-2 c = (
-  (c .low-of) .ensures .0 ∙ ap (λ (k : ℕ). lowOf ((c .before .before .before .before .before .before .args) .edges .now) k ((c .before .before .before .before .before .before .args) .branch)) ((c .before .name-at2) .ensures .0)
-      ∙ sym (ap (λ (b : Bool). cond b (lowOf ((c .before .before .before .before .before .before .args) .edges .now) (rawEdge ((c .before .before .before .before .before .before .args) .raw .now)) ((c .before .before .before .before .before .before .args) .branch)) 0)
-      (eq-eqb (getD ((c .before .before .before .before .before .before .args) .raw .now) (1 + (c .before .before .before .before .before .before .args) .branch) 0) ((c .before .before .before .before .before .before .args) .name) (sym ((c .before .before .before .name-at) .ensures .0) ∙ (c .before .before .if1) .left))),
-  (c .low-of) .ensures .1,
-)
+returns-2 c =
+    let args = c .before .before .before .before .before .before .args in
+    let name-at = c .before .before .before .name-at in
+    let if1 = c .before .before .if1 in (
+      (c .low-of) .ensures .0 ∙ ap (λ (k : ℕ). lowOf args.edges.now k args.branch) ((c .before .name-at2) .ensures .0)
+          ∙ sym (ap (λ (b : Bool). cond b (lowOf args.edges.now (rawEdge args.raw.now) args.branch) 0)
+          (eq-eqb (getD args.raw.now (1 + args.branch) 0) args.name (sym name-at.ensures.0 ∙ if1.left))),
+      (c .low-of) .ensures .1,
+    )
 
 pub mass-at-spec : {M : Type 1} → statement M
 mass-at-spec =

@@ -33,7 +33,10 @@ mass-at-requires c κs = omega (arith, (c .loop-test) .taken, (c .before .before
 
 -- src/steps.rt:98:15
 add-sum : tie.Need-add-sum Inv-loop μ-loop
-add-sum c = omega (arith, (c .mass-at) .ensures .1, (c .before .before .loop) .inv .1, (c .before .loop-test) .taken, (c .before .before .before .before .before .pre) .1)
+add-sum c =
+    let loop = c .before .before .loop in
+    let pre = c .before .before .before .before .before .pre in
+    omega (arith, (c .mass-at) .ensures .1, loop.inv.1, (c .before .loop-test) .taken, pre.1)
 
 -- src/steps.rt:99:13
 add-i : tie.Need-add-i Inv-loop μ-loop
@@ -45,18 +48,24 @@ loop-less c = search needs
 
 -- src/steps.rt:97:5
 loop-again : tie.Need-loop-again Inv-loop μ-loop
-loop-again c = (
-  mass-on ((c .before .before .before .before .before .args) .edges .now) ((c .before .before .before .before .before .args) .raw .now) ((c .before .before .before .before .before .args) .name) ((c .before .before .loop) .i) ((c .mass-at) .result) ((c .before .before .loop) .sum) ((c .mass-at) .ensures .0) ((c .before .before .loop) .inv .0),
-  omega (arith, (c .mass-at) .ensures .1, (c .before .before .loop) .inv .1),
-  omega (arith, (c .before .loop-test) .taken),
-)
+loop-again c =
+    let args = c .before .before .before .before .before .args in
+    let loop = c .before .before .loop in (
+      mass-on args.edges.now args.raw.now args.name loop.i ((c .mass-at) .result) loop.sum ((c .mass-at) .ensures .0) loop.inv.0,
+      omega (arith, (c .mass-at) .ensures .1, loop.inv.1),
+      omega (arith, (c .before .loop-test) .taken),
+    )
 
 -- src/steps.rt:89:1
 returns : tie.Need-returns Inv-loop μ-loop
-returns c = let whole : (c .before .loop) .i ≡ length ((c .before .before .before .before .args) .raw .now) - 1 = omega (arith, (c .before .loop) .inv .2, (c .loop-test) .left) in (
-  (c .before .loop) .inv .0 ∙ ap (λ (k : ℕ). massOf ((c .before .before .before .before .args) .name) (rawBranches ((c .before .before .before .before .args) .edges .now) ((c .before .before .before .before .args) .raw .now) k)) whole,
-  omega (arith, (c .before .loop) .inv .1, (c .before .loop) .inv .2, (c .before .before .before .before .pre) .1, (c .before .before .before .before .pre) .0),
-)
+returns c =
+    let loop = c .before .loop in
+    let args = c .before .before .before .before .args in
+    let pre = c .before .before .before .before .pre in
+    let whole : loop.i ≡ length args.raw.now - 1 = omega (arith, loop.inv.2, (c .loop-test) .left) in (
+      loop.inv.0 ∙ ap (λ (k : ℕ). massOf args.name (rawBranches args.edges.now args.raw.now k)) whole,
+      omega (arith, loop.inv.1, loop.inv.2, pre.1, pre.0),
+    )
 
 pub mass-of-spec : {M : Type 1} → statement M
 mass-of-spec =

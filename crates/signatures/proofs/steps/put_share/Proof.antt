@@ -1,3 +1,4 @@
+-- `put_share` meets its contract. Assumes nothing.
 use Prim.Native.Nat.{ℕ, _+_, _-_, _*_, _/_, _%_, _≤_, _<_}
 use mathlib.Core.Path.{_≡_, refl, sym, _∙_, ap, ap₂, subst}
 use native.Mathlib.Omega.{arith}
@@ -15,12 +16,13 @@ use Rattle.signatures.proofs.shares.low_share.Reads as low-share-reads
 
 -- src/steps.rt:100:9
 returns : tie.Need-returns
-returns c = (
-  sym (ap (λ (r : List ℕ). take ((c .before .before .args) .at) ((c .before .before .args) .list .now) ++ r) (entry-none ((c .before .before .args) .name) ((c .before .before .args) .mass) ((c .before .before .args) .denominator) ((c .if1) .taken))
-      ∙ append-nil (take ((c .before .before .args) .at) ((c .before .before .args) .list .now))),
-  omega arith,
-  refl,
-)
+returns c =
+    let args = c .before .before .args in (
+      sym (ap (λ (r : List ℕ). take args.at args.list.now ++ r) (entry-none args.name args.mass args.denominator ((c .if1) .taken))
+          ∙ append-nil (take args.at args.list.now)),
+      omega arith,
+      refl,
+    )
 
 -- src/steps.rt:102:16
 cast-list : tie.Need-cast-list
@@ -84,13 +86,17 @@ same-length c = simp length-set refl
 
 -- src/steps.rt:94:1
 returns-2 : tie.Need-returns-2
-returns-2 c = (
-  three-more ((c .before .before .before .before .args) .list .now) ((c .before .before .before .before .args) .at) ((c .before .before .before .before .args) .name) ((c .before .high-share) .result) ((c .low-share) .result) ((c .before .before .before .before .pre) .3)
-      ∙ ap (λ (r : List ℕ). take ((c .before .before .before .before .args) .at) ((c .before .before .before .before .args) .list .now) ++ r) (ap₂ (λ (h l : ℕ). (c .before .before .before .before .args) .name ∷ h ∷ l ∷ []) ((c .before .high-share) .ensures .0) ((c .low-share) .ensures .0)
-      ∙ sym (entry-some ((c .before .before .before .before .args) .name) ((c .before .before .before .before .args) .mass) ((c .before .before .before .before .args) .denominator) ((c .before .before .if1) .left))),
-  omega arith,
-  simp length-set refl,
-)
+returns-2 c =
+    let args = c .before .before .before .before .args in
+    let high-share = c .before .high-share in
+    let pre = c .before .before .before .before .pre in
+    let if1 = c .before .before .if1 in (
+      three-more args.list.now args.at args.name high-share.result ((c .low-share) .result) pre.3
+          ∙ ap (λ (r : List ℕ). take args.at args.list.now ++ r) (ap₂ (λ (h l : ℕ). args.name ∷ h ∷ l ∷ []) high-share.ensures.0
+          ((c .low-share) .ensures .0) ∙ sym (entry-some args.name args.mass args.denominator if1.left)),
+      omega arith,
+      simp length-set refl,
+    )
 
 pub put-share-spec : {M : Type 1} → statement M
 put-share-spec =

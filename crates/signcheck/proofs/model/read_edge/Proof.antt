@@ -15,7 +15,8 @@ use Rattle.signcheck.proofs.input.number.Reads as number-reads
 use Rattle.signcheck.proofs.model.read_branch.Reads as read-branch-reads
 
 abbrev Inv-loop : tie.InvT-loop
-Inv-loop e location graph₀ edges₀ action denominator count i₀ graph edges i = (length graph ≡ length graph₀) × (length edges ≡ length edges₀)
+Inv-loop e location graph₀ edges₀ action denominator count i₀ graph edges i =
+    (length graph ≡ length graph₀) × (length edges ≡ length edges₀)
 
 abbrev μ-loop : tie.MeasureT-loop
 μ-loop e location graph₀ edges₀ action denominator count i₀ graph edges i = count - i

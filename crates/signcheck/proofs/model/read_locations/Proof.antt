@@ -14,7 +14,8 @@ use Rattle.signcheck.proofs.input.number.Reads as number-reads
 use Rattle.signcheck.proofs.model.read_edges.Reads as read-edges-reads
 
 abbrev Inv-loop : tie.InvT-loop
-Inv-loop graph₀ edges₀ count edge₀ location₀ graph edges edge location = (length graph ≡ length graph₀) × (length edges ≡ length edges₀) × (edge < 65536)
+Inv-loop graph₀ edges₀ count edge₀ location₀ graph edges edge location =
+    (length graph ≡ length graph₀) × (length edges ≡ length edges₀) × (edge < 65536)
 
 abbrev μ-loop : tie.MeasureT-loop
 μ-loop graph₀ edges₀ count edge₀ location₀ graph edges edge location = count - location

@@ -1,3 +1,4 @@
+-- `run_naming` meets its contract. Assumes nothing.
 use Prim.Native.Nat.{ℕ, _+_, _-_, _*_, _≤_, _<_}
 use mathlib.Core.Path.{_≡_, refl, sym, _∙_}
 use native.Mathlib.Omega.{arith}
@@ -30,7 +31,11 @@ array-share-prefix-room c = search needs
 
 -- src/naming.rt:154:9
 slice-aggregate-names : tie.Need-slice-aggregate-names
-slice-aggregate-names c = sym (length-take-le (2 * (c .before .before .before .before .before .before .args) .n) ((c .before .before .read-names) .last .1 .1 .0) (omega (arith, (c .before .room2) .given, (c .before .before .before .before .before .before .pre), length-replicate {A = ℕ} 8192 0)))
+slice-aggregate-names c =
+    let args = c .before .before .before .before .before .before .args in
+    let read-names = c .before .before .read-names in
+    let pre = c .before .before .before .before .before .before .pre in
+    sym (length-take-le (2 * args.n) read-names.last.1.1.0 (omega (arith, (c .before .room2) .given, pre, length-replicate {A = ℕ} 8192 0)))
 
 -- src/naming.rt:155:40
 slice-aggregate-run-passes : tie.Need-slice-aggregate-run-passes

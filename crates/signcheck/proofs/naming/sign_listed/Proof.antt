@@ -1,3 +1,4 @@
+-- `sign_listed` meets its contract. Assumes nothing.
 use Prim.Native.Nat.{ℕ, _+_, _-_, _*_, _≤_, _<_}
 use mathlib.Core.Path.{_≡_, refl, sym, _∙_}
 use native.Mathlib.Omega.{arith}
@@ -16,7 +17,10 @@ slice-relend-prefix-items c = search needs
 
 -- src/naming.rt:99:9
 slice-aggregate-items : tie.Need-slice-aggregate-items
-slice-aggregate-items c = sym (length-take-le ((c .before .before .before .before .before .args) .count) ((c .before .before .before .before .before .args) .ids .now) (c .before .before .before .before .before .pre))
+slice-aggregate-items c =
+    let args = c .before .before .before .before .before .args in
+    let pre = c .before .before .before .before .before .pre in
+    sym (length-take-le args.count args.ids.now pre)
 
 -- src/naming.rt:104:9
 slice-aggregate-sign : tie.Need-slice-aggregate-sign
