@@ -7,6 +7,7 @@
 --   Matches    the conditions computed over a block list are the conditions
 --   Blocks     block lists tell the rounds; the count of rounds; the last blocks are the coarsest bisimulation
 --   Judging    a proposal is accepted exactly when it is a bisimulation; comparing with the first item is enough
+--   Agree      structures that agree have equal rounds, blocks and judgements
 --   Deciding   the last blocks decide which placed items some bisimulation relates
 pub mod Shares
 pub mod Rounds
@@ -16,4 +17,5 @@ pub mod Leads
 pub mod Matches
 pub mod Blocks
 pub mod Judging
+pub mod Agree
 pub mod Deciding

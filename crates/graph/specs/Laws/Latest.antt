@@ -5,8 +5,8 @@ use native.Mathlib.Nat.{eq-or-lt-of-le}
 use mathlib.Core.Path.{_≡_, refl, sym, _∙_, ap, subst}
 use mathlib.Core.Bool.{Bool, true, false, cond, false≢true}
 use mathlib.Core.Logic.{_⊎_, inl, inr, ⊎-elim}
-use lib.Dec.{eqb}
-use borrow.Author.Tests.{eqb-true, eqb-false, ne-eqb, eq-eqb}
+use lib.Dec.{eqb, ltb}
+use borrow.Author.Tests.{eqb-true, eqb-false, ne-eqb, eq-eqb, ltb-true, ltb-false}
 use Rattle.graph.specs.Columns.{nothing}
 
 -- The last number below n that passes, or nothing.
@@ -20,6 +20,16 @@ both false = inr refl
 
 pub not-both : (b : Bool) → b ≡ true → b ≡ false → ⊥
 not-both b e f = false≢true (sym f ∙ e)
+
+pub decide : (a b : ℕ) → (a ≡ b) ⊎ (a ≡ b → ⊥)
+decide a b = elim (both (eqb a b)) [ inl e ↦ inl (eqb-true a b e) | inr e ↦ inr (eqb-false a b e) ]
+
+pub cases : (a b : ℕ) → (a < b) ⊎ ((a ≡ b) ⊎ (b < a))
+cases a b =
+    elim (both (ltb a b)) [
+      | inl e ↦ inl (ltb-true a b e)
+      | inr e ↦ inr (⊎-elim (λ (k : b ≡ a). inl (sym k)) (λ (k : b < a). inr k) (eq-or-lt-of-le (ltb-false a b e)))
+    ]
 
 pub latest-none : (p : ℕ → Bool) → latest p 0 ≡ nothing
 unfolding latest

@@ -17,7 +17,9 @@ use Rattle.graph.specs.Writers.{withLabel, withEdgeStart, withSlotStart,
 use Rattle.graph.specs.Writers.{withWeight, withRegion, withClass, withLocation, withDelay, withAvailableCount, clearedWords}
 use Rattle.graph.specs.Writers.{withNoneAvailable, withAvailable, withClassDelay, withSource, withReset}
 use Rattle.graph.specs.Laws.Columns.{Lent, Kept, apart, kept-same, kept-then, store-length, load-stored, load-other, store-keeps}
-use Rattle.graph.specs.Laws.Latest.{both}
+use mathlib.Core.Logic.{_⊎_, inl, inr}
+use Rattle.graph.specs.Laws.Latest.{decide}
+use Rattle.graph.specs.Laws.Walks.{reset-known, reset-plain, reset-both}
 use Rattle.graph.specs.Laws.Index.{bucket-below}
 
 -- Places within their columns.
@@ -235,3 +237,61 @@ module _ (graph : List ℕ) (class mask after : ℕ) where
   source-keeps other a b i h =
       store-keeps sourceHeads _ (after % mostRegions) (resetNumber class mask) other b (region-below after) i h
       ∙ store-keeps sourceLinks graph (resetNumber class mask) (sourceHead graph after) other a (number-below class mask) i h
+
+class-is : (class mask : ℕ) (graph : List ℕ) (k : ℕ) → load resets graph (16 * (class % mostRegions) + mask % 16) ≡ k → resetClass graph class mask ≡ k
+unfolding resetClass
+class-is class mask graph k e = e
+
+-- A reset that was not known: it is now, and every other reset stays; the columns of the way back change too.
+module _ (graph : List ℕ) (class mask after : ℕ) where
+  reset-ways : (P : List ℕ → Type 0) → P graph → P (store resets graph (16 * (class % mostRegions) + mask % 16) after)
+      → P (withSource (store resets graph (16 * (class % mostRegions) + mask % 16) after) class (mask % 16) after)
+      → P (withReset graph class mask after)
+  reset-ways P old plain new = go (decide (resetClass graph class mask) nothing) (decide (mask % 16) 0)
+    where
+      go : (resetClass graph class mask ≡ nothing) ⊎ (resetClass graph class mask ≡ nothing → ⊥) → (mask % 16 ≡ 0) ⊎ (mask % 16 ≡ 0 → ⊥)
+          → P (withReset graph class mask after)
+      go (inr known) m = subst P (sym (reset-known graph class mask after known)) old
+      go (inl fresh) (inl m) = subst P (sym (reset-plain graph class mask after fresh m)) plain
+      go (inl fresh) (inr m) = subst P (sym (reset-both graph class mask after fresh m)) new
+
+  pub reset-length : length (withReset graph class mask after) ≡ length graph
+  reset-length =
+      reset-ways (λ (g : List ℕ). length g ≡ length graph) refl (store-length resets graph (16 * (class % mostRegions) + mask % 16) after)
+      (source-length (store resets graph (16 * (class % mostRegions) + mask % 16) after) class (mask % 16) after
+      ∙ store-length resets graph (16 * (class % mostRegions) + mask % 16) after)
+
+  pub reset-keeps : (other : Column) → apart resets other ≡ true → apart sourceLinks other ≡ true → apart sourceHeads other ≡ true
+      → Kept other graph (withReset graph class mask after)
+  reset-keeps other a b c =
+      reset-ways (λ (g : List ℕ). Kept other graph g) (kept-same other graph)
+      (store-keeps resets graph (16 * (class % mostRegions) + mask % 16) after other a (reset-below class mask))
+      (kept-then other graph (store resets graph (16 * (class % mostRegions) + mask % 16) after)
+      (withSource (store resets graph (16 * (class % mostRegions) + mask % 16) after) class (mask % 16) after)
+      (store-keeps resets graph (16 * (class % mostRegions) + mask % 16) after other a (reset-below class mask))
+      (source-keeps (store resets graph (16 * (class % mostRegions) + mask % 16) after) class (mask % 16) after other b c))
+
+  pub reset-other : (place : ℕ) → place < 65536 → (place ≡ 16 * (class % mostRegions) + mask % 16 → ⊥)
+      → load resets (withReset graph class mask after) place ≡ load resets graph place
+  reset-other place h differs =
+      let first = load-other resets graph (16 * (class % mostRegions) + mask % 16) after place differs in
+      reset-ways (λ (g : List ℕ). load resets g place ≡ load resets graph place) refl first
+      (source-keeps (store resets graph (16 * (class % mostRegions) + mask % 16) after) class (mask % 16) after resets refl refl place h ∙ first)
+
+  pub reset-stored : resetClass graph class mask ≡ nothing → Lent resets graph → after < 65536 → resetClass (withReset graph class mask after) class mask ≡ after
+  reset-stored fresh lent small = go (decide (mask % 16) 0)
+    where
+      stored : load resets (store resets graph (16 * (class % mostRegions) + mask % 16) after) (16 * (class % mostRegions) + mask % 16) ≡ after
+      stored = load-stored resets graph (16 * (class % mostRegions) + mask % 16) after (reset-below class mask) lent small
+
+      go : (mask % 16 ≡ 0) ⊎ (mask % 16 ≡ 0 → ⊥) → resetClass (withReset graph class mask after) class mask ≡ after
+      go (inl m) = ap (λ (g : List ℕ). resetClass g class mask) (reset-plain graph class mask after fresh m) ∙ class-is class mask _ after stored
+      go (inr m) =
+          ap (λ (g : List ℕ). resetClass g class mask) (reset-both graph class mask after fresh m)
+          ∙ class-is class mask (withSource (store resets graph (16 * (class % mostRegions) + mask % 16) after) class (mask % 16) after) after
+          (source-keeps (store resets graph (16 * (class % mostRegions) + mask % 16) after) class (mask % 16) after resets refl refl
+          (16 * (class % mostRegions) + mask % 16) (reset-below class mask) ∙ stored)
+
+  -- A class that is known stays.
+  pub reset-stays : (resetClass graph class mask ≡ nothing → ⊥) → withReset graph class mask after ≡ graph
+  reset-stays = reset-known graph class mask after
