@@ -6,6 +6,7 @@
 --   Walks      the cases of what the code does step by step
 --   Bounds     what is read is within bounds
 --   Stores     what each writer stores, and what it leaves as it was
+--   Sources    the resets backwards
 pub mod Columns
 pub mod Latest
 pub mod Index
@@ -13,3 +14,4 @@ pub mod Bits
 pub mod Walks
 pub mod Bounds
 pub mod Stores
+pub mod Sources

@@ -2,7 +2,7 @@
 -- be at most.
 use Prim.Native.Nat.{ℕ, zero, suc, _+_, _*_, _-_, _/_, _%_, _^_}
 use mathlib.Core.Bool.{Bool, cond}
-use mathlib.Core.List.{List}
+use mathlib.Core.List.{List, [], _∷_}
 use lib.ListN.{getD}
 use lib.Dec.{eqb}
 use Rattle.graph.specs.Columns.{nothing, load, mostRegions, mostLocations, mostEdges, mostBranches, mostSlots, weightBound, edgePlace}
@@ -123,6 +123,14 @@ sourceHead graph class = load sourceHeads graph (class % mostRegions)
 
 unfoldable pub sourceLink : List ℕ → (reset : ℕ) → ℕ
 sourceLink graph reset = load sourceLinks graph (reset % 61440)
+
+-- The resets that lead to a class, from one on along the links, and all of them. (Any slice may hold a cycle: the walk has so many steps.)
+unfoldable pub sourcesFrom : List ℕ → (steps reset : ℕ) → List ℕ
+sourcesFrom graph zero reset = []
+sourcesFrom graph (suc steps) reset = cond (eqb reset nothing) [] (reset ∷ sourcesFrom graph steps (sourceLink graph reset))
+
+unfoldable pub sourcesOf : List ℕ → (class : ℕ) → List ℕ
+sourcesOf graph class = sourcesFrom graph 61440 (sourceHead graph class)
 
 -- ---- The region of a clock class and a location, by its bucket
 

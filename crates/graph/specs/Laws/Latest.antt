@@ -113,3 +113,22 @@ latest-through p q (suc n) few some =
     off : p n ≡ false → (q n ≡ true) ⊎ (q n ≡ false) → q n ≡ false
     off e (inl t) = absurd (not-both (p n) (some n (omega arith) t) e)
     off e (inr f) = f
+
+-- Every number that passes is at most the latest.
+pub latest-covers : (p : ℕ → Bool) (n t : ℕ) → n ≤ nothing → t < n → p t ≡ true → t ≤ latest p n
+latest-covers p zero t few h is = absurd (omega arith)
+latest-covers p (suc n) t few h is =
+    elim (both (p n)) [
+      | inl e ↦ let here = latest-here p n e in omega (arith, here, h)
+      | inr e ↦ let past = latest-past p n e in
+          let less : t < n = below e (eq-or-lt-of-le (most h)) in
+          let rest = latest-covers p n t (omega arith) less is in
+          omega (arith, past, rest)
+    ]
+  where
+    most : t < suc n → t ≤ n
+    most k = omega arith
+
+    below : p n ≡ false → (t ≡ n) ⊎ (t < n) → t < n
+    below e (inr k) = k
+    below e (inl same) = absurd (not-both (p n) (subst (λ (k : ℕ). p k ≡ true) same is) e)
