@@ -96,7 +96,8 @@ fn store_source(class: usize, mask: usize, after: usize, graph: &mut [u16])
     store(SOURCE_HEADS + after % 4096, reset, graph);
 }
 
-// Notes the clock class after a reset both ways, unless it is known. (A reset noted twice would make a cycle of links.)
+// Notes the clock class after a reset both ways, unless it is known. (A reset noted twice would make a cycle of links. A class is below 4,096:
+// with 65,535 the reset stays unknown, and is noted backwards all the same.)
 pub fn store_reset(class: usize, mask: usize, after: usize, graph: &mut [u16])
     ensures { λ _. ⌜ now (graph .exit) ≡ withReset (now (graph .entry)) class mask after ⌝ }
 {

@@ -25,7 +25,7 @@ fn bucket_of(class: usize, location: usize) -> usize
     (class % 8192 + 1021 * (location % 64)) % 8192
 }
 
-// Returns the last region of a bucket.
+// Returns the last region of the bucket of a clock class and a location.
 fn region_head(graph: &[u16], class: usize, location: usize) -> usize
     ensures { λ r. ⌜ (r ≡ regionHead (now (graph .entry)) class location) × (r < 65536) ⌝ }
 {
@@ -58,7 +58,8 @@ pub fn region_at(graph: &[u16], class: usize, location: usize) -> usize
     NOTHING
 }
 
-// Returns the region where a slot leads from the regions of a clock class, or 65,535 if it is not known.
+// Returns the region where a slot leads from the regions of a clock class, or 65,535 if none was stored
+// with the clock class after the reset.
 pub fn landing_of(graph: &[u16], class: usize, slot: usize) -> usize
     ensures { λ r. ⌜ (r ≡ landingOf (now (graph .entry)) class slot) × (r < 65536) ⌝ }
 {

@@ -52,14 +52,14 @@ pub fn available_word(graph: &[u16], region: usize, word: usize) -> usize
     load(graph, AVAILABLE + (8 * (region % 4096) + word % 8))
 }
 
-// Is bit k of a number set?
+// Is bit k of a word set? (k counts modulo 16.)
 pub fn bit_of(word: usize, k: usize) -> bool
     ensures { λ r. ⌜ r ≡ bitOf word (k % 16) ⌝ }
 {
     (word >> (k % 16)) & 1 == 1
 }
 
-// Sets bit k of a number.
+// Sets bit k of a word. (k counts modulo 16.)
 fn set_bit(word: usize, k: usize) -> usize
     ensures { λ r. ⌜ r ≡ bitOr word (2 ^ (k % 16)) ⌝ }
 {
@@ -94,7 +94,7 @@ pub fn store_available_count(region: usize, count: usize, graph: &mut [u16])
     store(AVAILABLE_COUNTS + region % 4096, count, graph);
 }
 
-// Clears the bits of all ranks.
+// Clears the bits of all ranks. In a fresh slice they are set, so this comes before any rank is marked.
 pub fn clear_available(region: usize, graph: &mut [u16])
     ensures { λ _. ⌜ now (graph .exit) ≡ withNoneAvailable (now (graph .entry)) region ⌝ }
 {

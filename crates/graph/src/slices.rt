@@ -4,12 +4,23 @@ ghost use mathlib.Core.Path.{_≡_};
 ghost use lib.ListN.{getD, set};
 ghost use Rattle.graph.specs.Columns.{nothing};
 
+// How many numbers of the graph slice a call lends, as it needs them; and how many numbers the edge slice has.
+pub const SHORT: usize = 27074;
+
+pub const MIDDLE: usize = 141762;
+
+pub const LONG: usize = 210370;
+
+pub const EDGES: usize = 2304;
+
+// Widens a number.
 fn wide(x: u16) -> usize
     ensures { λ r. ⌜ (r ≡ x) × (r < 65536) ⌝ }
 {
     x as usize
 }
 
+// Widens a number.
 fn wider(x: u32) -> usize
     ensures { λ r. ⌜ (r ≡ x) × (r < 4294967296) ⌝ }
 {

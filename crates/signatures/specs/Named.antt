@@ -17,7 +17,7 @@ use Rattle.signatures.specs.Sets.{setOf, Rising}
 use Rattle.signatures.specs.Dictionary.{indexSize, Dictionary, Interns, entriesOf}
 use Rattle.signatures.specs.Raw.{rawStep}
 use Rattle.signatures.specs.Memo.{memoSize, Noted}
-use Rattle.signatures.specs.Book.{room, At, Different, numbersIn, Shut, Grows}
+use Rattle.signatures.specs.Book.{maxIds, room, At, Different, numbersIn, Shut, Grows}
 use Rattle.signatures.specs.Steps.{nameOf}
 use Rattle.signatures.specs.Signatures.{namesOf, stepsBelow, stepsOf}
 use Rattle.signatures.specs.Structure.{chainFrom, structureOf, stepAt}
@@ -172,6 +172,7 @@ pub record Signing (graph edges names items list index numbers memo list′ item
 pub record Passed (graph edges names items items′ : List ℕ) : Type 0 where
   pub held : List (List ℕ)
   pub different : Different held
+  pub few : length held ≤ maxIds
   pub all : Passing graph edges names items items′ held (length items)
 
 -- The sizes that a pass asks of the memory that it works in, of the names and of the items.

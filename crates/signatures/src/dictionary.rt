@@ -36,14 +36,14 @@ pub(crate) enum Lookup {
     Nothing,
 }
 
-// A number of a list.
+// Widens a number of a list.
 fn wide(x: u32) -> u64
     ensures { λ r. ⌜ (r ≡ x) × (r < 4294967296) ⌝ }
 {
     x as u64
 }
 
-// A number of the index.
+// Returns a number of the index.
 pub(crate) fn load(index: &[u16], at: usize) -> usize
     requires { ⌜ at < length (now index) ⌝ }
     ensures { λ r. ⌜ (r ≡ getD (now (index .entry)) at 0) × (r < 65536) ⌝ }
@@ -51,7 +51,7 @@ pub(crate) fn load(index: &[u16], at: usize) -> usize
     index[at] as usize
 }
 
-// The bucket of a list.
+// Returns the bucket of a list.
 pub(crate) fn hash_of(list: &[u32]) -> usize
     ensures { λ r. ⌜ (r ≡ hashOf (now (list .entry))) × (r < buckets) ⌝ }
 {
@@ -152,7 +152,7 @@ fn add(list: &[u32], index: &mut [u16], numbers: &mut [u32]) -> Interned
     Interned::Id(id)
 }
 
-// The id of a list, which is added where it is not there.
+// Returns the id of a list, which is added if it is not there.
 pub(crate) fn intern(list: &[u32], index: &mut [u16], numbers: &mut [u32]) -> Interned
     requires { ⌜ Dictionary (now index) (now numbers) ⌝ }
     ensures { λ r. ⌜ Interns (now (list .entry)) (now (index .entry)) (now (numbers .entry)) (now (index .exit)) (now (numbers .exit)) r ⌝ }

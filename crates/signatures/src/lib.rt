@@ -1,4 +1,4 @@
-// Signatures of the regions of a graph: equal exactly for regions that the next round relates.
+// Signatures of the regions of a graph over names of blocks.
 mod dictionary;
 mod memo;
 mod sets;

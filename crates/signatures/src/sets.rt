@@ -5,7 +5,7 @@ ghost use lib.ListN.{length, take, getD};
 ghost use Rattle.signatures.specs.Dictionary.{Tells};
 ghost use Rattle.signatures.specs.Sets.{Rising, Place, Shifted, Inserted};
 
-// A number of a set.
+// Returns a number of a set.
 pub(crate) fn at(list: &[u32], i: usize) -> usize
     requires { ⌜ i < length (now list) ⌝ }
     ensures { λ r. ⌜ r ≡ getD (now (list .entry)) i 0 ⌝ }
@@ -13,7 +13,7 @@ pub(crate) fn at(list: &[u32], i: usize) -> usize
     list[i] as usize
 }
 
-// Where a number goes among the first len, from the end.
+// Returns where a number goes among the first len, looking from the end.
 fn place_of(v: usize, len: usize, list: &[u32]) -> usize
     requires { ⌜ len < length (now list) ⌝ }
     ensures { λ r. ⌜ Place v len (now (list .entry)) r ⌝ }

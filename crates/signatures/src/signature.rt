@@ -275,12 +275,13 @@ fn is_roomy(names: &[u16], index: &[u16], numbers: &[u32], memo: &[u16], items: 
     memo.len() == MEMO
 }
 
-// Gives each item of a list the id of its signature over names: equal ids exactly for items that the next round relates. An item whose lists
-// find no room in the dictionary gets 65,535, and is related to none that has an id; the first item always gets one.
+// Gives each item of a list the id of its signature over names. In a closed structure, with items below the count and right ways along the delays,
+// ids are equal exactly for items that the next round relates (`pass-tells`). An item whose lists find no room in the dictionary gets 65,535, and
+// is related to none that has an id (`pass-apart`); the first item always gets one (`pass-first`).
 //
 // names has two halves: the names of the items, and for each item where to go on along its delays. index, numbers and memo are work memory of
-// INDEX, NUMBERS and MEMO numbers: what stood there does not matter, and what stands there afterwards is unspecified. Where they have other
-// sizes, there are more than 4,096 items in the list or more than 8,192 numbers in names, nothing is done and the answer is false.
+// INDEX, NUMBERS and MEMO numbers: what stood there does not matter, and what stands there afterwards is unspecified. If they have other sizes,
+// there are more than 4,096 items in the list or more than 8,192 numbers in names, nothing is done and the answer is false.
 pub fn sign(
     graph: &[u16],
     edges: &[u32],

@@ -8,7 +8,7 @@ ghost use Prim.Native.Nat.{_≤_};
 ghost use mathlib.Core.Path.{_≡_};
 ghost use lib.ListN.{length};
 
-// The graph slice of a case before anything is stored.
+// Returns the graph slice of a case, in which nothing is stored yet.
 fn fresh_graph() -> [u16; 210370]
     ensures { λ r. ⌜ 210370 ≡ length r ⌝ }
 {

@@ -6,10 +6,12 @@ use libc::STDOUT_FILENO;
 
 const NOBODY: u16 = 65535;
 
+// Returns a number of a list, or 65,535 past its end.
 fn at(list: &[u16], i: usize) -> u16 {
     if i < list.len() { list[i] } else { NOBODY }
 }
 
+// Stores a number, unless the place is past the end.
 fn put(i: usize, v: u16, list: &mut [u16]) {
     if i < list.len() {
         list[i] = v;
@@ -97,8 +99,8 @@ fn print_all(n: usize, lowest: &[u16]) {
     io::write_all(STDOUT_FILENO, b"\n");
 }
 
-// Gives the listed regions ids.
-fn sign_listed(count: usize, graph: &[u16], edges: &[u32], names: &[u16], ids: &mut [u16])
+// Gives the listed regions ids. Answers false if nothing was done.
+fn sign_listed(count: usize, graph: &[u16], edges: &[u32], names: &[u16], ids: &mut [u16]) -> bool
     requires { ⌜ count ≤ length (now ids) ⌝ }
 {
     let mut index = [0u16; 24578];
@@ -113,7 +115,7 @@ fn sign_listed(count: usize, graph: &[u16], edges: &[u32], names: &[u16], ids: &
         &mut numbers,
         &mut memo,
         items,
-    );
+    )
 }
 
 // Copies the first numbers of a list.
@@ -125,7 +127,7 @@ fn copy(count: usize, from: &[u16], to: &mut [u16]) {
     }
 }
 
-// Gives ids to regions that have no representative yet.
+// Gives ids to regions that have no representative yet. Answers false if there was none, or nothing was done.
 fn run_pass(n: usize, graph: &[u16], edges: &[u32], names: &[u16], lowest: &mut [u16]) -> bool
     requires { ⌜ n ≤ 4096 ⌝ }
 {
@@ -133,7 +135,9 @@ fn run_pass(n: usize, graph: &[u16], edges: &[u32], names: &[u16], lowest: &mut 
     let mut ids = [0u16; 4096];
     let count = list_waiting(n, lowest, &mut items);
     copy(count, &items, &mut ids);
-    sign_listed(count, graph, edges, names, &mut ids);
+    if !sign_listed(count, graph, edges, names, &mut ids) {
+        return false;
+    }
     let mut owners = [65535u16; 8192];
     note_lowest(count, &items, &ids, &mut owners, lowest);
     0 < count

@@ -3,14 +3,17 @@ use Prim.Native.Nat.{ℕ, zero, suc, _+_, _%_, _≤_, _<_}
 use native.Mathlib.Omega.{arith}
 use native.Mathlib.Nat.{mod-eq-of-lt}
 use mathlib.Core.Path.{_≡_, refl, sym, _∙_}
-use mathlib.Core.Bool.{Bool, true, false, _||_}
+use mathlib.Core.Bool.{Bool, true, false, cond, _||_}
 use mathlib.Core.List.{List, [], _∷_}
 use mathlib.Core.Logic.{_⊎_, inl, inr, ⊎-elim}
-use lib.Dec.{leb}
+use lib.Dec.{leb, eqb}
 use lib.ListN.{length, getD, length-set, List·getD-eq-default}
 use lib.Seq.{getD-set-same, getD-set-other, set-out}
 use borrow.Author.Tests.{leb-true}
-use Rattle.graph.specs.Columns.{nothing, Column, load, store}
+use Rattle.graph.specs.Columns.{nothing, Column, load, store, short, middle, long}
+use Rattle.graph.specs.Columns.{labels, edgeStarts, edgeNumbers, slotStarts, slotKeys, branchSlots}
+use Rattle.graph.specs.Columns.{classHeads, classLinks, regionHeads, regionLinks, classes, locations, delays, availableCounts, available}
+use Rattle.graph.specs.Columns.{resets, classDelays, slotLocations, keyHeads, keyLinks, sourceHeads, sourceLinks}
 
 -- Within a list the default does not matter.
 pub default-same : (l : List ℕ) (i d e : ℕ) → i < length l → getD l i d ≡ getD l i e
@@ -79,3 +82,23 @@ module _ (column : Column) (graph : List ℕ) (i v : ℕ) where
 pub load-past : (column : Column) (graph : List ℕ) (i : ℕ) → length graph ≤ column .from + i → load column graph i ≡ nothing
 unfolding load
 load-past column graph i h = List·getD-eq-default graph nothing h
+
+-- ---- The layout: each column begins where the one before it ends
+
+-- Do columns stand one behind the other from a place on, and where do they end?
+unfoldable pub endOf : ℕ → List Column → ℕ
+endOf at [] = at
+endOf at (column ∷ l) = cond (eqb at (column .from)) (endOf (at + column .size) l) 0
+
+pub layout-short : endOf 0 (labels ∷ edgeStarts ∷ edgeNumbers ∷ slotStarts ∷ slotKeys ∷ branchSlots ∷ classHeads ∷ classLinks ∷ regionHeads
+    ∷ regionLinks ∷ classes ∷ []) ≡ short
+unfolding endOf
+layout-short = refl
+
+pub layout-middle : endOf short (locations ∷ delays ∷ availableCounts ∷ available ∷ resets ∷ classDelays ∷ []) ≡ middle
+unfolding endOf
+layout-middle = refl
+
+pub layout-long : endOf middle (slotLocations ∷ keyHeads ∷ keyLinks ∷ sourceHeads ∷ sourceLinks ∷ []) ≡ long
+unfolding endOf
+layout-long = refl

@@ -1,4 +1,5 @@
--- What each writer leaves as it was: the length of the slice, and every column but those that it names. And what it stored is read back.
+-- What each writer of the graph slice leaves as it was: the length, and every column but those that it names. And, for what is read by one
+-- number, that it is read back.
 use Prim.Native.Nat.{ℕ, zero, suc, _+_, _*_, _-_, _/_, _%_, _^_, _≤_, _<_}
 use native.Mathlib.Omega.{arith}
 use native.Mathlib.Nat.{mod-lt, mod-eq-of-lt}

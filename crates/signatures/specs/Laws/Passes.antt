@@ -1,4 +1,4 @@
--- A pass: one item more has its id, or found no room; and what the ids tell of the next round.
+-- A pass: one item more has its id, or found no room.
 use Prim.Native.Nat.{ℕ, zero, suc, _+_, _≤_, _<_}
 use native.Mathlib.Omega.{arith}
 use mathlib.Core.Path.{_≡_, refl, sym, _∙_, ap, subst}
@@ -120,5 +120,6 @@ passed graph edges names items list index numbers memo list′ items′ k s past
     record {
       held = entriesOf index numbers;
       different = all-different (s .kept);
+      few = omega (arith, count-is (s .kept), s .kept .few);
       all = subst (λ (j : ℕ). Passing graph edges names items items′ (entriesOf index numbers) j) whole (s .passing);
     }

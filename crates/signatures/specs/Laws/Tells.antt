@@ -1,5 +1,5 @@
--- What the ids of a pass tell of the next round: items have equal ids exactly where it relates them; and an item that found no room is related to none
--- that has an id.
+-- What the ids of a pass tell of the next round, in a closed structure: items have equal ids exactly where it relates them; and an item that
+-- found no room is related to none that has an id.
 use Prim.Native.Nat.{ℕ, zero, suc, _<_}
 use native.Mathlib.Omega.{arith}
 use mathlib.Core.Path.{_≡_, refl, sym, _∙_, ap, ap₂, subst}
@@ -91,6 +91,10 @@ module _ {graph edges names items items′ : List ℕ} (passed : Passed graph ed
     pass-apart none some is =
         refused-apart (passed .different) (passed .all .refused j hj none) (passed .all .id k hk some) (same-alike (tells .0 is))
 
-  -- The first item has an id.
+-- The first item has an id; and ids are below 8,192.
+module _ {graph edges names items items′ : List ℕ} (passed : Passed graph edges names items items′) where
   pub pass-first : 0 < length items → getD items′ 0 0 ≡ noId → ⊥
   pass-first = passed .all .first
+
+  pub pass-small : (j : ℕ) → j < length items → (getD items′ j 0 ≡ noId → ⊥) → getD items′ j 0 < 8192
+  pass-small j h some = omega (arith, passed .all .id j h some .whole .0, passed .few)

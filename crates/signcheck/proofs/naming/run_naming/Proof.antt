@@ -1,4 +1,4 @@
--- `run_naming` meets its contract. Assumes nothing.
+-- `run_naming` is safe. Assumes nothing.
 use Prim.Native.Nat.{ℕ, _+_, _-_, _*_, _≤_, _<_}
 use mathlib.Core.Path.{_≡_, refl, sym, _∙_}
 use native.Mathlib.Omega.{arith}
@@ -13,23 +13,23 @@ use Rattle.signcheck.proofs.naming.print_all.Reads as print-all-reads
 use Rattle.signcheck.proofs.naming.read_names.Reads as read-names-reads
 use Rattle.signcheck.proofs.naming.run_passes.Reads as run-passes-reads
 
--- src/naming.rt:153:26
+-- src/naming.rt:165:26
 slice-aggregate-read-names : tie.Need-slice-aggregate-read-names
 slice-aggregate-read-names c = search needs
 
--- src/naming.rt:153:5
+-- src/naming.rt:165:5
 read-names-requires : tie.Need-read-names-requires
 read-names-requires c κs = search needs
 
--- src/naming.rt:154:25
+-- src/naming.rt:166:25
 mul-room : tie.Need-mul-room
 mul-room c = search needs
 
--- src/naming.rt:154:17
+-- src/naming.rt:166:17
 array-share-prefix-room : tie.Need-array-share-prefix-room
 array-share-prefix-room c = search needs
 
--- src/naming.rt:154:9
+-- src/naming.rt:166:9
 slice-aggregate-names : tie.Need-slice-aggregate-names
 slice-aggregate-names c =
     let args = c .before .before .before .before .before .before .args in
@@ -37,23 +37,23 @@ slice-aggregate-names c =
     let pre = c .before .before .before .before .before .before .pre in
     sym (length-take-le (2 * args.n) read-names.last.1.1.0 (omega (arith, (c .before .room2) .given, pre, length-replicate {A = ℕ} 8192 0)))
 
--- src/naming.rt:155:40
+-- src/naming.rt:167:40
 slice-aggregate-run-passes : tie.Need-slice-aggregate-run-passes
 slice-aggregate-run-passes c = search needs
 
--- src/naming.rt:155:5
+-- src/naming.rt:167:5
 run-passes-requires : tie.Need-run-passes-requires
 run-passes-requires c κs = search needs
 
--- src/naming.rt:156:18
+-- src/naming.rt:168:18
 slice-aggregate-print-all : tie.Need-slice-aggregate-print-all
 slice-aggregate-print-all c = search needs
 
--- src/naming.rt:156:5
+-- src/naming.rt:168:5
 print-all-requires : tie.Need-print-all-requires
 print-all-requires c κs = search needs
 
--- src/naming.rt:148:1
+-- src/naming.rt:160:1
 returns : tie.Need-returns
 returns c = search needs
 

@@ -17,31 +17,31 @@ Inv-loop n graph edges left₀ left = 0 < 1
 abbrev μ-loop : tie.MeasureT-loop
 μ-loop n graph edges left₀ left = left
 
--- src/naming.rt:163:9
+-- src/naming.rt:175:9
 number-requires : tie.Need-number-requires Inv-loop μ-loop
 number-requires c κs = search needs
 
--- src/naming.rt:164:5
+-- src/naming.rt:176:5
 loop-holds : tie.Need-loop-holds Inv-loop μ-loop
 loop-holds c = search needs
 
--- src/naming.rt:165:9
+-- src/naming.rt:177:9
 run-naming-requires : tie.Need-run-naming-requires Inv-loop μ-loop
 run-naming-requires c κs = search needs
 
--- src/naming.rt:166:16
+-- src/naming.rt:178:16
 sub-left : tie.Need-sub-left Inv-loop μ-loop
 sub-left c = search needs
 
--- src/naming.rt:164:5
+-- src/naming.rt:176:5
 loop-less : tie.Need-loop-less Inv-loop μ-loop
 loop-less c = search needs
 
--- src/naming.rt:164:5
+-- src/naming.rt:176:5
 loop-again : tie.Need-loop-again Inv-loop μ-loop
 loop-again c = search needs
 
--- src/naming.rt:160:1
+-- src/naming.rt:172:1
 returns : tie.Need-returns Inv-loop μ-loop
 returns c = search needs
 

@@ -16,39 +16,39 @@ Inv-loop n graph edges names lowest₀ pass₀ lowest pass = (length lowest ≡ 
 abbrev μ-loop : tie.MeasureT-loop
 μ-loop n graph edges names lowest₀ pass₀ lowest pass = n - pass
 
--- src/naming.rt:139:5
+-- src/naming.rt:151:5
 loop-holds : tie.Need-loop-holds Inv-loop μ-loop
 loop-holds c = search needs
 
--- src/naming.rt:140:13
+-- src/naming.rt:152:13
 run-pass-requires : tie.Need-run-pass-requires Inv-loop μ-loop
 run-pass-requires c κs = search needs
 
--- src/naming.rt:141:13
+-- src/naming.rt:153:13
 same-length : tie.Need-same-length Inv-loop μ-loop
 same-length c = search needs
 
--- src/naming.rt:141:13
+-- src/naming.rt:153:13
 returns : tie.Need-returns Inv-loop μ-loop
 returns c = search needs
 
--- src/naming.rt:143:16
+-- src/naming.rt:155:16
 add-pass : tie.Need-add-pass Inv-loop μ-loop
 add-pass c = search needs
 
--- src/naming.rt:139:5
+-- src/naming.rt:151:5
 loop-less : tie.Need-loop-less Inv-loop μ-loop
 loop-less c = search needs
 
--- src/naming.rt:139:5
+-- src/naming.rt:151:5
 loop-again : tie.Need-loop-again Inv-loop μ-loop
 loop-again c = search needs
 
--- src/naming.rt:135:1
+-- src/naming.rt:147:1
 same-length-2 : tie.Need-same-length-2 Inv-loop μ-loop
 same-length-2 c = search needs
 
--- src/naming.rt:135:1
+-- src/naming.rt:147:1
 returns-2 : tie.Need-returns-2 Inv-loop μ-loop
 returns-2 c = search needs
 
