@@ -2,6 +2,7 @@
 --   Order       numbers are equal or not, below or not
 --   Sets        equal lists exactly for equal sets
 --   Insert      a number put into a set in a slice
+--   Walked      gathering numbers into a set
 --   Chain       searching along a bucket
 --   Book        how a dictionary grows
 --   Dictionary  searching, one list more
@@ -18,6 +19,7 @@
 pub mod Order
 pub mod Sets
 pub mod Insert
+pub mod Walked
 pub mod Chain
 pub mod Book
 pub mod Dictionary

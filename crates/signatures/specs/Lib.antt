@@ -1,5 +1,6 @@
 -- Signatures of regions:
 --   Sets        sets of numbers as rising lists
+--   Walked      numbers gathered into a set
 --   Chain       an index of lists by hashes
 --   Book        what a dictionary holds
 --   Dictionary  it, in two slices
@@ -13,6 +14,7 @@
 --   Named       signatures over a dictionary
 -- Laws on these stand in Laws.
 pub mod Sets
+pub mod Walked
 pub mod Chain
 pub mod Book
 pub mod Dictionary

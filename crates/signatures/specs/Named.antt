@@ -13,7 +13,7 @@ use mathlib.Core.Logic.{_⊎_}
 use Rattle.graph.specs.Readers.{isAvailable}
 use Rattle.signatures.specs.declared.signature.Gathered.{Gathered}
 use Rattle.signatures.specs.declared.signature.Gathered.the-variants.{Ids, Short}
-use Rattle.signatures.specs.Sets.{setOf, Rising}
+use Rattle.signatures.specs.Sets.{setOf}
 use Rattle.signatures.specs.Dictionary.{indexSize, Dictionary, Interns, entriesOf}
 use Rattle.signatures.specs.Raw.{rawStep}
 use Rattle.signatures.specs.Memo.{memoSize, Noted}
@@ -87,13 +87,6 @@ unfoldable pub stepsFrom : (graph edges names : List ℕ) → ℕ → List (List
 stepsFrom graph edges names x = stepsOf (structureOf (itemsIn names) graph edges) names x
 
 -- ---- What the functions leave
-
--- Names are gathered along a way: those so far, as a set, and those of the rest are those of the whole.
-pub record Walked (whole so-far rest : List ℕ) : Type 0 where
-  pub rises : Rising so-far
-  pub to : (u : ℕ) → List·Memᴰ u so-far → List·Memᴰ u whole
-  pub rest-to : (u : ℕ) → List·Memᴰ u rest → List·Memᴰ u whole
-  pub from : (u : ℕ) → List·Memᴰ u whole → List·Memᴰ u so-far ⊎ List·Memᴰ u rest
 
 -- The step of an edge has an id, or is refused, and the memo stays right.
 pub record Stepped (graph edges names : List ℕ) (class edge : ℕ) (index numbers index′ numbers′ memo′ : List ℕ) (answer : Interned) : Type 0 where

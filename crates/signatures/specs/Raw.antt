@@ -11,19 +11,20 @@ use Rattle.signatures.specs.Steps.{nameOf, stepList}
 abbrev pub rawEdge : List ℕ → ℕ
 rawEdge raw = getD raw 0 0
 
--- The first k branches, and the names that they land in.
-abbrev pub rawBranches : (edges raw : List ℕ) → ℕ → List (Branch ℕ)
-rawBranches edges raw zero = []
-rawBranches edges raw (suc k) = record { weight = lowOf edges (rawEdge raw) k; target = getD raw (1 + k) 0 } ∷ rawBranches edges raw k
+-- The branches from one on, and the names that they land in.
+abbrev pub rawBranches : (edges raw : List ℕ) → (i left : ℕ) → List (Branch ℕ)
+rawBranches edges raw i zero = []
+rawBranches edges raw i (suc left) =
+    record { weight = lowOf edges (rawEdge raw) i; target = getD raw (1 + i) 0 } ∷ rawBranches edges raw (suc i) left
 
-abbrev pub rawNames : List ℕ → ℕ → List ℕ
-rawNames raw zero = []
-rawNames raw (suc k) = getD raw (1 + k) 0 ∷ rawNames raw k
+abbrev pub rawNames : List ℕ → (i left : ℕ) → List ℕ
+rawNames raw i zero = []
+rawNames raw i (suc left) = getD raw (1 + i) 0 ∷ rawNames raw (suc i) left
 
 -- The list of the step.
 unfoldable pub rawStep : (edges raw : List ℕ) → List ℕ
 rawStep edges raw =
-    stepList (actionOf edges (rawEdge raw)) (denominatorOf edges (rawEdge raw)) (rawBranches edges raw (length raw - 1))
+    stepList (actionOf edges (rawEdge raw)) (denominatorOf edges (rawEdge raw)) (rawBranches edges raw 0 (length raw - 1))
 
 -- The first numbers of a slice are the raw form of an edge from the regions of a class.
 pub record Landed (graph names : List ℕ) (edge class : ℕ) (raw : List ℕ) (size : ℕ) : Type 0 where

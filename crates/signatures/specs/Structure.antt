@@ -19,11 +19,12 @@ chainFrom next n (suc steps) x = cond (ltb x n) (x ∷ chainFrom next n steps (n
 abbrev pub edgeOf : List ℕ → (x rank : ℕ) → ℕ
 edgeOf graph x rank = edgeAt graph (locationOf graph x) rank
 
--- The first k branches of an edge, from the regions of a class.
-abbrev pub branchesTo : (graph edges : List ℕ) → (class edge k : ℕ) → List (Branch ℕ)
-branchesTo graph edges class edge zero = []
-branchesTo graph edges class edge (suc k) =
-    record { weight = lowOf edges edge k; target = landingOf graph class (branchSlot graph edge k) } ∷ branchesTo graph edges class edge k
+-- The branches of an edge from one on, in the edge's order, from the regions of a class.
+abbrev pub branchesFrom : (graph edges : List ℕ) → (class edge i left : ℕ) → List (Branch ℕ)
+branchesFrom graph edges class edge i zero = []
+branchesFrom graph edges class edge i (suc left) =
+    record { weight = lowOf edges edge i; target = landingOf graph class (branchSlot graph edge i) }
+    ∷ branchesFrom graph edges class edge (suc i) left
 
 -- Edges are numbered by rank among those of the region's location. Any slice may hold a cycle of delays: n steps are enough for all that
 -- is reached.
@@ -37,10 +38,10 @@ structureOf n graph edges =
       available = λ x rank. ltb rank (edgeCount graph (locationOf graph x)) && isAvailable graph x rank;
       action = λ x rank. actionOf edges (edgeOf graph x rank);
       whole = λ x rank. denominatorOf edges (edgeOf graph x rank);
-      branches = λ x rank. branchesTo graph edges (classOf graph x) (edgeOf graph x rank) (branchCount graph (edgeOf graph x rank));
+      branches = λ x rank. branchesFrom graph edges (classOf graph x) (edgeOf graph x rank) 0 (branchCount graph (edgeOf graph x rank));
     }
 
 -- The step of an edge from the regions of a class.
 unfoldable pub stepAt : (graph edges names : List ℕ) → (class edge : ℕ) → List ℕ
 stepAt graph edges names class edge =
-    stepList (actionOf edges edge) (denominatorOf edges edge) (named names (branchesTo graph edges class edge (branchCount graph edge)))
+    stepList (actionOf edges edge) (denominatorOf edges edge) (named names (branchesFrom graph edges class edge 0 (branchCount graph edge)))

@@ -73,7 +73,7 @@ pub(crate) fn list_landed(
 // Lists the names of a raw form as a set; returns how many there are.
 fn gather_names(raw: &[u16], list: &mut [u32]) -> usize
     requires { ⌜ (0 < length (now raw)) × (length (now raw) ≤ 9) × (9 ≤ length (now list)) ⌝ }
-    ensures { λ r. ⌜ (take r (now (list .exit)) ≡ setOf (rawNames (now (raw .entry)) (length (now (raw .entry)) - 1)))
+    ensures { λ r. ⌜ (take r (now (list .exit)) ≡ setOf (rawNames (now (raw .entry)) 0 (length (now (raw .entry)) - 1)))
         × (r ≤ 8) × (length (now (list .exit)) ≡ length (now (list .entry))) ⌝ }
 {
     let count = raw.len() - 1;
@@ -101,7 +101,7 @@ fn mass_at(name: usize, branch: usize, raw: &[u16], edges: &[u32]) -> usize
 // Sums the weights of the branches that land in a name.
 fn mass_of(name: usize, raw: &[u16], edges: &[u32]) -> usize
     requires { ⌜ (0 < length (now raw)) × (length (now raw) ≤ 9) ⌝ }
-    ensures { λ r. ⌜ (r ≡ massOf name (rawBranches (now (edges .entry)) (now (raw .entry)) (length (now (raw .entry)) - 1)))
+    ensures { λ r. ⌜ (r ≡ massOf name (rawBranches (now (edges .entry)) (now (raw .entry)) 0 (length (now (raw .entry)) - 1)))
         × (r < 8589934592) ⌝ }
 {
     let count = raw.len() - 1;
@@ -133,7 +133,7 @@ fn put_share(name: usize, mass: usize, denominator: usize, at: usize, list: &mut
 fn put_shares(names: &[u32], raw: &[u16], edges: &[u32], list: &mut [u32]) -> usize
     requires { ⌜ (0 < length (now raw)) × (length (now raw) ≤ 9) × (length (now names) ≤ 8) × (25 ≤ length (now list)) ⌝ }
     ensures { λ r. ⌜ (take r (now (list .exit)) ≡ take 1 (now (list .entry)) ++ sharesOver
-        (λ m. massOf m (rawBranches (now (edges .entry)) (now (raw .entry)) (length (now (raw .entry)) - 1)))
+        (λ m. massOf m (rawBranches (now (edges .entry)) (now (raw .entry)) 0 (length (now (raw .entry)) - 1)))
         (denominatorOf (now (edges .entry)) (rawEdge (now (raw .entry)))) (now (names .entry)))
         × (r ≤ 25) × (length (now (list .exit)) ≡ length (now (list .entry))) ⌝ }
 {

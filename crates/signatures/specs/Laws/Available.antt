@@ -22,7 +22,7 @@ use Rattle.signatures.specs.Laws.Book.{grows-then, told-grows}
 use Rattle.signatures.specs.Steps.{named, targetNames, massOf, sharesOver, stepList, stepOf}
 use Rattle.signatures.specs.Signatures.{stepsBelow, stepsOf}
 use Rattle.signatures.specs.Laws.Signatures.{step-in}
-use Rattle.signatures.specs.Structure.{branchesTo, edgeOf, structureOf, stepAt}
+use Rattle.signatures.specs.Structure.{branchesFrom, edgeOf, structureOf, stepAt}
 use Rattle.signatures.specs.Available.{NextAvailable}
 use Rattle.signatures.specs.Named.{Partial, Signed}
 use Rattle.signatures.specs.Laws.Named.{partial-none, partial-on, partial-full}
@@ -101,21 +101,21 @@ named-size : (names : List ℕ) (l : List (Branch ℕ)) → length (named names 
 named-size names [] = refl
 named-size names (b ∷ l) = ap suc (named-size names l)
 
-branches-size : (graph edges : List ℕ) (class edge k : ℕ) → length (branchesTo graph edges class edge k) ≡ k
-branches-size graph edges class edge zero = refl
-branches-size graph edges class edge (suc k) = ap suc (branches-size graph edges class edge k)
+branches-size : (graph edges : List ℕ) (class edge i left : ℕ) → length (branchesFrom graph edges class edge i left) ≡ left
+branches-size graph edges class edge i zero = refl
+branches-size graph edges class edge i (suc left) = ap suc (branches-size graph edges class edge (suc i) left)
 
 pub step-short : (graph edges names : List ℕ) (class edge : ℕ) → length (stepAt graph edges names class edge) ≤ 25
 unfolding stepAt stepList
 step-short graph edges names class edge =
-    let l : List (Branch ℕ) = named names (branchesTo graph edges class edge (branchCount graph edge)) in
+    let l : List (Branch ℕ) = named names (branchesFrom graph edges class edge 0 (branchCount graph edge)) in
     omega (
       arith,
       shares-size (λ m. massOf m l) (denominatorOf edges edge) (setOf (targetNames l)),
       set-size (targetNames l),
       targets-size l,
-      named-size names (branchesTo graph edges class edge (branchCount graph edge)),
-      branches-size graph edges class edge (branchCount graph edge),
+      named-size names (branchesFrom graph edges class edge 0 (branchCount graph edge)),
+      branches-size graph edges class edge 0 (branchCount graph edge),
       branches-few graph edge,
     )
 

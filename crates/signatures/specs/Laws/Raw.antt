@@ -13,10 +13,12 @@ use lib.Seq.{getD-set-same, getD-set-other, getD-take, length-take-le, take-suc,
 use borrow.Author.Tests.{eq-eqb, ne-eqb}
 use Rattle.bisimulation.specs.Structures.{Branch}
 use Rattle.graph.specs.Readers.{branchCount, branchSlot, landingOf, actionOf, denominatorOf, lowOf}
-use Rattle.signatures.specs.Sets.{setOf}
+use Rattle.signatures.specs.Sets.{putIn, setOf}
+use Rattle.signatures.specs.Walked.{Walked}
+use Rattle.signatures.specs.Laws.Walked.{walked-start, walked-on, walked-end}
 use Rattle.signatures.specs.Shares.{highShare, lowShare}
 use Rattle.signatures.specs.Steps.{nameOf, named, targetNames, massOf, entryOf, sharesOver, stepList}
-use Rattle.signatures.specs.Structure.{branchesTo}
+use Rattle.signatures.specs.Structure.{branchesFrom}
 use Rattle.signatures.specs.Raw.{rawEdge, rawBranches, rawNames, rawStep, Landed}
 
 -- ---- Shares over nothing
@@ -31,9 +33,9 @@ low-zero w d e = sym (ap (λ (k : ℕ). w * 1073741824 % k * 1073741824 / k) e �
 
 -- ---- Raw forms
 
-pub names-raw : (edges raw : List ℕ) (k : ℕ) → targetNames (rawBranches edges raw k) ≡ rawNames raw k
-names-raw edges raw zero = refl
-names-raw edges raw (suc k) = ap (λ (l : List ℕ). getD raw (1 + k) 0 ∷ l) (names-raw edges raw k)
+pub names-raw : (edges raw : List ℕ) (i left : ℕ) → targetNames (rawBranches edges raw i left) ≡ rawNames raw i left
+names-raw edges raw i zero = refl
+names-raw edges raw i (suc left) = ap (λ (l : List ℕ). getD raw (1 + i) 0 ∷ l) (names-raw edges raw (suc i) left)
 
 -- One name more stands behind the edge.
 pub landed-on : (graph names : List ℕ) (edge class : ℕ) (raw : List ℕ) (i v : ℕ) → 1 + i < length raw → rawEdge raw ≡ edge
@@ -49,45 +51,83 @@ landed-on graph names edge class raw i v room first before is =
     go j (inr h) = getD-set-other raw (1 + i) (1 + j) v 0 (omega arith) ∙ before j h
 
 module _ {graph names : List ℕ} {edge class : ℕ} {raw : List ℕ} {size : ℕ} (landed : Landed graph names edge class raw size) (edges : List ℕ) where
-  landed-branches : (k : ℕ) → k ≤ branchCount graph edge → rawBranches edges raw k ≡ named names (branchesTo graph edges class edge k)
-  landed-branches zero h = refl
-  landed-branches (suc k) h = rw (landed .edge-is, landed .names-are k h, landed-branches k (omega arith)) refl
+  landed-branches : (i left : ℕ) → i + left ≤ branchCount graph edge
+      → rawBranches edges raw i left ≡ named names (branchesFrom graph edges class edge i left)
+  landed-branches i zero h = refl
+  landed-branches i (suc left) h =
+      rw (landed .edge-is, landed .names-are i (omega (arith, h)), landed-branches (suc i) left (omega (arith, h))) refl
 
-  taken-branches : (k : ℕ) → k < size → rawBranches edges (take size raw) k ≡ rawBranches edges raw k
-  taken-branches zero h = refl
-  taken-branches (suc k) h =
-      rw (getD-take size raw 0 0 (omega arith), getD-take size raw (1 + k) 0 (omega arith), taken-branches k (omega arith)) refl
+  taken-branches : (i left : ℕ) → i + left < size → rawBranches edges (take size raw) i left ≡ rawBranches edges raw i left
+  taken-branches i zero h = refl
+  taken-branches i (suc left) h =
+      rw (getD-take size raw 0 0 (omega (arith, h)), getD-take size raw (1 + i) 0 (omega (arith, h)), taken-branches (suc i) left (omega (arith, h))) refl
 
   -- The raw form means the edge's step.
   pub landed-step : size ≤ length raw
       → rawStep edges (take size raw)
-      ≡ stepList (actionOf edges edge) (denominatorOf edges edge) (named names (branchesTo graph edges class edge (branchCount graph edge)))
+      ≡ stepList (actionOf edges edge) (denominatorOf edges edge) (named names (branchesFrom graph edges class edge 0 (branchCount graph edge)))
   unfolding rawStep
   landed-step room =
       let count : length (take size raw) - 1 ≡ branchCount graph edge =
       omega (arith, length-take-le size raw room, landed .size-is) in
       let first : rawEdge (take size raw) ≡ edge = getD-take size raw 0 0 (omega (arith, landed .size-is)) ∙ landed .edge-is in
       ap (λ (k : ℕ). stepList (actionOf edges (rawEdge (take size raw))) (denominatorOf edges (rawEdge (take size raw)))
-      (rawBranches edges (take size raw) k)) count
+      (rawBranches edges (take size raw) 0 k)) count
       ∙ ap₂ (λ (e : ℕ) (l : List (Branch ℕ)). stepList (actionOf edges e) (denominatorOf edges e) l) first
-      (taken-branches (branchCount graph edge) (omega (arith, landed .size-is)) ∙ landed-branches (branchCount graph edge) (omega arith))
+      (taken-branches 0 (branchCount graph edge) (omega (arith, landed .size-is)) ∙ landed-branches 0 (branchCount graph edge) (omega arith))
 
 -- ---- Masses
 
-module _ (edges raw : List ℕ) (name i : ℕ) where
-  next-one : rawBranches edges raw (i + 1)
-      ≡ record { weight = lowOf edges (rawEdge raw) i; target = getD raw (1 + i) 0 } ∷ rawBranches edges raw i
-  next-one = ap (rawBranches edges raw) (add-one i)
+-- The sum so far and the mass of the rest are the mass of the whole.
+module _ (edges raw : List ℕ) (name count : ℕ) where
+  pub mass-start : 0 + massOf name (rawBranches edges raw 0 (count - 0)) ≡ massOf name (rawBranches edges raw 0 count)
+  mass-start = let e : count - 0 ≡ count = omega arith in ap (λ (k : ℕ). 0 + massOf name (rawBranches edges raw 0 k)) e ∙ omega arith
 
-  pub mass-on : (more sum : ℕ) → more ≡ cond (eqb (getD raw (1 + i) 0) name) (lowOf edges (rawEdge raw) i) 0
-      → sum ≡ massOf name (rawBranches edges raw i) → more + sum ≡ massOf name (rawBranches edges raw (i + 1))
-  mass-on more sum e is =
-      ap₂ (λ (a b : ℕ). a + b) e is ∙ go (eqb (getD raw (1 + i) 0) name) ∙ sym (ap (massOf name) next-one)
-    where
-      go : (b : Bool) → cond b (lowOf edges (rawEdge raw) i) 0 + massOf name (rawBranches edges raw i)
-          ≡ cond b (lowOf edges (rawEdge raw) i + massOf name (rawBranches edges raw i)) (massOf name (rawBranches edges raw i))
-      go true = refl
-      go false = omega arith
+  module _ (sum i : ℕ) (is : sum + massOf name (rawBranches edges raw i (count - i)) ≡ massOf name (rawBranches edges raw 0 count)) where
+    pub mass-on : (more : ℕ) → i < count → more ≡ cond (eqb (getD raw (1 + i) 0) name) (lowOf edges (rawEdge raw) i) 0
+        → (more + sum) + massOf name (rawBranches edges raw (i + 1) (count - (i + 1))) ≡ massOf name (rawBranches edges raw 0 count)
+    mass-on more h e =
+        let next : count - i ≡ suc (count - (i + 1)) = omega arith in
+        ap₂ (λ (m k : ℕ). (m + sum) + massOf name (rawBranches edges raw k (count - (i + 1)))) e (add-one i)
+        ∙ go (eqb (getD raw (1 + i) 0) name)
+        ∙ sym (ap (λ (k : ℕ). sum + massOf name (rawBranches edges raw i k)) next) ∙ is
+      where
+        go : (b : Bool) → (cond b (lowOf edges (rawEdge raw) i) 0 + sum) + massOf name (rawBranches edges raw (suc i) (count - (i + 1)))
+            ≡ sum + cond b (lowOf edges (rawEdge raw) i + massOf name (rawBranches edges raw (suc i) (count - (i + 1))))
+            (massOf name (rawBranches edges raw (suc i) (count - (i + 1))))
+        go true = omega arith
+        go false = omega arith
+
+    pub mass-end : count ≤ i → sum ≡ massOf name (rawBranches edges raw 0 count)
+    mass-end h =
+        let none : count - i ≡ 0 = omega arith in
+        let whole : sum + 0 ≡ massOf name (rawBranches edges raw 0 count) =
+        sym (ap (λ (k : ℕ). sum + massOf name (rawBranches edges raw i k)) none) ∙ is in
+        omega (arith, whole)
+
+-- Names are gathered one after the other.
+module _ (raw : List ℕ) (count : ℕ) where
+  pub gather-start : (list : List ℕ) → Walked (rawNames raw 0 count) (take 0 list) (rawNames raw 0 (count - 0))
+  gather-start list =
+      let e : count ≡ count - 0 = omega arith in
+      subst (λ (k : ℕ). Walked (rawNames raw 0 count) [] (rawNames raw 0 k)) e (walked-start (rawNames raw 0 count))
+
+  module _ (list : List ℕ) (len i : ℕ) (w : Walked (rawNames raw 0 count) (take len list) (rawNames raw i (count - i))) where
+    pub gather-on : (list′ : List ℕ) (len′ v : ℕ) → i < count → v ≡ getD raw (1 + i) 0 → take len′ list′ ≡ putIn v (take len list)
+        → Walked (rawNames raw 0 count) (take len′ list′) (rawNames raw (i + 1) (count - (i + 1)))
+    gather-on list′ len′ v h is put =
+        let next : count - i ≡ suc (count - (i + 1)) = omega arith in
+        subst (λ (l : List ℕ). Walked (rawNames raw 0 count) l (rawNames raw (i + 1) (count - (i + 1))))
+        (sym (put ∙ ap (λ (k : ℕ). putIn k (take len list)) is))
+        (subst (λ (k : ℕ). Walked (rawNames raw 0 count) (putIn (getD raw (1 + i) 0) (take len list)) (rawNames raw k (count - (i + 1)))) (sym (add-one i))
+        (walked-on (rawNames raw 0 count) (take len list) (rawNames raw (suc i) (count - (i + 1))) (getD raw (1 + i) 0)
+        (subst (λ (k : ℕ). Walked (rawNames raw 0 count) (take len list) (rawNames raw i k)) next w)))
+
+    pub gather-end : count ≤ i → take len list ≡ setOf (rawNames raw 0 count)
+    gather-end h =
+        let none : count - i ≡ 0 = omega arith in
+        walked-end (rawNames raw 0 count) (take len list)
+        (subst (λ (k : ℕ). Walked (rawNames raw 0 count) (take len list) (rawNames raw i k)) none w)
 
 -- ---- Entries
 
@@ -144,12 +184,12 @@ module _ (mass : ℕ → ℕ) (d : ℕ) where
 
 -- The list of a step, from its first number and the shares.
 pub step-made : (edges raw list names l : List ℕ) (action d : ℕ) → 0 < length list → action ≡ actionOf edges (rawEdge raw)
-    → names ≡ setOf (rawNames raw (length raw - 1))
-    → l ≡ take 1 (set list 0 action) ++ sharesOver (λ m. massOf m (rawBranches edges raw (length raw - 1))) (denominatorOf edges (rawEdge raw)) names
+    → names ≡ setOf (rawNames raw 0 (length raw - 1))
+    → l ≡ take 1 (set list 0 action) ++ sharesOver (λ m. massOf m (rawBranches edges raw 0 (length raw - 1))) (denominatorOf edges (rawEdge raw)) names
     → l ≡ rawStep edges raw
 unfolding rawStep stepList
 step-made edges raw list names l action d some is same e =
-    e ∙ ap (λ (r : List ℕ). r ++ sharesOver (λ m. massOf m (rawBranches edges raw (length raw - 1))) (denominatorOf edges (rawEdge raw)) names)
+    e ∙ ap (λ (r : List ℕ). r ++ sharesOver (λ m. massOf m (rawBranches edges raw 0 (length raw - 1))) (denominatorOf edges (rawEdge raw)) names)
     (take-suc-set list 0 action some)
-    ∙ ap₂ (λ (a : ℕ) (n : List ℕ). a ∷ sharesOver (λ m. massOf m (rawBranches edges raw (length raw - 1))) (denominatorOf edges (rawEdge raw)) n)
-    is (same ∙ ap setOf (sym (names-raw edges raw (length raw - 1))))
+    ∙ ap₂ (λ (a : ℕ) (n : List ℕ). a ∷ sharesOver (λ m. massOf m (rawBranches edges raw 0 (length raw - 1))) (denominatorOf edges (rawEdge raw)) n)
+    is (same ∙ ap setOf (sym (names-raw edges raw 0 (length raw - 1))))

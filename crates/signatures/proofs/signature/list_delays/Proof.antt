@@ -8,7 +8,8 @@ use mathlib.Core.List.{List, [], _∷_, _++_}
 use Rattle.signatures.specs.Sets.{Rising}
 use Rattle.signatures.specs.Structure.{chainFrom}
 use Rattle.signatures.specs.Signatures.{namesOf}
-use Rattle.signatures.specs.Named.{itemsIn, jumpOf, reachedFrom, Walked}
+use Rattle.signatures.specs.Named.{itemsIn, jumpOf, reachedFrom}
+use Rattle.signatures.specs.Walked.{Walked}
 use Rattle.signatures.specs.Laws.Delays.{delays-start, delays-turn, delays-stop, delays-over}
 use borrow.Author.Needs.{needs}
 use Rattle.signatures.proofs.signature.list_delays.Statement.{statement}
