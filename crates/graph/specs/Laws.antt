@@ -6,6 +6,7 @@
 --   Walks      the cases of what the code does step by step
 --   Bounds     what is read is within bounds
 --   Stores     what each writer stores, and what it leaves as it was
+--   Prepared   what a prepared model stores is read back
 --   Sources    the resets backwards
 pub mod Columns
 pub mod Latest
@@ -15,3 +16,4 @@ pub mod Walks
 pub mod Bounds
 pub mod Stores
 pub mod Sources
+pub mod Prepared

@@ -117,6 +117,13 @@ classLink graph class = load classLinks graph (class % mostRegions)
 unfoldable pub resetNumber : (class mask : ℕ) → ℕ
 resetNumber class mask = mostRegions * ((mask - 1) % 15) + class % mostRegions
 
+-- The class and the mask of a reset.
+unfoldable pub resetSource : (reset : ℕ) → ℕ
+resetSource reset = reset % mostRegions
+
+unfoldable pub resetMask : (reset : ℕ) → ℕ
+resetMask reset = reset / mostRegions % 15 + 1
+
 -- The last reset that leads to a class, and the one before a reset.
 unfoldable pub sourceHead : List ℕ → (class : ℕ) → ℕ
 sourceHead graph class = load sourceHeads graph (class % mostRegions)

@@ -1,7 +1,7 @@
 // Clock classes: an index by buckets, and the class after each reset, noted both ways, and after a delay.
 ghost use Prim.Native.Nat.{ℕ, _<_};
 ghost use mathlib.Core.Path.{_≡_};
-ghost use Rattle.graph.specs.Readers.{resetClass, delayClass, classHead, classLink, resetNumber, sourceHead, sourceLink};
+ghost use Rattle.graph.specs.Readers.{resetClass, delayClass, classHead, classLink, resetNumber, resetSource, resetMask, sourceHead, sourceLink};
 ghost use Rattle.graph.specs.Writers.{withClass, withClassDelay, withSource, withReset};
 use crate::slices::between;
 use crate::slices::load;
@@ -54,6 +54,20 @@ pub fn reset_number(class: usize, mask: usize) -> usize
     ensures { λ r. ⌜ (r ≡ resetNumber class mask) × (r < 61440) ⌝ }
 {
     4096 * (between(1, mask) % 15) + class % 4096
+}
+
+// Returns the clock class of a reset.
+pub fn reset_source(reset: usize) -> usize
+    ensures { λ r. ⌜ (r ≡ resetSource reset) × (r < 4096) ⌝ }
+{
+    reset % 4096
+}
+
+// Returns the mask of a reset.
+pub fn reset_mask(reset: usize) -> usize
+    ensures { λ r. ⌜ (r ≡ resetMask reset) × (r < 16) ⌝ }
+{
+    reset / 4096 % 15 + 1
 }
 
 // Returns the last reset that leads to a class.

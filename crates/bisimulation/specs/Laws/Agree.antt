@@ -4,10 +4,10 @@ use Prim.Native.Nat.{ℕ, zero, suc, _*_, _<_}
 use native.Mathlib.Omega.{arith}
 use mathlib.Core.Path.{_≡_, refl, sym, _∙_, ap, ap₂, subst}
 use mathlib.Core.Bool.{Bool, true, false, cond, _&&_}
-use mathlib.Core.List.{List, [], _∷_}
+use mathlib.Core.List.{List, [], _∷_, List·Memᴰ}
 use lib.Dec.{eqb}
-use Rattle.bisimulation.specs.Structures.{Branch}
-use Rattle.bisimulation.specs.Finite.{Finite, related, sum, allBelow, someBelow, alike, delaysMatch, edgesMatch, matches, next}
+use Rattle.bisimulation.specs.Structures.{Branch, total, Closed}
+use Rattle.bisimulation.specs.Finite.{Finite, structure, related, sum, allBelow, someBelow, alike, delaysMatch, edgesMatch, matches, next}
 use Rattle.bisimulation.specs.Finite.{blocksBy, blocks, rounds, restFrom, sameList, lastBlocks, blockCount, leaders, accepts}
 use Rattle.bisimulation.specs.Laws.Tests.{same-test, and-iff, cond-iff, all-below, some-below, below-some}
 use Rattle.bisimulation.specs.Laws.Leads.{leads-agree}
@@ -129,3 +129,25 @@ module _ {F G : Finite} (a : Agree F G) (proposal : List ℕ) where
 
   pub accepts-agree : accepts F proposal ≡ accepts G proposal
   accepts-agree = same-test (accepts F proposal) (accepts G proposal) (accepts-to a) (accepts-to (agree-back a))
+
+-- A structure that agrees with a closed one is closed.
+pub closed-agree : {F G : Finite} → Agree F G → Closed (structure F) → Closed (structure G)
+closed-agree {F} {G} a closed =
+    record {
+      delays = λ {x} {y} hx d. inside a (closed .delays (back x hx) (subst (λ (l : List ℕ). List·Memᴰ y l) (sym (a .delays x (back x hx))) d));
+      targets = λ {x} {e = f} hx e b m.
+          let (d, s) = a .fro x f (back x hx) (e .0) (e .1) in
+          inside a (closed .targets (back x hx) (s .within, s .available) b (subst (λ (l : List (Branch ℕ)). List·Memᴰ b l) (s .branches) m));
+      positive = λ {x} {e = f} hx e.
+          let (d, s) = a .fro x f (back x hx) (e .0) (e .1) in
+          subst (λ (k : ℕ). 0 < k) (sym (s .whole)) (closed .positive (back x hx) (s .within, s .available));
+      sums = λ {x} {e = f} hx e.
+          let (d, s) = a .fro x f (back x hx) (e .0) (e .1) in
+          ap total (s .branches) ∙ closed .sums (back x hx) (s .within, s .available) ∙ sym (s .whole);
+      labels = λ {x} {y} hx d.
+          let here : List·Memᴰ y (F .delays x) = subst (λ (l : List ℕ). List·Memᴰ y l) (sym (a .delays x (back x hx))) d in
+          sym (a .label y (closed .delays (back x hx) here)) ∙ closed .labels (back x hx) here ∙ a .label x (back x hx);
+    }
+  where
+    back : (x : ℕ) → x < G .size → x < F .size
+    back x h = subst (λ (n : ℕ). x < n) (sym (a .size)) h

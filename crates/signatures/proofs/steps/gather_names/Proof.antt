@@ -52,9 +52,13 @@ loop-less c = search needs
 
 -- src/steps.rt:67:5
 loop-again : tie.Need-loop-again Inv-loop μ-loop
-loop-again c = (gather-on ((c .before .before .before .before .before .before .before .before .before .args) .raw .now) (length ((c .before .before .before .before .before .before .before .before .before .args) .raw .now) - 1) ((c .before .before .before .before .before .before .loop) .list) ((c .before .before .before .before .before .before .loop) .len) ((c .before .before .before .before .before .before .loop) .i) ((c .before .before .before .before .before .before .loop) .inv .0) ((c .before .before .insert) .last .1 .1 .0) ((c .before .before .insert) .result) ((c .before .before .before .before .name-at) .result)
-    ((c .before .before .before .before .before .loop-test) .taken) ((c .before .before .before .before .name-at) .ensures .0) ((c .before .before .insert) .ensures .put),
-    omega (arith, (c .before .before .insert) .ensures .short, (c .before .before .before .before .before .before .loop) .inv .1), (c .before .before .insert) .ensures .size ∙ (c .before .before .before .before .before .before .loop) .inv .2, omega (arith, (c .before .before .before .before .before .loop-test) .taken))
+loop-again c = (
+  gather-on ((c .before .before .before .before .before .before .before .before .before .args) .raw .now) (length ((c .before .before .before .before .before .before .before .before .before .args) .raw .now) - 1) ((c .before .before .before .before .before .before .loop) .list) ((c .before .before .before .before .before .before .loop) .len) ((c .before .before .before .before .before .before .loop) .i) ((c .before .before .before .before .before .before .loop) .inv .0) ((c .before .before .insert) .last .1 .1 .0) ((c .before .before .insert) .result) ((c .before .before .before .before .name-at) .result)
+      ((c .before .before .before .before .before .loop-test) .taken) ((c .before .before .before .before .name-at) .ensures .0) ((c .before .before .insert) .ensures .put),
+  omega (arith, (c .before .before .insert) .ensures .short, (c .before .before .before .before .before .before .loop) .inv .1),
+  (c .before .before .insert) .ensures .size ∙ (c .before .before .before .before .before .before .loop) .inv .2,
+  omega (arith, (c .before .before .before .before .before .loop-test) .taken),
+)
 
 -- src/steps.rt:59:1
 same-length : tie.Need-same-length Inv-loop μ-loop
@@ -62,8 +66,11 @@ same-length c = (c .before .loop) .inv .2
 
 -- src/steps.rt:59:1
 returns : tie.Need-returns Inv-loop μ-loop
-returns c = (gather-end ((c .before .before .before .before .args) .raw .now) (length ((c .before .before .before .before .args) .raw .now) - 1) ((c .before .loop) .list) ((c .before .loop) .len) ((c .before .loop) .i) ((c .before .loop) .inv .0) ((c .loop-test) .left),
-    omega (arith, (c .before .loop) .inv .1, (c .before .loop) .inv .3, (c .before .before .before .before .pre) .1), (c .before .loop) .inv .2)
+returns c = (
+  gather-end ((c .before .before .before .before .args) .raw .now) (length ((c .before .before .before .before .args) .raw .now) - 1) ((c .before .loop) .list) ((c .before .loop) .len) ((c .before .loop) .i) ((c .before .loop) .inv .0) ((c .loop-test) .left),
+  omega (arith, (c .before .loop) .inv .1, (c .before .loop) .inv .3, (c .before .before .before .before .pre) .1),
+  (c .before .loop) .inv .2,
+)
 
 pub gather-names-spec : {M : Type 1} → statement M
 gather-names-spec =

@@ -51,9 +51,17 @@ slice-aggregate-put-shares c = sym (length-take-le ((c .before .before .gather-n
 
 -- src/steps.rt:147:5
 put-shares-requires : tie.Need-put-shares-requires
-put-shares-requires c κs = ((c .before .before .before .before .before .before .before .before .before .before .pre) .0, (c .before .before .before .before .before .before .before .before .before .before .pre) .1, omega (arith, (c .before .before .before .gather-names) .ensures .1, length-take-le ((c .before .before .before .gather-names) .result) ((c .before .before .before .gather-names) .last .1 .0)
-    (omega (arith, (c .before .before .before .gather-names) .ensures .1, (c .before .before .before .gather-names) .ensures .2, length-replicate {A = ℕ} 9 0))),
-    omega (arith, length-set ((c .before .before .before .before .before .before .before .before .before .before .args) .list .now) 0 ((c .before .before .before .before .before .action-of) .result), (c .before .before .before .before .before .before .before .before .before .before .pre) .2))
+put-shares-requires c κs = (
+  (c .before .before .before .before .before .before .before .before .before .before .pre) .0,
+  (c .before .before .before .before .before .before .before .before .before .before .pre) .1,
+  omega (
+    arith,
+    (c .before .before .before .gather-names) .ensures .1,
+    length-take-le ((c .before .before .before .gather-names) .result) ((c .before .before .before .gather-names) .last .1 .0)
+        (omega (arith, (c .before .before .before .gather-names) .ensures .1, (c .before .before .before .gather-names) .ensures .2, length-replicate {A = ℕ} 9 0)),
+  ),
+  omega (arith, length-set ((c .before .before .before .before .before .before .before .before .before .before .args) .list .now) 0 ((c .before .before .before .before .before .action-of) .result), (c .before .before .before .before .before .before .before .before .before .before .pre) .2),
+)
 
 -- src/steps.rt:139:1
 same-length : tie.Need-same-length
@@ -61,9 +69,13 @@ same-length c = (c .before .before .put-shares) .ensures .2 ∙ length-set ((c .
 
 -- src/steps.rt:139:1
 returns : tie.Need-returns
-returns c = (step-made ((c .before .before .before .before .before .before .before .before .before .before .before .before .before .args) .edges .now) ((c .before .before .before .before .before .before .before .before .before .before .before .before .before .args) .raw .now) ((c .before .before .before .before .before .before .before .before .before .before .before .before .before .args) .list .now) (take ((c .before .before .before .before .before .before .gather-names) .result) ((c .before .before .before .before .before .before .gather-names) .last .1 .0)) (take ((c .before .before .put-shares) .result) ((c .before .before .put-shares) .last .1 .1 .1 .0))
-    ((c .before .before .before .before .before .before .before .before .action-of) .result) 0 (omega (arith, (c .before .before .before .before .before .before .before .before .before .before .before .before .before .pre) .2)) ((c .before .before .before .before .before .before .before .before .action-of) .ensures .0 ∙ ap (actionOf ((c .before .before .before .before .before .before .before .before .before .before .before .before .before .args) .edges .now)) ((c .before .before .before .before .before .before .before .before .before .name-at) .ensures .0)) ((c .before .before .before .before .before .before .gather-names) .ensures .0)
-    ((c .before .before .put-shares) .ensures .0), (c .before .before .put-shares) .ensures .1, (c .before .before .put-shares) .ensures .2 ∙ length-set ((c .before .before .before .before .before .before .before .before .before .before .before .before .before .args) .list .now) 0 ((c .before .before .before .before .before .before .before .before .action-of) .result))
+returns c = (
+  step-made ((c .before .before .before .before .before .before .before .before .before .before .before .before .before .args) .edges .now) ((c .before .before .before .before .before .before .before .before .before .before .before .before .before .args) .raw .now) ((c .before .before .before .before .before .before .before .before .before .before .before .before .before .args) .list .now) (take ((c .before .before .before .before .before .before .gather-names) .result) ((c .before .before .before .before .before .before .gather-names) .last .1 .0)) (take ((c .before .before .put-shares) .result) ((c .before .before .put-shares) .last .1 .1 .1 .0))
+      ((c .before .before .before .before .before .before .before .before .action-of) .result) 0 (omega (arith, (c .before .before .before .before .before .before .before .before .before .before .before .before .before .pre) .2)) ((c .before .before .before .before .before .before .before .before .action-of) .ensures .0 ∙ ap (actionOf ((c .before .before .before .before .before .before .before .before .before .before .before .before .before .args) .edges .now)) ((c .before .before .before .before .before .before .before .before .before .name-at) .ensures .0)) ((c .before .before .before .before .before .before .gather-names) .ensures .0)
+      ((c .before .before .put-shares) .ensures .0),
+  (c .before .before .put-shares) .ensures .1,
+  (c .before .before .put-shares) .ensures .2 ∙ length-set ((c .before .before .before .before .before .before .before .before .before .before .before .before .before .args) .list .now) 0 ((c .before .before .before .before .before .before .before .before .action-of) .result),
+)
 
 pub list-step-spec : {M : Type 1} → statement M
 list-step-spec =

@@ -46,13 +46,18 @@ loop-less c = search needs
 
 -- src/steps.rt:97:5
 loop-again : tie.Need-loop-again Inv-loop μ-loop
-loop-again c = (mass-on ((c .before .before .before .before .before .args) .edges .now) ((c .before .before .before .before .before .args) .raw .now) ((c .before .before .before .before .before .args) .name) (length ((c .before .before .before .before .before .args) .raw .now) - 1) ((c .before .before .loop) .sum) ((c .before .before .loop) .i) ((c .before .before .loop) .inv .0) ((c .mass-at) .result) ((c .before .loop-test) .taken) ((c .mass-at) .ensures .0),
-    omega (arith, (c .mass-at) .ensures .1, (c .before .before .loop) .inv .1), omega (arith, (c .before .loop-test) .taken))
+loop-again c = (
+  mass-on ((c .before .before .before .before .before .args) .edges .now) ((c .before .before .before .before .before .args) .raw .now) ((c .before .before .before .before .before .args) .name) (length ((c .before .before .before .before .before .args) .raw .now) - 1) ((c .before .before .loop) .sum) ((c .before .before .loop) .i) ((c .before .before .loop) .inv .0) ((c .mass-at) .result) ((c .before .loop-test) .taken) ((c .mass-at) .ensures .0),
+  omega (arith, (c .mass-at) .ensures .1, (c .before .before .loop) .inv .1),
+  omega (arith, (c .before .loop-test) .taken),
+)
 
 -- src/steps.rt:89:1
 returns : tie.Need-returns Inv-loop μ-loop
-returns c = (mass-end ((c .before .before .before .before .args) .edges .now) ((c .before .before .before .before .args) .raw .now) ((c .before .before .before .before .args) .name) (length ((c .before .before .before .before .args) .raw .now) - 1) ((c .before .loop) .sum) ((c .before .loop) .i) ((c .before .loop) .inv .0) ((c .loop-test) .left),
-    omega (arith, (c .before .loop) .inv .1, (c .before .loop) .inv .2, (c .before .before .before .before .pre) .1, (c .before .before .before .before .pre) .0))
+returns c = (
+  mass-end ((c .before .before .before .before .args) .edges .now) ((c .before .before .before .before .args) .raw .now) ((c .before .before .before .before .args) .name) (length ((c .before .before .before .before .args) .raw .now) - 1) ((c .before .loop) .sum) ((c .before .loop) .i) ((c .before .loop) .inv .0) ((c .loop-test) .left),
+  omega (arith, (c .before .loop) .inv .1, (c .before .loop) .inv .2, (c .before .before .before .before .pre) .1, (c .before .before .before .before .pre) .0),
+)
 
 pub mass-of-spec : {M : Type 1} → statement M
 mass-of-spec =

@@ -50,8 +50,12 @@ mass-of-requires c κs = search needs
 
 -- src/steps.rt:145:9
 put-share-requires : tie.Need-put-share-requires Inv-loop μ-loop
-put-share-requires c κs = ((c .before .before .number-at) .ensures .1, (c .before .mass-of) .ensures .1, (c .before .before .before .before .before .denominator-of) .ensures .1,
-    omega (arith, (c .before .before .before .before .loop) .inv .1, (c .before .before .before .before .loop) .inv .2, (c .before .before .before .loop-test) .taken, (c .before .before .before .before .before .before .before .before .before .before .before .pre) .2, (c .before .before .before .before .before .before .before .before .before .before .before .pre) .3))
+put-share-requires c κs = (
+  (c .before .before .number-at) .ensures .1,
+  (c .before .mass-of) .ensures .1,
+  (c .before .before .before .before .before .denominator-of) .ensures .1,
+  omega (arith, (c .before .before .before .before .loop) .inv .1, (c .before .before .before .before .loop) .inv .2, (c .before .before .before .loop-test) .taken, (c .before .before .before .before .before .before .before .before .before .before .before .pre) .2, (c .before .before .before .before .before .before .before .before .before .before .before .pre) .3),
+)
 
 -- src/steps.rt:146:13
 add-j : tie.Need-add-j Inv-loop μ-loop
@@ -63,11 +67,15 @@ loop-less c = search needs
 
 -- src/steps.rt:143:5
 loop-again : tie.Need-loop-again Inv-loop μ-loop
-loop-again c = ((c .before .before .put-share) .ensures .0 ∙ ap₂ (λ (m d : ℕ). take ((c .before .before .before .before .before .before .before .loop) .at) ((c .before .before .before .before .before .before .before .loop) .list) ++ entryOf ((c .before .before .before .before .before .number-at) .result) m d) ((c .before .before .before .before .mass-of) .ensures .0)
-    ((c .before .before .before .before .before .before .before .before .denominator-of) .ensures .0 ∙ ap (denominatorOf ((c .before .before .before .before .before .before .before .before .before .before .before .before .before .before .args) .edges .now)) ((c .before .before .before .before .before .before .before .before .before .name-at) .ensures .0))
-    ∙ shares-on (λ m. massOf m (rawBranches ((c .before .before .before .before .before .before .before .before .before .before .before .before .before .before .args) .edges .now) ((c .before .before .before .before .before .before .before .before .before .before .before .before .before .before .args) .raw .now) 0 (length ((c .before .before .before .before .before .before .before .before .before .before .before .before .before .before .args) .raw .now) - 1))) (denominatorOf ((c .before .before .before .before .before .before .before .before .before .before .before .before .before .before .args) .edges .now) (rawEdge ((c .before .before .before .before .before .before .before .before .before .before .before .before .before .before .args) .raw .now))) ((c .before .before .before .before .before .before .before .before .before .before .before .before .before .before .args) .names .now) (take 1 ((c .before .before .before .before .before .before .before .before .before .before .before .before .before .before .args) .list .now))
-    (take ((c .before .before .before .before .before .before .before .loop) .at) ((c .before .before .before .before .before .before .before .loop) .list)) ((c .before .before .before .before .before .before .before .loop) .j) ((c .before .before .before .before .before .number-at) .result) ((c .before .before .before .before .before .before .loop-test) .taken) ((c .before .before .before .before .before .number-at) .ensures .0) ((c .before .before .before .before .before .before .before .loop) .inv .0),
-    omega (arith, (c .before .before .put-share) .ensures .1, (c .before .before .before .before .before .before .before .loop) .inv .1), (c .before .before .put-share) .ensures .2 ∙ (c .before .before .before .before .before .before .before .loop) .inv .2, omega (arith, (c .before .before .before .before .before .before .loop-test) .taken))
+loop-again c = (
+  (c .before .before .put-share) .ensures .0 ∙ ap₂ (λ (m d : ℕ). take ((c .before .before .before .before .before .before .before .loop) .at) ((c .before .before .before .before .before .before .before .loop) .list) ++ entryOf ((c .before .before .before .before .before .number-at) .result) m d) ((c .before .before .before .before .mass-of) .ensures .0)
+      ((c .before .before .before .before .before .before .before .before .denominator-of) .ensures .0 ∙ ap (denominatorOf ((c .before .before .before .before .before .before .before .before .before .before .before .before .before .before .args) .edges .now)) ((c .before .before .before .before .before .before .before .before .before .name-at) .ensures .0))
+      ∙ shares-on (λ m. massOf m (rawBranches ((c .before .before .before .before .before .before .before .before .before .before .before .before .before .before .args) .edges .now) ((c .before .before .before .before .before .before .before .before .before .before .before .before .before .before .args) .raw .now) 0 (length ((c .before .before .before .before .before .before .before .before .before .before .before .before .before .before .args) .raw .now) - 1))) (denominatorOf ((c .before .before .before .before .before .before .before .before .before .before .before .before .before .before .args) .edges .now) (rawEdge ((c .before .before .before .before .before .before .before .before .before .before .before .before .before .before .args) .raw .now))) ((c .before .before .before .before .before .before .before .before .before .before .before .before .before .before .args) .names .now) (take 1 ((c .before .before .before .before .before .before .before .before .before .before .before .before .before .before .args) .list .now))
+      (take ((c .before .before .before .before .before .before .before .loop) .at) ((c .before .before .before .before .before .before .before .loop) .list)) ((c .before .before .before .before .before .before .before .loop) .j) ((c .before .before .before .before .before .number-at) .result) ((c .before .before .before .before .before .before .loop-test) .taken) ((c .before .before .before .before .before .number-at) .ensures .0) ((c .before .before .before .before .before .before .before .loop) .inv .0),
+  omega (arith, (c .before .before .put-share) .ensures .1, (c .before .before .before .before .before .before .before .loop) .inv .1),
+  (c .before .before .put-share) .ensures .2 ∙ (c .before .before .before .before .before .before .before .loop) .inv .2,
+  omega (arith, (c .before .before .before .before .before .before .loop-test) .taken),
+)
 
 -- src/steps.rt:133:1
 same-length : tie.Need-same-length Inv-loop μ-loop
@@ -75,10 +83,12 @@ same-length c = (c .before .loop) .inv .2
 
 -- src/steps.rt:133:1
 returns : tie.Need-returns Inv-loop μ-loop
-returns c = let whole : (c .before .loop) .j ≡ length ((c .before .before .before .before .before .before .before .before .args) .names .now) = omega (arith, (c .before .loop) .inv .3, (c .loop-test) .left) in
-    ((c .before .loop) .inv .0 ∙ ap (λ (l : List ℕ). take 1 ((c .before .before .before .before .before .before .before .before .args) .list .now) ++ sharesOver (λ m. massOf m (rawBranches ((c .before .before .before .before .before .before .before .before .args) .edges .now) ((c .before .before .before .before .before .before .before .before .args) .raw .now) 0 (length ((c .before .before .before .before .before .before .before .before .args) .raw .now) - 1)))
-    (denominatorOf ((c .before .before .before .before .before .before .before .before .args) .edges .now) (rawEdge ((c .before .before .before .before .before .before .before .before .args) .raw .now))) l) (ap (λ (k : ℕ). take k ((c .before .before .before .before .before .before .before .before .args) .names .now)) whole ∙ take-length ((c .before .before .before .before .before .before .before .before .args) .names .now)),
-    omega (arith, (c .before .loop) .inv .1, (c .before .loop) .inv .3, (c .before .before .before .before .before .before .before .before .pre) .2), (c .before .loop) .inv .2)
+returns c = let whole : (c .before .loop) .j ≡ length ((c .before .before .before .before .before .before .before .before .args) .names .now) = omega (arith, (c .before .loop) .inv .3, (c .loop-test) .left) in (
+  (c .before .loop) .inv .0 ∙ ap (λ (l : List ℕ). take 1 ((c .before .before .before .before .before .before .before .before .args) .list .now) ++ sharesOver (λ m. massOf m (rawBranches ((c .before .before .before .before .before .before .before .before .args) .edges .now) ((c .before .before .before .before .before .before .before .before .args) .raw .now) 0 (length ((c .before .before .before .before .before .before .before .before .args) .raw .now) - 1)))
+      (denominatorOf ((c .before .before .before .before .before .before .before .before .args) .edges .now) (rawEdge ((c .before .before .before .before .before .before .before .before .args) .raw .now))) l) (ap (λ (k : ℕ). take k ((c .before .before .before .before .before .before .before .before .args) .names .now)) whole ∙ take-length ((c .before .before .before .before .before .before .before .before .args) .names .now)),
+  omega (arith, (c .before .loop) .inv .1, (c .before .loop) .inv .3, (c .before .before .before .before .before .before .before .before .pre) .2),
+  (c .before .loop) .inv .2,
+)
 
 pub put-shares-spec : {M : Type 1} → statement M
 put-shares-spec =
