@@ -12,12 +12,12 @@ use crate::explore::{self, Exploration};
 use crate::generate;
 use crate::graph_cases::written;
 use crate::graphs_form::{numbers, read_back};
-use crate::graphs_models::{fractions, varied};
+use crate::graphs_models::{fractions, heavy, mixed, varied, HEAVY_REGIONS, HEAVY_SOURCE};
 use crate::graphs_next::{reached, Named};
 use crate::links::{Graph, Step};
 use crate::pairs::{self, Relation};
 use crate::refine;
-use crate::region::{Region, ENTRY};
+use crate::region::{Region, ENTRY, OVER};
 use crate::rng::Rng;
 use crate::rounds::{self, Blocks};
 use crate::table::{self, Model};
@@ -116,6 +116,8 @@ fn make(seed: u64) -> Graphs {
     add_known(&mut graphs);
     add_fractions(&mut graphs);
     add_by_chance(&mut graphs);
+    add_heavy(&mut graphs);
+    add_mixed(&mut graphs);
     graphs.check();
     graphs
 }
@@ -178,6 +180,32 @@ fn add_by_chance(graphs: &mut Graphs) {
             graphs.add(&model);
         }
     }
+}
+
+/// The model with all edges at one location. How many regions it has is known, and so is which regions share a block:
+/// those of the edges' location, and of the others those of one label.
+fn add_heavy(graphs: &mut Graphs) {
+    let model = heavy();
+    let (regions, last) = graphs.add(&model).expect("a new model");
+    assert_eq!(regions.len(), HEAVY_REGIONS, "the regions of the heavy model");
+    let kind =
+        |region: &Region| (region.location == HEAVY_SOURCE, model.labels[usize::from(region.location)]);
+    assert_eq!(last, rounds::numbered(regions.iter().map(kind)), "the blocks of the heavy model");
+}
+
+/// The model with the edges of two locations mixed. Which regions of the two with equal clocks share a block is known.
+fn add_mixed(graphs: &mut Graphs) {
+    let (regions, last) = graphs.add(&mixed()).expect("a new model");
+    let mut met = [0, 0];
+    for (number, &region) in regions.iter().enumerate().filter(|(_, region)| region.location == 0) {
+        let twin = Region { location: 1, ..region };
+        if let Some(other) = regions.iter().position(|&another| another == twin) {
+            let shared = last[number] == last[other];
+            assert_eq!(shared, region.whole[0] == OVER, "{region:?} and its twin");
+            met[usize::from(shared)] += 1;
+        }
+    }
+    assert!(met.iter().all(|&times| times > 0), "twins that share a block or not: {met:?}");
 }
 
 impl Graphs {

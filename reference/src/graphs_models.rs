@@ -1,12 +1,13 @@
 // Models for the command `graphs`: models in which edges have equal shares by different fractions beside shares that
-// are nearly equal, and models with branches cut in two and edges put in a second time.
+// are nearly equal, models with branches cut in two and edges put in a second time, and two models with as many edges
+// as a table may have.
 
 use crate::block_models::{fan, labelled, shuffle, step};
 use crate::generate::mask;
 use crate::graph_models::{guard, invariant, AT_LEAST, AT_MOST, EQUAL, LESS};
 use crate::records::with_places;
 use crate::rng::Rng;
-use crate::table::{Edge, GuardAtom, Model, LARGEST_DENOMINATOR, MOST_BRANCHES, MOST_EDGES};
+use crate::table::{Edge, GuardAtom, Model, LARGEST_DENOMINATOR, MOST_BRANCHES, MOST_EDGES, MOST_LOCATIONS};
 
 /// A fraction: a weight over a denominator.
 type Fraction = (u16, u16);
@@ -178,4 +179,105 @@ fn again(rng: &mut Rng, edge: &Edge) -> Edge {
         again.branches[last].weight += 1;
     }
     again
+}
+
+/// How many regions the model `heavy` has: its clock has 26 classes, and nine locations are reached.
+pub const HEAVY_REGIONS: usize = 26 * 9;
+/// The location at which all its edges begin.
+pub const HEAVY_SOURCE: u8 = MOST_LOCATIONS - 1;
+
+/// A model with all edges at its initial location, which is the last: 128 actions, and eight branches each to the first
+/// eight locations without resets, all eight shares of an edge different. Nothing leaves those eight, and the other
+/// locations are not reached; one of them has the only atom, for the sake of M.
+pub fn heavy() -> Model {
+    let edges = (0..MOST_EDGES).map(|number| {
+        // From 36, the sum of 1 to 8, to the largest.
+        let denominator = 36 + (usize::from(LARGEST_DENOMINATOR) - 36) * number / (MOST_EDGES - 1);
+        let part = denominator / 36;
+        let branches: Vec<(u16, u8, u8)> = (0..MOST_BRANCHES)
+            .map(|branch| {
+                let last = branch == MOST_BRANCHES - 1;
+                let weight = if last { denominator - 28 * part } else { (branch + 1) * part };
+                (weight as u16, ((branch + number) % MOST_BRANCHES) as u8, 0)
+            })
+            .collect();
+        step(HEAVY_SOURCE, number as u8, &[], &branches)
+    });
+    let labels = (0..MOST_LOCATIONS).map(|location| location % 3).collect();
+    let invariants = vec![invariant(MOST_BRANCHES as u8, 0, AT_MOST, 12)];
+    with_places(Model { clocks: 1, initial: HEAVY_SOURCE, labels, invariants, edges: edges.collect() })
+}
+
+/// The sources of eight edges that follow each other, over and over.
+const MIXED_SOURCES: [u8; 8] = [1, 1, 0, 1, 0, 0, 0, 1];
+/// How many edges each of the two sources has.
+const EACH: usize = MOST_EDGES / 2;
+
+/// A model whose edges are those of locations 0 and 1 mixed, one of location 1 first. Both have the same 64 edges but for
+/// the cuts of their branches, the denominators and the order, which is reversed, and but for the last edge of location
+/// 0, which gives a little more to location 2 at location 1. It needs clock 0 at 1. So regions of the two with equal
+/// clocks share a block where clock 0 is over; where it is not, they come by delay to where this edge parts them.
+pub fn mixed() -> Model {
+    let mut rising = 0..EACH;
+    let mut falling = (0..EACH).rev();
+    let edges = (0..MOST_EDGES).map(|number| match MIXED_SOURCES[number % MIXED_SOURCES.len()] {
+        0 => mixed_at_0(rising.next().expect("each source has as many edges")),
+        _ => mixed_at_1(falling.next().expect("each source has as many edges")),
+    });
+    labelled(2, &[0, 0, 1], Vec::new(), edges.collect())
+}
+
+/// What an edge of the model `mixed` gives where, in sixtieths: share, target and mask, three of them. Among the four
+/// edges of the last action the shares of location 2 are all different: 26, 21, 16 and 27.
+fn mixed_leads(edge: usize) -> [(u16, u8, u8); 3] {
+    let shares = [10 + edge % 7, 20 + edge % 5, 30 - edge % 7 - edge % 5];
+    let masks = [edge, edge / 3, edge / 5];
+    [0, 1, 2].map(|lead| (shares[lead] as u16, ((edge + lead) % 3) as u8, (masks[lead] % 4) as u8))
+}
+
+/// The edge over 60, its leads taken in turn: cut in 3, 3 and 2 pieces.
+fn mixed_at_0(edge: usize) -> Edge {
+    let leads = mixed_leads(edge);
+    let branches: Vec<(u16, u8, u8)> = (0..MOST_BRANCHES)
+        .map(|branch| {
+            let (share, target, mask) = leads[branch % 3];
+            // Pieces of 1 and 2, and the rest.
+            let piece = match branch {
+                0..=2 => 1,
+                3 | 4 => 2,
+                5 => share - 1,
+                _ => share - 3,
+            };
+            (piece, target, mask)
+        })
+        .collect();
+    step(0, (edge / 4) as u8, &mixed_guards(edge), &branches)
+}
+
+/// The edge over some times 60, its leads one after the other from the last: cut in 4, 1 and 2 pieces.
+fn mixed_at_1(edge: usize) -> Edge {
+    let times = LARGEST_DENOMINATOR / 60 - 15 * edge as u16;
+    let [first, second, third] = mixed_leads(edge).map(|(share, target, mask)| (share * times, target, mask));
+    let more = u16::from(edge == EACH - 1);
+    let quarter = third.0 / 4;
+    let branches = [
+        (quarter, third.1, third.2),
+        (quarter - 1, third.1, third.2),
+        (quarter + 1, third.1, third.2),
+        (third.0 - 3 * quarter + more, third.1, third.2),
+        second,
+        (first.0 / 3, first.1, first.2),
+        (first.0 - first.0 / 3 - more, first.1, first.2),
+    ];
+    step(1, (edge / 4) as u8, &mixed_guards(edge), &branches)
+}
+
+fn mixed_guards(edge: usize) -> Vec<GuardAtom> {
+    match edge % 5 {
+        0 => vec![],
+        1 => vec![guard(0, LESS, 1)],
+        2 => vec![guard(1, AT_LEAST, 1)],
+        3 => vec![guard(0, EQUAL, 1)],
+        _ => vec![guard(1, AT_MOST, 0)],
+    }
 }

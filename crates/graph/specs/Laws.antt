@@ -6,6 +6,7 @@
 --   Walks      the cases of what the code does step by step
 --   Bounds     what is read is within bounds
 --   Stores     what each writer stores, and what it leaves as it was
+--   Chains     chains by buckets; the index of clock classes
 --   Prepared   what a prepared model stores is read back
 --   Sources    the resets backwards
 pub mod Columns
@@ -17,3 +18,4 @@ pub mod Bounds
 pub mod Stores
 pub mod Sources
 pub mod Prepared
+pub mod Chains

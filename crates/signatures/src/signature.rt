@@ -281,7 +281,7 @@ fn is_roomy(names: &[u16], index: &[u16], numbers: &[u32], memo: &[u16], items: 
 //
 // names has two halves: the names of the items, and for each item where to go on along its delays. index, numbers and memo are work memory of
 // INDEX, NUMBERS and MEMO numbers: what stood there does not matter, and what stands there afterwards is unspecified. If they have other sizes,
-// there are more than 4,096 items in the list or more than 8,192 numbers in names, nothing is done and the answer is false.
+// there are more than 4,096 items in the list or more than 8,192 numbers in names, the items stay as they are and the answer is false.
 pub fn sign(
     graph: &[u16],
     edges: &[u32],

@@ -1,14 +1,14 @@
 -- What the ids of a pass tell of the next round, in a closed structure: items have equal ids exactly where it relates them; and an item that
 -- found no room is related to none that has an id.
-use Prim.Native.Nat.{ℕ, zero, suc, _<_}
+use Prim.Native.Nat.{ℕ, zero, suc, _≤_, _<_}
 use native.Mathlib.Omega.{arith}
 use mathlib.Core.Path.{_≡_, refl, sym, _∙_, ap, ap₂, subst}
 use mathlib.Core.Bool.{Bool, true, false, cond}
 use mathlib.Core.List.{List, [], _∷_}
 use mathlib.Core.Logic.{_⊎_, inl, inr, _↔_}
-use lib.Dec.{ltb}
+use lib.Dec.{ltb, eqb}
 use lib.ListN.{length, getD}
-use borrow.Author.Tests.{ltb-true}
+use borrow.Author.Tests.{ltb-true, ne-eqb}
 use Rattle.bisimulation.specs.Structures.{Closed}
 use Rattle.bisimulation.specs.Finite.{Finite, structure, next}
 use Rattle.bisimulation.specs.Laws.Tests.{both}
@@ -98,3 +98,25 @@ module _ {graph edges names items items′ : List ℕ} (passed : Passed graph ed
 
   pub pass-small : (j : ℕ) → j < length items → (getD items′ j 0 ≡ noId → ⊥) → getD items′ j 0 < 8192
   pass-small j h some = omega (arith, passed .all .id j h some .whole .0, passed .few)
+
+-- So fewer items wait after a pass than it was given.
+abbrev pub waiting : List ℕ → ℕ
+waiting [] = 0
+waiting (x ∷ l) = cond (eqb x noId) (suc (waiting l)) (waiting l)
+
+waiting-most : (l : List ℕ) → waiting l ≤ length l
+waiting-most [] = omega arith
+waiting-most (x ∷ l) =
+    elim (both (eqb x noId)) [
+      | inl e ↦ rw e (omega (arith, waiting-most l))
+      | inr e ↦ rw e (omega (arith, waiting-most l))
+    ]
+
+waiting-less : (l : List ℕ) → 0 < length l → (getD l 0 0 ≡ noId → ⊥) → waiting l < length l
+waiting-less [] h some = absurd (omega (arith, h))
+waiting-less (x ∷ l) h some = rw (ne-eqb x noId some) (omega (arith, waiting-most l))
+
+pub pass-progress : {graph edges names items items′ : List ℕ} → Passed graph edges names items items′ → 0 < length items
+    → waiting items′ < length items
+pass-progress {items = items} {items′ = items′} passed h =
+    subst (λ (n : ℕ). waiting items′ < n) (passed .all .size) (waiting-less items′ (omega (arith, passed .all .size, h)) (passed .all .first h))
