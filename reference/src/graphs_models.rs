@@ -213,10 +213,10 @@ const MIXED_SOURCES: [u8; 8] = [1, 1, 0, 1, 0, 0, 0, 1];
 /// How many edges each of the two sources has.
 const EACH: usize = MOST_EDGES / 2;
 
-/// A model whose edges are those of locations 0 and 1 mixed, one of location 1 first. Both have the same 64 edges but for
-/// the cuts of their branches, the denominators and the order, which is reversed, and but for the last edge of location
-/// 0, which gives a little more to location 2 at location 1. It needs clock 0 at 1. So regions of the two with equal
-/// clocks share a block where clock 0 is over; where it is not, they come by delay to where this edge parts them.
+/// A model whose edges are those of locations 0 and 1 mixed, one of location 1 first. Both have the same 64 edges but
+/// for the cuts of their branches, the denominators and the order, which is reversed, and but for the last edge of
+/// location 0, which at location 1 gives a little more to location 2. It needs clock 0 at 1. So regions of the two with
+/// equal clocks share a block where clock 0 is over; elsewhere they come by delay to where this edge parts them.
 pub fn mixed() -> Model {
     let mut rising = 0..EACH;
     let mut falling = (0..EACH).rev();

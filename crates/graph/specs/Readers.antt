@@ -7,7 +7,8 @@ use lib.ListN.{getD}
 use lib.Dec.{eqb}
 use Rattle.graph.specs.Columns.{nothing, load, mostRegions, mostLocations, mostEdges, mostBranches, mostSlots, weightBound, edgePlace}
 use Rattle.graph.specs.Columns.{labels, edgeStarts, edgeNumbers, slotStarts, slotKeys, branchSlots}
-use Rattle.graph.specs.Columns.{classHeads, classLinks, regionHeads, regionLinks, classes, locations, delays, availableCounts, available}
+use Rattle.graph.specs.Columns.{classHeads, classLinks, regionHeads, regionLinks, classes, locations, delays, availableCounts}
+use Rattle.graph.specs.Columns.{available}
 use Rattle.graph.specs.Columns.{resets, classDelays, slotLocations, keyHeads, keyLinks, sourceHeads, sourceLinks}
 
 -- ---- Of a location

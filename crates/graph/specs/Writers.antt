@@ -7,7 +7,8 @@ use lib.Dec.{eqb}
 use lib.Bits.{bitOr}
 use Rattle.graph.specs.Columns.{nothing, load, store, mostRegions, mostLocations, mostEdges, mostBranches, mostSlots, edgePlace}
 use Rattle.graph.specs.Columns.{labels, edgeStarts, edgeNumbers, slotStarts, slotKeys, branchSlots}
-use Rattle.graph.specs.Columns.{classHeads, classLinks, regionHeads, regionLinks, classes, locations, delays, availableCounts, available}
+use Rattle.graph.specs.Columns.{classHeads, classLinks, regionHeads, regionLinks, classes, locations, delays, availableCounts}
+use Rattle.graph.specs.Columns.{available}
 use Rattle.graph.specs.Columns.{resets, classDelays, slotLocations, keyHeads, keyLinks, sourceHeads, sourceLinks}
 use Rattle.graph.specs.Readers.{keyOf, keyHead, availableWord, resetClass, classHead, resetNumber, sourceHead, bucketOf, regionHead}
 

@@ -1,7 +1,8 @@
 // Clock classes: an index by buckets, and the class after each reset, noted both ways, and after a delay.
 ghost use Prim.Native.Nat.{ℕ, _<_};
 ghost use mathlib.Core.Path.{_≡_};
-ghost use Rattle.graph.specs.Readers.{resetClass, delayClass, classHead, classLink, resetNumber, resetSource, resetMask, sourceHead, sourceLink};
+ghost use Rattle.graph.specs.Readers.{resetClass, delayClass, classHead, classLink, resetNumber, resetSource, resetMask, sourceHead};
+ghost use Rattle.graph.specs.Readers.{sourceLink};
 ghost use Rattle.graph.specs.Writers.{withClass, withClassDelay, withSource, withReset};
 use crate::slices::between;
 use crate::slices::load;
@@ -110,7 +111,8 @@ fn store_source(class: usize, mask: usize, after: usize, graph: &mut [u16])
     store(SOURCE_HEADS + after % 4096, reset, graph);
 }
 
-// Notes the clock class after a reset both ways, unless it is known. (A reset noted twice would make a cycle of links. A class is below 4,096:
+// Notes the clock class after a reset both ways, unless it is known. (A reset noted twice would make a cycle of links. A class is below
+// 4,096:
 // with 65,535 the reset stays unknown, and is noted backwards all the same.)
 pub fn store_reset(class: usize, mask: usize, after: usize, graph: &mut [u16])
     ensures { λ _. ⌜ now (graph .exit) ≡ withReset (now (graph .entry)) class mask after ⌝ }

@@ -1,4 +1,5 @@
--- A memo of steps: a slot holds the raw form of a step and the id of its list. Slots have eleven numbers: the size of the raw form and one more
+-- A memo of steps: a slot holds the raw form of a step and the id of its list. Slots have eleven numbers: the size of the raw form and one
+-- more
 -- (0: nothing), the id, the raw form.
 use Prim.Native.Nat.{ℕ, _+_, _-_, _*_, _≤_, _<_}
 use mathlib.Core.Path.{_≡_}

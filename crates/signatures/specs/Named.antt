@@ -1,4 +1,5 @@
--- Signatures over a dictionary: each step of an item is a list and has an id, so is the set of names that it reaches by delay, and the signature is
+-- Signatures over a dictionary: each step of an item is a list and has an id, so is the set of names that it reaches by delay, and the
+-- signature is
 -- the list of the set of the steps' ids, with the name and the id of the delays behind it, which has an id too.
 use Prim.Native.Nat.{ℕ, _+_, _*_, _/_, _≤_, _<_}
 use mathlib.Core.Path.{_≡_}
@@ -70,7 +71,8 @@ Signed held held′ name delays steps Full = Refused held′ name delays steps �
 
 -- ---- Names, and where to go on along the delays
 
--- The first half of a list are names of items; the second half says for each item where to go on along its delays: to what follows, or to the
+-- The first half of a list are names of items; the second half says for each item where to go on along its delays: to what follows, or to
+-- the
 -- next that has another name.
 unfoldable pub itemsIn : List ℕ → ℕ
 itemsIn names = length names / 2
@@ -89,7 +91,8 @@ stepsFrom graph edges names x = stepsOf (structureOf (itemsIn names) graph edges
 -- ---- What the functions leave
 
 -- The step of an edge has an id, or is refused, and the memo stays right.
-pub record Stepped (graph edges names : List ℕ) (class edge : ℕ) (index numbers index′ numbers′ memo′ : List ℕ) (answer : Interned) : Type 0 where
+pub record Stepped (graph edges names : List ℕ) (class edge : ℕ) (index numbers index′ numbers′ memo′ : List ℕ)
+    (answer : Interned) : Type 0 where
   pub interns : Interns (stepAt graph edges names class edge) index numbers index′ numbers′ answer
   pub noted : Noted (rawStep edges) (entriesOf index′ numbers′) memo′
 
@@ -100,16 +103,19 @@ Answered graph edges names x held held′ list′ Short =
     Grows held held′ × ((name : ℕ) (delays : List ℕ) → Signed held held′ name delays (stepsFrom graph edges names x) Full)
 
 -- The ranks before one were looked at, and their steps are held.
-pub record Listing (graph edges names : List ℕ) (x count : ℕ) (index numbers list index′ numbers′ memo′ list′ : List ℕ) (len rank : ℕ) : Type 0 where
+pub record Listing (graph edges names : List ℕ) (x count : ℕ) (index numbers list index′ numbers′ memo′ list′ : List ℕ)
+    (len rank : ℕ) : Type 0 where
   pub kept : Dictionary index′ numbers′
   pub noted : Noted (rawStep edges) (entriesOf index′ numbers′) memo′
   pub size : length list′ ≡ length list
-  pub part : Partial (entriesOf index numbers) (entriesOf index′ numbers′) (stepsBelow (structureOf (itemsIn names) graph edges) names x rank)
+  pub part : Partial (entriesOf index numbers) (entriesOf index′ numbers′)
+      (stepsBelow (structureOf (itemsIn names) graph edges) names x rank)
       rank list′ len
   pub within : rank ≤ count
   pub here : rank < count → isAvailable graph x rank ≡ true
 
-pub record Gathering (graph edges names : List ℕ) (x : ℕ) (index numbers list index′ numbers′ memo′ list′ : List ℕ) (answer : Gathered) : Type 0 where
+pub record Gathering (graph edges names : List ℕ) (x : ℕ) (index numbers list index′ numbers′ memo′ list′ : List ℕ)
+    (answer : Gathered) : Type 0 where
   pub kept : Dictionary index′ numbers′
   pub noted : Noted (rawStep edges) (entriesOf index′ numbers′) memo′
   pub size : length list′ ≡ length list
@@ -124,12 +130,14 @@ pub record Finishes (names : List ℕ) (x len : ℕ) (index numbers list index�
       → Signed held (entriesOf index′ numbers′) (nameOf names x) (reachedFrom names x) steps answer
 
 -- The signature of an item.
-pub record Signs (graph edges names : List ℕ) (x : ℕ) (index numbers list index′ numbers′ memo′ list′ : List ℕ) (answer : Interned) : Type 0 where
+pub record Signs (graph edges names : List ℕ) (x : ℕ) (index numbers list index′ numbers′ memo′ list′ : List ℕ)
+    (answer : Interned) : Type 0 where
   pub kept : Dictionary index′ numbers′
   pub noted : Noted (rawStep edges) (entriesOf index′ numbers′) memo′
   pub size : length list′ ≡ length list
   pub grows : Grows (entriesOf index numbers) (entriesOf index′ numbers′)
-  pub signed : Signed (entriesOf index numbers) (entriesOf index′ numbers′) (nameOf names x) (reachedFrom names x) (stepsFrom graph edges names x) answer
+  pub signed : Signed (entriesOf index numbers) (entriesOf index′ numbers′) (nameOf names x) (reachedFrom names x)
+      (stepsFrom graph edges names x) answer
 
 -- ---- A pass
 
@@ -146,7 +154,8 @@ numberOf Full = noId
 pub record Passing (graph edges names items items′ : List ℕ) (held : List (List ℕ)) (k : ℕ) : Type 0 where
   pub size : length items′ ≡ length items
   pub id : (j : ℕ) → j < k → (getD items′ j 0 ≡ noId → ⊥)
-      → Named held (nameOf names (getD items j 0)) (reachedFrom names (getD items j 0)) (stepsFrom graph edges names (getD items j 0)) (getD items′ j 0)
+      → Named held (nameOf names (getD items j 0)) (reachedFrom names (getD items j 0)) (stepsFrom graph edges names (getD items j 0))
+      (getD items′ j 0)
   pub refused : (j : ℕ) → j < k → getD items′ j 0 ≡ noId
       → Refused held (nameOf names (getD items j 0)) (reachedFrom names (getD items j 0)) (stepsFrom graph edges names (getD items j 0))
   pub rest : (j : ℕ) → k ≤ j → getD items′ j 0 ≡ getD items j 0

@@ -1,4 +1,5 @@
-// The signature of an item: the ids of its steps, its name, and the id of the names that it reaches by delay; and a pass that gives items ids.
+// The signature of an item: the ids of its steps, its name, and the id of the names that it reaches by delay; and a pass that gives items
+// ids.
 ghost use Prim.Native.Nat.{ℕ, _+_, _/_, _≤_, _<_};
 ghost use mathlib.Core.Path.{_≡_};
 ghost use mathlib.Core.Bool.{Bool, true, false};
@@ -8,7 +9,8 @@ ghost use Rattle.graph.specs.Readers.{isAvailable};
 ghost use Rattle.signatures.specs.Dictionary.{Dictionary, Interns, Empty, Tells, entriesOf};
 ghost use Rattle.signatures.specs.Memo.{Noted};
 ghost use Rattle.signatures.specs.Raw.{rawStep};
-ghost use Rattle.signatures.specs.Named.{itemsIn, reachedFrom, Partial, Stepped, Gathering, Finishes, Signs, Passed, Roomy, numberOf, Signed, stepsFrom};
+ghost use Rattle.signatures.specs.Named.{itemsIn, reachedFrom, Partial, Stepped, Gathering, Finishes, Signs, Passed, Roomy};
+ghost use Rattle.signatures.specs.Named.{numberOf, Signed, stepsFrom};
 ghost use Rattle.signatures.specs.Steps.{nameOf};
 ghost use Rattle.signatures.specs.Available.{NextAvailable};
 use crate::dictionary::Interned;
@@ -244,7 +246,8 @@ fn sign_all(
     requires { ⌜ Noted (rawStep (now edges)) (entriesOf (now index) (now numbers)) (now memo) ⌝ }
     requires { ⌜ (itemsIn (now names) ≤ 4096) × (4226 ≤ length (now list)) × (length (now items) ≤ 4096) ⌝ }
     ensures { λ _. ⌜ Passed (now (graph .entry)) (now (edges .entry)) (now (names .entry)) (now (items .entry)) (now (items .exit)) ⌝ }
-    ensures { λ _. ⌜ (length (now (index .exit)) ≡ length (now (index .entry))) × (length (now (numbers .exit)) ≡ length (now (numbers .entry)))
+    ensures { λ _. ⌜ (length (now (index .exit)) ≡ length (now (index .entry))) ×
+        (length (now (numbers .exit)) ≡ length (now (numbers .entry)))
         × (length (now (memo .exit)) ≡ length (now (memo .entry))) × (length (now (list .exit)) ≡ length (now (list .entry))) ⌝ }
 {
     let mut k = 0;
@@ -258,7 +261,8 @@ fn sign_all(
 
 // Has the memory the sizes that a pass asks?
 fn is_roomy(names: &[u16], index: &[u16], numbers: &[u32], memo: &[u16], items: &[u16]) -> bool
-    ensures { λ r. ⌜ Tells r (Roomy (now (names .entry)) (now (index .entry)) (now (numbers .entry)) (now (memo .entry)) (now (items .entry))) ⌝ }
+    ensures { λ r. ⌜ Tells r (Roomy (now (names .entry)) (now (index .entry)) (now (numbers .entry)) (now (memo .entry))
+        (now (items .entry))) ⌝ }
 {
     if 8192 < names.len() {
         return false;
@@ -275,12 +279,16 @@ fn is_roomy(names: &[u16], index: &[u16], numbers: &[u32], memo: &[u16], items: 
     memo.len() == MEMO
 }
 
-// Gives each item of a list the id of its signature over names. In a closed structure, with items below the count and right ways along the delays,
-// ids are equal exactly for items that the next round relates (`pass-tells`). An item whose lists find no room in the dictionary gets 65,535, and
+// Gives each item of a list the id of its signature over names. In a closed structure, with items below the count and right ways along the
+// delays,
+// ids are equal exactly for items that the next round relates (`pass-tells`). An item whose lists find no room in the dictionary gets
+// 65,535, and
 // is related to none that has an id (`pass-apart`); the first item always gets one (`pass-first`).
 //
-// names has two halves: the names of the items, and for each item where to go on along its delays. index, numbers and memo are work memory of
-// INDEX, NUMBERS and MEMO numbers: what stood there does not matter, and what stands there afterwards is unspecified. If they have other sizes,
+// names has two halves: the names of the items, and for each item where to go on along its delays. index, numbers and memo are work memory
+// of
+// INDEX, NUMBERS and MEMO numbers: what stood there does not matter, and what stands there afterwards is unspecified. If they have other
+// sizes,
 // there are more than 4,096 items in the list or more than 8,192 numbers in names, the items stay as they are and the answer is false.
 pub fn sign(
     graph: &[u16],
@@ -291,8 +299,10 @@ pub fn sign(
     memo: &mut [u16],
     items: &mut [u16],
 ) -> bool
-    ensures { λ r. ⌜ Tells r (Roomy (now (names .entry)) (now (index .entry)) (now (numbers .entry)) (now (memo .entry)) (now (items .entry))) ⌝ }
-    ensures { λ r. ⌜ (r ≡ true → Passed (now (graph .entry)) (now (edges .entry)) (now (names .entry)) (now (items .entry)) (now (items .exit)))
+    ensures { λ r. ⌜ Tells r (Roomy (now (names .entry)) (now (index .entry)) (now (numbers .entry)) (now (memo .entry))
+        (now (items .entry))) ⌝ }
+    ensures { λ r. ⌜ (r ≡ true → Passed (now (graph .entry)) (now (edges .entry)) (now (names .entry)) (now (items .entry))
+        (now (items .exit)))
         × (r ≡ false → now (items .exit) ≡ now (items .entry)) ⌝ }
 {
     if !is_roomy(names, index, numbers, memo, items) {

@@ -1,4 +1,5 @@
-// A test program for signatures: reads graphs and namings of their regions from standard input, and prints for each naming which regions have
+// A test program for signatures: reads graphs and namings of their regions from standard input, and prints for each naming which regions
+// have
 // the same signature. Its input and the expected output are made by the independent implementation, whose README gives their format.
 mod input;
 mod model;

@@ -1,4 +1,5 @@
--- Structures that agree have equal rounds, blocks and judgements. Edges may be numbered in any way: each available edge of one has an equal one in the
+-- Structures that agree have equal rounds, blocks and judgements. Edges may be numbered in any way: each available edge of one has an equal
+-- one in the
 -- other.
 use Prim.Native.Nat.{ℕ, zero, suc, _*_, _<_}
 use native.Mathlib.Omega.{arith}
@@ -7,7 +8,8 @@ use mathlib.Core.Bool.{Bool, true, false, cond, _&&_}
 use mathlib.Core.List.{List, [], _∷_, List·Memᴰ}
 use lib.Dec.{eqb}
 use Rattle.bisimulation.specs.Structures.{Branch, total, Closed}
-use Rattle.bisimulation.specs.Finite.{Finite, structure, related, sum, allBelow, someBelow, alike, delaysMatch, edgesMatch, matches, next}
+use Rattle.bisimulation.specs.Finite.{Finite, structure, related, sum, allBelow, someBelow, alike, delaysMatch, edgesMatch, matches}
+use Rattle.bisimulation.specs.Finite.{next}
 use Rattle.bisimulation.specs.Finite.{blocksBy, blocks, rounds, restFrom, sameList, lastBlocks, blockCount, leaders, accepts}
 use Rattle.bisimulation.specs.Laws.Tests.{same-test, and-iff, cond-iff, all-below, some-below, below-some}
 use Rattle.bisimulation.specs.Laws.Leads.{leads-agree}
@@ -51,12 +53,14 @@ module _ {F G : Finite} (a : Agree F G) (list : List ℕ) where
       all-below (G .edges) (λ f. cond (G .available x f) (someBelow (G .edges) (λ g. G .available y g && alike G list x f y g)) true) .1
       (λ f h. cond-iff (G .available x f) (someBelow (G .edges) (λ g. G .available y g && alike G list x f y g)) .1 (λ t. answer f h t))
     where
-      answer : (f : ℕ) → f < G .edges → G .available x f ≡ true → someBelow (G .edges) (λ g. G .available y g && alike G list x f y g) ≡ true
+      answer : (f : ℕ) → f < G .edges → G .available x f ≡ true → someBelow (G .edges)
+          (λ g. G .available y g && alike G list x f y g) ≡ true
       answer f h t =
           let (e, p) = a .fro x f hx h t in
           let (d, k, both) = some-below (F .edges) (λ d. F .available y d && alike F list x e y d)
           (cond-iff (F .available x e) (someBelow (F .edges) (λ d. F .available y d && alike F list x e y d)) .0
-          (all-below (F .edges) (λ e. cond (F .available x e) (someBelow (F .edges) (λ d. F .available y d && alike F list x e y d)) true) .0
+          (all-below (F .edges) (λ e. cond (F .available x e)
+          (someBelow (F .edges) (λ d. F .available y d && alike F list x e y d)) true) .0
           is e (p .within)) (p .available)) in
           let (u, like) = and-iff (F .available y d) (alike F list x e y d) .0 both in
           let (g, q) = a .to y d hy k u in
@@ -119,13 +123,16 @@ module _ {F G : Finite} (a : Agree F G) (proposal : List ℕ) where
   accepts-to : {F G : Finite} → Agree F G → accepts F proposal ≡ true → accepts G proposal ≡ true
   unfolding accepts
   accepts-to {F} {G} b is =
-      all-below (G .size) (λ x. allBelow (G .size) (λ y. cond (related proposal x y) (eqb (G .label x) (G .label y) && matches G proposal x y) true)) .1
+      all-below (G .size) (λ x. allBelow (G .size)
+      (λ y. cond (related proposal x y) (eqb (G .label x) (G .label y) && matches G proposal x y) true)) .1
       (λ x hx. all-below (G .size) (λ y. cond (related proposal x y) (eqb (G .label x) (G .label y) && matches G proposal x y) true) .1
       (λ y hy. let kx : x < F .size = subst (λ (n : ℕ). x < n) (sym (b .size)) hx in
       let ky : y < F .size = subst (λ (n : ℕ). y < n) (sym (b .size)) hy in
-      ap₂ (λ (p q : Bool). cond (related proposal x y) (p && q) true) (sym (ap₂ eqb (b .label x kx) (b .label y ky))) (sym (matches-agree b proposal x y kx ky))
+      ap₂ (λ (p q : Bool). cond (related proposal x y) (p && q) true) (sym (ap₂ eqb (b .label x kx) (b .label y ky)))
+      (sym (matches-agree b proposal x y kx ky))
       ∙ all-below (F .size) (λ y. cond (related proposal x y) (eqb (F .label x) (F .label y) && matches F proposal x y) true) .0
-      (all-below (F .size) (λ x. allBelow (F .size) (λ y. cond (related proposal x y) (eqb (F .label x) (F .label y) && matches F proposal x y) true)) .0 is x kx) y ky))
+      (all-below (F .size) (λ x. allBelow (F .size)
+      (λ y. cond (related proposal x y) (eqb (F .label x) (F .label y) && matches F proposal x y) true)) .0 is x kx) y ky))
 
   pub accepts-agree : accepts F proposal ≡ accepts G proposal
   accepts-agree = same-test (accepts F proposal) (accepts G proposal) (accepts-to a) (accepts-to (agree-back a))
@@ -134,10 +141,12 @@ module _ {F G : Finite} (a : Agree F G) (proposal : List ℕ) where
 pub closed-agree : {F G : Finite} → Agree F G → Closed (structure F) → Closed (structure G)
 closed-agree {F} {G} a closed =
     record {
-      delays = λ {x} {y} hx d. inside a (closed .delays (back x hx) (subst (λ (l : List ℕ). List·Memᴰ y l) (sym (a .delays x (back x hx))) d));
+      delays = λ {x} {y} hx d. inside a (closed .delays (back x hx)
+          (subst (λ (l : List ℕ). List·Memᴰ y l) (sym (a .delays x (back x hx))) d));
       targets = λ {x} {e = f} hx e b m.
           let (d, s) = a .fro x f (back x hx) (e .0) (e .1) in
-          inside a (closed .targets (back x hx) (s .within, s .available) b (subst (λ (l : List (Branch ℕ)). List·Memᴰ b l) (s .branches) m));
+          inside a (closed .targets (back x hx) (s .within, s .available) b
+          (subst (λ (l : List (Branch ℕ)). List·Memᴰ b l) (s .branches) m));
       positive = λ {x} {e = f} hx e.
           let (d, s) = a .fro x f (back x hx) (e .0) (e .1) in
           subst (λ (k : ℕ). 0 < k) (sym (s .whole)) (closed .positive (back x hx) (s .within, s .available));

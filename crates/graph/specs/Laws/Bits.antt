@@ -18,11 +18,13 @@ use Rattle.graph.specs.Laws.Columns.{Lent, Kept, apart, kept-same, kept-
 
 -- A bit of a word is below its end.
 pub bit-small : (k : ℕ) → k < 16 → 2 ^ k < 65536
-bit-small k h = let most : 2 ^ k ≤ 2 ^ 15 = pow-le-pow-right {n = 2} (omega arith) {i = k} {j = 15} (omega (arith, h)) in omega (arith, most)
+bit-small k h = let most : 2 ^ k ≤ 2 ^ 15 = pow-le-pow-right {n = 2} (omega arith) {i = k} {j = 15} (omega (arith, h)) in omega
+    (arith, most)
 
 -- What the code shifts.
 pub bit-shifted : (k : ℕ) → k < 16 → 1 * 2 ^ k % 18446744073709551616 ≡ 2 ^ k
-bit-shifted k h = let e : 1 * 2 ^ k ≡ 2 ^ k = omega arith in ap (λ (n : ℕ). n % 18446744073709551616) e ∙ mod-eq-of-lt (omega (arith, bit-small k h))
+bit-shifted k h = let e : 1 * 2 ^ k ≡ 2 ^ k = omega arith in ap (λ (n : ℕ). n % 18446744073709551616) e ∙ mod-eq-of-lt
+    (omega (arith, bit-small k h))
 
 -- ---- Powers of two
 
@@ -64,7 +66,8 @@ or-one (suc (suc b)) h = absurd (omega arith)
 pub bit-set : (w k : ℕ) → bitOf (bitOr w (2 ^ k)) k ≡ true
 unfolding bitOf
 bit-set w k =
-    ap (λ (n : ℕ). eqb n 1) (bit-split w k k ∙ ap (bitOr (w / 2 ^ k % 2)) (power-self k) ∙ or-one (w / 2 ^ k % 2) (mod-lt (w / 2 ^ k) {m = 2} (omega arith)))
+    ap (λ (n : ℕ). eqb n 1) (bit-split w k k ∙ ap (bitOr (w / 2 ^ k % 2)) (power-self k) ∙ or-one (w / 2 ^ k % 2)
+    (mod-lt (w / 2 ^ k) {m = 2} (omega arith)))
 
 pub bit-kept : (w k j : ℕ) → (j ≡ k → ⊥) → bitOf (bitOr w (2 ^ k)) j ≡ bitOf w j
 unfolding bitOf
@@ -89,15 +92,18 @@ place-inside x word = omega (arith, mod-lt x {m = 4096} (omega arith), mod-lt wo
 module _ (graph : List ℕ) (x rank : ℕ) where
   pub available-length : length (withAvailable graph x rank) ≡ length graph
   unfolding withAvailable
-  available-length = store-length available graph (8 * (x % mostRegions) + rank / 16 % 8) (bitOr (availableWord graph x (rank / 16)) (2 ^ (rank % 16)))
+  available-length = store-length available graph (8 * (x % mostRegions) + rank / 16 % 8)
+      (bitOr (availableWord graph x (rank / 16)) (2 ^ (rank % 16)))
 
   pub available-keeps : (other : Column) → apart available other ≡ true → Kept other graph (withAvailable graph x rank)
   unfolding withAvailable word-place
   available-keeps other is =
-      store-keeps available graph (8 * (x % mostRegions) + rank / 16 % 8) (bitOr (availableWord graph x (rank / 16)) (2 ^ (rank % 16))) other is
+      store-keeps available graph (8 * (x % mostRegions) + rank / 16 % 8)
+      (bitOr (availableWord graph x (rank / 16)) (2 ^ (rank % 16))) other is
       (place-inside x (rank / 16))
 
-  pub available-marked : Lent available graph → availableWord graph x (rank / 16) < 65536 → isAvailable (withAvailable graph x rank) x rank ≡ true
+  pub available-marked : Lent available graph → availableWord graph x (rank / 16) < 65536 → isAvailable
+      (withAvailable graph x rank) x rank ≡ true
   unfolding withAvailable isAvailable availableWord word-place
   available-marked lent small =
       ap (λ (w : ℕ). bitOf w (rank % 16))
@@ -107,7 +113,8 @@ module _ (graph : List ℕ) (x rank : ℕ) where
       ∙ bit-set (availableWord graph x (rank / 16)) (rank % 16)
 
   -- Every other rank of every region stays.
-  pub available-other : (y other : ℕ) → Lent available graph → availableWord graph x (rank / 16) < 65536 → x < 4096 → y < 4096 → rank < 128 → other < 128
+  pub available-other : (y other : ℕ) → Lent available graph → availableWord graph x (rank / 16) < 65536 → x < 4096 → y < 4096
+      → rank < 128 → other < 128
       → ((y ≡ x) × (other ≡ rank) → ⊥) → isAvailable (withAvailable graph x rank) y other ≡ isAvailable graph y other
   unfolding withAvailable isAvailable availableWord word-place
   available-other y other lent small hx hy hr ho differs = go (decide (word-place y (other / 16)) (word-place x (rank / 16)))
@@ -126,7 +133,8 @@ module _ (graph : List ℕ) (x rank : ℕ) where
           ∙ ap (λ (w : ℕ). bitOf w (other % 16))
           (load-stored available graph (8 * (x % mostRegions) + rank / 16 % 8) (bitOr (availableWord graph x (rank / 16)) (2 ^ (rank % 16)))
           (place-inside x (rank / 16)) lent
-          (or-lt 16 (availableWord graph x (rank / 16)) (2 ^ (rank % 16)) small (bit-small (rank % 16) (mod-lt rank {m = 16} (omega arith)))))
+          (or-lt 16 (availableWord graph x (rank / 16)) (2 ^ (rank % 16)) small
+          (bit-small (rank % 16) (mod-lt rank {m = 16} (omega arith)))))
           ∙ bit-kept (availableWord graph x (rank / 16)) (rank % 16) (other % 16) bits
           ∙ sym (ap (λ (n : ℕ). bitOf (load available graph n) (other % 16)) same)
 
@@ -143,7 +151,8 @@ module _ (graph : List ℕ) (x : ℕ) where
   words-keep other is (suc k) h =
       kept-then other graph (clearedWords graph x k) (store available (clearedWords graph x k) (8 * (x % mostRegions) + k) 0)
       (words-keep other is k (omega arith))
-      (store-keeps available (clearedWords graph x k) (8 * (x % mostRegions) + k) 0 other is (omega (arith, mod-lt x {m = 4096} (omega arith))))
+      (store-keeps available (clearedWords graph x k) (8 * (x % mostRegions) + k) 0 other is
+      (omega (arith, mod-lt x {m = 4096} (omega arith))))
 
   pub none-length : length (withNoneAvailable graph x) ≡ length graph
   unfolding withNoneAvailable
@@ -161,7 +170,8 @@ module _ (graph : List ℕ) (x : ℕ) where
       go : (j < k → load available (clearedWords graph x k) (8 * (x % mostRegions) + j) ≡ 0) → (j ≡ k) ⊎ (j ≡ k → ⊥)
           → load available (store available (clearedWords graph x k) (8 * (x % mostRegions) + k) 0) (8 * (x % mostRegions) + j) ≡ 0
       go before (inl e) =
-          rw e (load-stored available (clearedWords graph x k) (8 * (x % mostRegions) + k) 0 (omega (arith, mod-lt x {m = 4096} (omega arith)))
+          rw e (load-stored available (clearedWords graph x k) (8 * (x % mostRegions) + k) 0
+          (omega (arith, mod-lt x {m = 4096} (omega arith)))
           (omega (arith, lent, words-length k)) (omega arith))
       go before (inr d) =
           load-other available (clearedWords graph x k) (8 * (x % mostRegions) + k) 0 (8 * (x % mostRegions) + j) (omega (arith, d))
@@ -186,15 +196,19 @@ module _ (graph : List ℕ) (x : ℕ) where
   pub available-none : Lent available graph → (rank : ℕ) → isAvailable (withNoneAvailable graph x) x rank ≡ false
   unfolding withNoneAvailable isAvailable availableWord bitOf
   available-none lent rank =
-      ap (λ (w : ℕ). eqb (w / 2 ^ (rank % 16) % 2) 1) (words-zero lent 8 (rank / 16 % 8) (omega arith) (mod-lt (rank / 16) {m = 8} (omega arith)))
+      ap (λ (w : ℕ). eqb (w / 2 ^ (rank % 16) % 2) 1)
+      (words-zero lent 8 (rank / 16 % 8) (omega arith) (mod-lt (rank / 16) {m = 8} (omega arith)))
       ∙ ap (λ (w : ℕ). eqb (w % 2) 1) (zero-div (2 ^ (rank % 16)))
 
-  pub none-other : (y rank : ℕ) → (y % mostRegions ≡ x % mostRegions → ⊥) → isAvailable (withNoneAvailable graph x) y rank ≡ isAvailable graph y rank
+  pub none-other : (y rank : ℕ) → (y % mostRegions ≡ x % mostRegions → ⊥) → isAvailable
+      (withNoneAvailable graph x) y rank ≡ isAvailable graph y rank
   unfolding withNoneAvailable isAvailable availableWord
-  none-other y rank differs = ap (λ (w : ℕ). bitOf w (rank % 16)) (words-other 8 (8 * (y % mostRegions) + rank / 16 % 8) (away (cases (y % mostRegions) (x % mostRegions))))
+  none-other y rank differs = ap (λ (w : ℕ). bitOf w (rank % 16))
+      (words-other 8 (8 * (y % mostRegions) + rank / 16 % 8) (away (cases (y % mostRegions) (x % mostRegions))))
     where
       away : (y % mostRegions < x % mostRegions) ⊎ ((y % mostRegions ≡ x % mostRegions) ⊎ (x % mostRegions < y % mostRegions))
-          → (8 * (y % mostRegions) + rank / 16 % 8 < 8 * (x % mostRegions)) ⊎ (8 * (x % mostRegions) + 8 ≤ 8 * (y % mostRegions) + rank / 16 % 8)
+          → (8 * (y % mostRegions) + rank / 16 % 8 < 8 * (x % mostRegions)) ⊎
+          (8 * (x % mostRegions) + 8 ≤ 8 * (y % mostRegions) + rank / 16 % 8)
       away (inl h) = inl (omega (arith, h, mod-lt (rank / 16) {m = 8} (omega arith)))
       away (inr (inl e)) = absurd (differs e)
       away (inr (inr h)) = inr (omega (arith, h))

@@ -5,13 +5,15 @@ use native.Mathlib.Nat.{mod-lt, mod-eq-of-lt, div-eq-of-lt, mul-add-div, mul-add
 use mathlib.Core.Path.{_≡_, _∙_, ap, ap₂}
 use mathlib.Core.List.{List}
 use lib.ListN.{getD}
-use Rattle.graph.specs.Columns.{load, mostRegions, mostLocations, mostEdges, mostBranches, edgeStarts, edgeNumbers, branchSlots, edgePlace}
+use Rattle.graph.specs.Columns.{load, mostRegions, mostLocations, mostEdges, mostBranches, edgeStarts, edgeNumbers, branchSlots}
+use Rattle.graph.specs.Columns.{edgePlace}
 use Rattle.graph.specs.Readers.{edgeStart, edgeCount, edgeAt, branchCount, denominatorOf, lowOf, resetNumber, resetSource, resetMask}
 
 pub edges-few : (graph : List ℕ) (location : ℕ) → edgeCount graph location ≤ mostEdges
 unfolding edgeCount
 edges-few graph location =
-    let less = mod-lt (load edgeStarts graph (location % mostLocations + 1) - edgeStart graph location) {m = 129} (omega arith) in omega (arith, less)
+    let less = mod-lt (load edgeStarts graph (location % mostLocations + 1) - edgeStart graph location) {m = 129} (omega arith) in omega
+    (arith, less)
 
 pub edge-below : (graph : List ℕ) (location rank : ℕ) → edgeAt graph location rank < mostEdges
 unfolding edgeAt

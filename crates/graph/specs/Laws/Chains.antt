@@ -1,4 +1,5 @@
--- Chains by buckets: after the members below n were stored, each head is the latest member of its bucket and each link the one before; one member
+-- Chains by buckets: after the members below n were stored, each head is the latest member of its bucket and each link the one before; one
+-- member
 -- more keeps that. The index of clock classes and the slots by mask and target are such.
 use Prim.Native.Nat.{ℕ, zero, suc, _+_, _%_, _≤_, _<_}
 use native.Mathlib.Omega.{arith}
@@ -8,7 +9,8 @@ use mathlib.Core.Bool.{Bool, true, false}
 use mathlib.Core.List.{List}
 use mathlib.Core.Logic.{_⊎_, inl, inr}
 use lib.ListN.{length}
-use Rattle.graph.specs.Columns.{nothing, load, store, mostRegions, mostSlots, classHeads, classLinks, slotKeys, slotLocations, keyHeads, keyLinks}
+use Rattle.graph.specs.Columns.{nothing, load, store, mostRegions, mostSlots, classHeads, classLinks, slotKeys, slotLocations}
+use Rattle.graph.specs.Columns.{keyHeads, keyLinks}
 use Rattle.graph.specs.Readers.{classHead, classLink, keyOf, keyHead, keyLink}
 use Rattle.graph.specs.Writers.{withClass, withSlot}
 use Rattle.graph.specs.Laws.Columns.{Lent, store-length, store-lent, load-stored, load-other, store-keeps}
@@ -64,22 +66,28 @@ module _ (graph : List ℕ) (bucket class : ℕ) where
   pub class-head-stored : Lent classHeads graph → class < 65536 → classHead (withClass graph bucket class) bucket ≡ class
   unfolding withClass classHead
   class-head-stored lent small =
-      load-stored classHeads (store classLinks graph (class % mostRegions) (load classHeads graph (bucket % mostRegions))) (bucket % mostRegions) class
-      (region-below bucket) (store-lent classLinks graph (class % mostRegions) (load classHeads graph (bucket % mostRegions)) classHeads lent) small
+      load-stored classHeads (store classLinks graph (class % mostRegions) (load classHeads graph (bucket % mostRegions)))
+      (bucket % mostRegions) class
+      (region-below bucket) (store-lent classLinks graph (class % mostRegions)
+      (load classHeads graph (bucket % mostRegions)) classHeads lent) small
 
   pub class-head-other : (other : ℕ) → (other % mostRegions ≡ bucket % mostRegions → ⊥)
       → classHead (withClass graph bucket class) other ≡ classHead graph other
   unfolding withClass classHead
   class-head-other other differs =
-      load-other classHeads (store classLinks graph (class % mostRegions) (load classHeads graph (bucket % mostRegions))) (bucket % mostRegions) class
+      load-other classHeads (store classLinks graph (class % mostRegions) (load classHeads graph (bucket % mostRegions)))
+      (bucket % mostRegions) class
       (other % mostRegions) differs
-      ∙ store-keeps classLinks graph (class % mostRegions) (load classHeads graph (bucket % mostRegions)) classHeads refl (region-below class)
+      ∙ store-keeps classLinks graph (class % mostRegions) (load classHeads graph (bucket % mostRegions)) classHeads refl
+      (region-below class)
       (other % mostRegions) (region-below other)
 
-  pub class-link-stored : Lent classLinks graph → classHead graph bucket < 65536 → classLink (withClass graph bucket class) class ≡ classHead graph bucket
+  pub class-link-stored : Lent classLinks graph → classHead graph bucket < 65536 → classLink
+      (withClass graph bucket class) class ≡ classHead graph bucket
   unfolding withClass classLink
   class-link-stored lent small =
-      store-keeps classHeads (store classLinks graph (class % mostRegions) (classHead graph bucket)) (bucket % mostRegions) class classLinks refl
+      store-keeps classHeads (store classLinks graph (class % mostRegions) (classHead graph bucket))
+      (bucket % mostRegions) class classLinks refl
       (region-below bucket) (class % mostRegions) (region-below class)
       ∙ load-stored classLinks graph (class % mostRegions) (classHead graph bucket) (region-below class) lent small
 
@@ -87,6 +95,7 @@ module _ (graph : List ℕ) (bucket class : ℕ) where
       → classLink (withClass graph bucket class) other ≡ classLink graph other
   unfolding withClass classLink
   class-link-other other differs =
-      store-keeps classHeads (store classLinks graph (class % mostRegions) (classHead graph bucket)) (bucket % mostRegions) class classLinks refl
+      store-keeps classHeads (store classLinks graph (class % mostRegions) (classHead graph bucket))
+      (bucket % mostRegions) class classLinks refl
       (region-below bucket) (other % mostRegions) (region-below other)
       ∙ load-other classLinks graph (class % mostRegions) (classHead graph bucket) (other % mostRegions) differs

@@ -12,7 +12,8 @@ use lib.Seq.{getD-set-same, getD-set-other, set-out}
 use borrow.Author.Tests.{leb-true}
 use Rattle.graph.specs.Columns.{nothing, Column, load, store, short, middle, long}
 use Rattle.graph.specs.Columns.{labels, edgeStarts, edgeNumbers, slotStarts, slotKeys, branchSlots}
-use Rattle.graph.specs.Columns.{classHeads, classLinks, regionHeads, regionLinks, classes, locations, delays, availableCounts, available}
+use Rattle.graph.specs.Columns.{classHeads, classLinks, regionHeads, regionLinks, classes, locations, delays, availableCounts}
+use Rattle.graph.specs.Columns.{available}
 use Rattle.graph.specs.Columns.{resets, classDelays, slotLocations, keyHeads, keyLinks, sourceHeads, sourceLinks}
 
 -- Within a list the default does not matter.

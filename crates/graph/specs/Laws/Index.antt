@@ -14,7 +14,8 @@ use Rattle.graph.specs.Columns.{nothing, load, store, short, mostRegions
 use Rattle.graph.specs.Readers.{classOf, bucketOf, regionHead, regionLink, walk, regionAt}
 use Rattle.graph.specs.Writers.{withRegion}
 use Rattle.graph.specs.Laws.Columns.{Kept, store-length, load-stored, load-other, store-keeps}
-use Rattle.graph.specs.Laws.Latest.{latest, both, latest-none, latest-here, latest-past, latest-ways, latest-same, latest-absent, latest-only}
+use Rattle.graph.specs.Laws.Latest.{latest, both, latest-none, latest-here, latest-past, latest-ways, latest-same, latest-absent}
+use Rattle.graph.specs.Laws.Latest.{latest-only}
 use Rattle.graph.specs.Laws.Latest.{latest-through}
 
 lt-or-le : (a b : ℕ) → (a < b) ⊎ (b ≤ a)
@@ -54,7 +55,8 @@ pub bucket-tells : (class one other : ℕ) → one < mostLocations → other < m
     → bucketOf class one ≡ bucketOf class other → one ≡ other
 unfolding bucketOf
 bucket-tells class one other h k e =
-    multiples-tell one other ((class % 8192 + 1021 * (other % mostLocations)) / 8192) ((class % 8192 + 1021 * (one % mostLocations)) / 8192) h k
+    multiples-tell one other ((class % 8192 + 1021 * (other % mostLocations)) / 8192)
+    ((class % 8192 + 1021 * (one % mostLocations)) / 8192) h k
     (omega (
       arith,
       e,
@@ -214,7 +216,8 @@ module _ {graph : List ℕ} {class location : ℕ → ℕ} {n : ℕ} (index : In
           is = index .head-is bucket (bucket-below (class n) (location n))
 
           go : (latest (inBucket class location bucket) n ≡ nothing)
-              ⊎ ((latest (inBucket class location bucket) n < n) × (inBucket class location bucket (latest (inBucket class location bucket) n) ≡ true))
+              ⊎ ((latest (inBucket class location bucket) n < n) ×
+              (inBucket class location bucket (latest (inBucket class location bucket) n) ≡ true))
               → head < 65536
           go (inl none) = omega (arith, is, none)
           go (inr some) = omega (arith, is, some .0, less)
@@ -245,7 +248,8 @@ module _ {graph : List ℕ} {class location : ℕ → ℕ} {n : ℕ} (index : In
           ∙ index .head-is bucket (bucket-below (class n) (location n)))
       link-of x (inr h) =
           load-other regionLinks one (n % mostRegions) head (x % mostRegions) (other x h)
-          ∙ store-keeps classes graph (n % mostRegions) (class n) regionLinks refl inside (x % mostRegions) (mod-lt x {m = 4096} (omega arith))
+          ∙ store-keeps classes graph (n % mostRegions) (class n) regionLinks refl inside (x % mostRegions)
+          (mod-lt x {m = 4096} (omega arith))
           ∙ index .link-is x h
 
       heads : (b : ℕ) → b < 8192 → (eqb bucket b ≡ true) ⊎ (eqb bucket b ≡ false)

@@ -13,7 +13,8 @@ use Rattle.graph.specs.Columns.{nothing, load, store, long, mostRegions,
 use Rattle.graph.specs.Readers.{resetNumber, sourceHead, sourceLink, sourcesFrom, sourcesOf}
 use Rattle.graph.specs.Writers.{withSource}
 use Rattle.graph.specs.Laws.Columns.{store-length, load-stored, load-other, store-keeps}
-use Rattle.graph.specs.Laws.Latest.{latest, both, decide, latest-none, latest-here, latest-past, latest-ways, latest-misses, latest-covers}
+use Rattle.graph.specs.Laws.Latest.{latest, both, decide, latest-none, latest-here, latest-past, latest-ways, latest-misses}
+use Rattle.graph.specs.Laws.Latest.{latest-covers}
 use Rattle.graph.specs.Laws.Stores.{region-below, number-below}
 
 -- Does the note of a time lead to a class?
@@ -62,7 +63,8 @@ module _ {graph : List ℕ} {number target : ℕ → ℕ} {n : ℕ} (back : Back
       passes : p t ≡ true
       passes = eq-eqb (target t) class is
 
-      go : ((m t : ℕ) → m ≤ steps → m ≤ n → t < m → target t ≡ class → List·Memᴰ (number t) (sourcesFrom graph steps (numberAt number (latest p m))))
+      go : ((m t : ℕ) → m ≤ steps → m ≤ n → t < m → target t ≡ class → List·Memᴰ (number t)
+          (sourcesFrom graph steps (numberAt number (latest p m))))
           → (latest p m ≡ nothing) ⊎ ((latest p m < m) × (p (latest p m) ≡ true))
           → List·Memᴰ (number t) (sourcesFrom graph (suc steps) (numberAt number (latest p m)))
       go rest (inl none) = absurd (clash (latest-misses p m small none t h))
@@ -81,7 +83,8 @@ module _ {graph : List ℕ} {number target : ℕ → ℕ} {n : ℕ} (back : Back
         where
           link-at : (u : ℕ) → u < n → number u < 61440 → target u ≡ class → sourceLink graph (number u) ≡ numberAt number (latest p u)
           link-at u hu inside e =
-              ap (load sourceLinks graph) (mod-eq-of-lt inside) ∙ back .link-is u hu ∙ ap (λ (k : ℕ). numberAt number (latest (leadsTo target k) u)) e
+              ap (load sourceLinks graph) (mod-eq-of-lt inside) ∙ back .link-is u hu ∙ ap
+              (λ (k : ℕ). numberAt number (latest (leadsTo target k) u)) e
 
           found : (u : ℕ) → (u < m) × (p u ≡ true) → sourceLink graph (number u) ≡ numberAt number (latest p u) → (t ≡ u) ⊎ (t < u)
               → List·Memᴰ (number t) (number u ∷ sourcesFrom graph steps (sourceLink graph (number u)))
@@ -135,13 +138,15 @@ module _ {graph : List ℕ} {number target : ℕ → ℕ} {n : ℕ} (back : Back
       inside t (inr h) = back .below t h
 
       head-is : head ≡ numberAt number (latest (leadsTo target (target n)) n)
-      head-is = ap (load sourceHeads graph) (sym goes) ∙ back .head-is (target n) (subst (λ (k : ℕ). k < 4096) (sym goes) (region-below after))
+      head-is = ap (load sourceHeads graph) (sym goes) ∙ back .head-is (target n)
+          (subst (λ (k : ℕ). k < 4096) (sym goes) (region-below after))
 
       head-small : head < 65536
       head-small = go (latest-ways (leadsTo target (target n)) n)
         where
           go : (latest (leadsTo target (target n)) n ≡ nothing)
-              ⊎ ((latest (leadsTo target (target n)) n < n) × (leadsTo target (target n) (latest (leadsTo target (target n)) n) ≡ true)) → head < 65536
+              ⊎ ((latest (leadsTo target (target n)) n < n) × (leadsTo target (target n) (latest (leadsTo target (target n)) n) ≡ true))
+              → head < 65536
           go (inl none) = let e : head ≡ nothing = head-is ∙ ap (numberAt number) none in omega (arith, e)
           go (inr some) =
               let e : head ≡ number (latest (leadsTo target (target n)) n) =
@@ -153,9 +158,11 @@ module _ {graph : List ℕ} {number target : ℕ → ℕ} {n : ℕ} (back : Back
           rw e (store-keeps sourceHeads one (after % mostRegions) (resetNumber class mask) sourceLinks refl (region-below after) (number n)
           (subst (λ (k : ℕ). k < 61440) (sym is) (number-below class mask))
           ∙ ap (load sourceLinks one) is
-          ∙ load-stored sourceLinks graph (resetNumber class mask) head (number-below class mask) (omega (arith, back .lent)) head-small ∙ head-is)
+          ∙ load-stored sourceLinks graph (resetNumber class mask) head (number-below class mask) (omega (arith, back .lent)) head-small
+          ∙ head-is)
       links t (inr h) =
-          store-keeps sourceHeads one (after % mostRegions) (resetNumber class mask) sourceLinks refl (region-below after) (number t) (back .below t h)
+          store-keeps sourceHeads one (after % mostRegions) (resetNumber class mask) sourceLinks refl (region-below after) (number t)
+          (back .below t h)
           ∙ load-other sourceLinks graph (resetNumber class mask) head (number t) (λ e. fresh t h (e ∙ sym is)) ∙ back .link-is t h
 
       heads : (k : ℕ) → k < 4096 → (eqb (target n) k ≡ true) ⊎ (eqb (target n) k ≡ false)
@@ -163,7 +170,8 @@ module _ {graph : List ℕ} {number target : ℕ → ℕ} {n : ℕ} (back : Back
       heads k h (inl e) =
           let same : k ≡ after % mostRegions = sym (eqb-true (target n) k e) ∙ goes in
           ap (load sourceHeads two) same
-          ∙ load-stored sourceHeads one (after % mostRegions) (resetNumber class mask) (region-below after) (omega (arith, back .lent, length₁))
+          ∙ load-stored sourceHeads one (after % mostRegions) (resetNumber class mask) (region-below after)
+          (omega (arith, back .lent, length₁))
           (omega (arith, number-below class mask))
           ∙ sym is ∙ sym (number-some number n (omega (arith, room))) ∙ sym (ap (numberAt number) (latest-here (leadsTo target k) n e))
       heads k h (inr e) =

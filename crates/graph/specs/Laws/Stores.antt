@@ -8,13 +8,16 @@ use mathlib.Core.Bool.{Bool, true, false, cond}
 use mathlib.Core.List.{List}
 use lib.ListN.{length, length-set}
 use lib.Dec.{eqb}
-use Rattle.graph.specs.Columns.{nothing, Column, load, store, mostRegions, mostLocations, mostEdges, mostBranches, mostSlots, edgePlace}
+use Rattle.graph.specs.Columns.{nothing, Column, load, store, mostRegions, mostLocations, mostEdges, mostBranches, mostSlots}
+use Rattle.graph.specs.Columns.{edgePlace}
 use Rattle.graph.specs.Columns.{labels, edgeStarts, edgeNumbers, slotStarts, slotKeys, branchSlots}
-use Rattle.graph.specs.Columns.{classHeads, classLinks, regionHeads, regionLinks, classes, locations, delays, availableCounts, available}
+use Rattle.graph.specs.Columns.{classHeads, classLinks, regionHeads, regionLinks, classes, locations, delays, availableCounts}
+use Rattle.graph.specs.Columns.{available}
 use Rattle.graph.specs.Columns.{resets, classDelays, slotLocations, keyHeads, keyLinks, sourceHeads, sourceLinks}
 use Rattle.graph.specs.Readers.{labelOf, delayOf, locationOf, availableCount, delayClass}
 use Rattle.graph.specs.Readers.{keyOf, keyHead, availableWord, resetClass, classHead, resetNumber, sourceHead, bucketOf, regionHead}
-use Rattle.graph.specs.Writers.{withLabel, withEdgeStart, withSlotStart, withEdgeNumber, withBranchCount, withBranchSlot, withSlot, withEdge}
+use Rattle.graph.specs.Writers.{withLabel, withEdgeStart, withSlotStart, withEdgeNumber, withBranchCount, withBranchSlot, withSlot}
+use Rattle.graph.specs.Writers.{withEdge}
 use Rattle.graph.specs.Writers.{withWeight, withRegion, withClass, withLocation, withDelay, withAvailableCount, clearedWords}
 use Rattle.graph.specs.Writers.{withNoneAvailable, withAvailable, withClassDelay, withSource, withReset}
 use Rattle.graph.specs.Laws.Columns.{Lent, Kept, apart, kept-same, kept-then, store-length, load-stored, load-other, store-keeps}
@@ -63,7 +66,8 @@ module _ (graph : List ℕ) (location label : ℕ) where
   unfolding withLabel labelOf
   label-stored lent small = load-stored labels graph (location % mostLocations) label (location-below location) lent small
 
-  pub label-other : (other : ℕ) → (other % mostLocations ≡ location % mostLocations → ⊥) → labelOf (withLabel graph location label) other ≡ labelOf graph other
+  pub label-other : (other : ℕ) → (other % mostLocations ≡ location % mostLocations → ⊥) → labelOf
+      (withLabel graph location label) other ≡ labelOf graph other
   unfolding withLabel labelOf
   label-other other differs = load-other labels graph (location % mostLocations) label (other % mostLocations) differs
 
@@ -74,7 +78,8 @@ module _ (graph : List ℕ) (location start : ℕ) where
 
   pub edge-start-keeps : (other : Column) → apart edgeStarts other ≡ true → Kept other graph (withEdgeStart graph location start)
   unfolding withEdgeStart
-  edge-start-keeps other is = store-keeps edgeStarts graph (location % (mostLocations + 1)) start other is (mod-lt location {m = 65} (omega arith))
+  edge-start-keeps other is = store-keeps edgeStarts graph (location % (mostLocations + 1)) start other is
+      (mod-lt location {m = 65} (omega arith))
 
 module _ (graph : List ℕ) (location start : ℕ) where
   pub slot-start-length : length (withSlotStart graph location start) ≡ length graph
@@ -83,7 +88,8 @@ module _ (graph : List ℕ) (location start : ℕ) where
 
   pub slot-start-keeps : (other : Column) → apart slotStarts other ≡ true → Kept other graph (withSlotStart graph location start)
   unfolding withSlotStart
-  slot-start-keeps other is = store-keeps slotStarts graph (location % (mostLocations + 1)) start other is (mod-lt location {m = 65} (omega arith))
+  slot-start-keeps other is = store-keeps slotStarts graph (location % (mostLocations + 1)) start other is
+      (mod-lt location {m = 65} (omega arith))
 
 module _ (graph : List ℕ) (place edge : ℕ) where
   pub edge-number-length : length (withEdgeNumber graph place edge) ≡ length graph
@@ -101,7 +107,8 @@ module _ (graph : List ℕ) (edge count : ℕ) where
 
   pub branch-count-keeps : (other : Column) → apart branchSlots other ≡ true → Kept other graph (withBranchCount graph edge count)
   unfolding withBranchCount
-  branch-count-keeps other is = store-keeps branchSlots graph (9 * (edge % mostEdges)) count other is (omega (arith, mod-lt edge {m = 128} (omega arith)))
+  branch-count-keeps other is = store-keeps branchSlots graph (9 * (edge % mostEdges)) count other is
+      (omega (arith, mod-lt edge {m = 128} (omega arith)))
 
 module _ (graph : List ℕ) (edge branch slot : ℕ) where
   pub branch-slot-length : length (withBranchSlot graph edge branch slot) ≡ length graph
@@ -110,7 +117,8 @@ module _ (graph : List ℕ) (edge branch slot : ℕ) where
 
   pub branch-slot-keeps : (other : Column) → apart branchSlots other ≡ true → Kept other graph (withBranchSlot graph edge branch slot)
   unfolding withBranchSlot
-  branch-slot-keeps other is = store-keeps branchSlots graph (9 * (edge % mostEdges) + 1 + branch % mostBranches) slot other is (branch-below edge branch)
+  branch-slot-keeps other is = store-keeps branchSlots graph (9 * (edge % mostEdges) + 1 + branch % mostBranches) slot other is
+      (branch-below edge branch)
 
 module _ (graph : List ℕ) (region location : ℕ) where
   pub location-length : length (withLocation graph region location) ≡ length graph
@@ -125,7 +133,8 @@ module _ (graph : List ℕ) (region location : ℕ) where
   unfolding withLocation locationOf
   location-stored lent small = load-stored locations graph (region % mostRegions) location (region-below region) lent small
 
-  pub location-other : (other : ℕ) → (other % mostRegions ≡ region % mostRegions → ⊥) → locationOf (withLocation graph region location) other ≡ locationOf graph other
+  pub location-other : (other : ℕ) → (other % mostRegions ≡ region % mostRegions → ⊥) → locationOf
+      (withLocation graph region location) other ≡ locationOf graph other
   unfolding withLocation locationOf
   location-other other differs = load-other locations graph (region % mostRegions) location (other % mostRegions) differs
 
@@ -142,7 +151,8 @@ module _ (graph : List ℕ) (region next : ℕ) where
   unfolding withDelay delayOf
   delay-stored lent small = load-stored delays graph (region % mostRegions) next (region-below region) lent small
 
-  pub delay-other : (other : ℕ) → (other % mostRegions ≡ region % mostRegions → ⊥) → delayOf (withDelay graph region next) other ≡ delayOf graph other
+  pub delay-other : (other : ℕ) → (other % mostRegions ≡ region % mostRegions → ⊥) → delayOf
+      (withDelay graph region next) other ≡ delayOf graph other
   unfolding withDelay delayOf
   delay-other other differs = load-other delays graph (region % mostRegions) next (other % mostRegions) differs
 
@@ -151,15 +161,18 @@ module _ (graph : List ℕ) (region count : ℕ) where
   unfolding withAvailableCount
   available-count-length = store-length availableCounts graph (region % mostRegions) count
 
-  pub available-count-keeps : (other : Column) → apart availableCounts other ≡ true → Kept other graph (withAvailableCount graph region count)
+  pub available-count-keeps : (other : Column) → apart availableCounts other ≡ true → Kept other graph
+      (withAvailableCount graph region count)
   unfolding withAvailableCount
   available-count-keeps other is = store-keeps availableCounts graph (region % mostRegions) count other is (region-below region)
 
-  pub available-count-stored : Lent availableCounts graph → count < 65536 → availableCount (withAvailableCount graph region count) region ≡ count
+  pub available-count-stored : Lent availableCounts graph → count < 65536 → availableCount
+      (withAvailableCount graph region count) region ≡ count
   unfolding withAvailableCount availableCount
   available-count-stored lent small = load-stored availableCounts graph (region % mostRegions) count (region-below region) lent small
 
-  pub available-count-other : (other : ℕ) → (other % mostRegions ≡ region % mostRegions → ⊥) → availableCount (withAvailableCount graph region count) other ≡ availableCount graph other
+  pub available-count-other : (other : ℕ) → (other % mostRegions ≡ region % mostRegions → ⊥) → availableCount
+      (withAvailableCount graph region count) other ≡ availableCount graph other
   unfolding withAvailableCount availableCount
   available-count-other other differs = load-other availableCounts graph (region % mostRegions) count (other % mostRegions) differs
 
@@ -176,7 +189,8 @@ module _ (graph : List ℕ) (class after : ℕ) where
   unfolding withClassDelay delayClass
   class-delay-stored lent small = load-stored classDelays graph (class % mostRegions) after (region-below class) lent small
 
-  pub class-delay-other : (other : ℕ) → (other % mostRegions ≡ class % mostRegions → ⊥) → delayClass (withClassDelay graph class after) other ≡ delayClass graph other
+  pub class-delay-other : (other : ℕ) → (other % mostRegions ≡ class % mostRegions → ⊥) → delayClass
+      (withClassDelay graph class after) other ≡ delayClass graph other
   unfolding withClassDelay delayClass
   class-delay-other other differs = load-other classDelays graph (class % mostRegions) after (other % mostRegions) differs
 
@@ -239,7 +253,8 @@ module _ (graph : List ℕ) (class mask after : ℕ) where
       store-keeps sourceHeads _ (after % mostRegions) (resetNumber class mask) other b (region-below after) i h
       ∙ store-keeps sourceLinks graph (resetNumber class mask) (sourceHead graph after) other a (number-below class mask) i h
 
-class-is : (class mask : ℕ) (graph : List ℕ) (k : ℕ) → load resets graph (16 * (class % mostRegions) + mask % 16) ≡ k → resetClass graph class mask ≡ k
+class-is : (class mask : ℕ) (graph : List ℕ) (k : ℕ) → load resets graph (16 * (class % mostRegions) + mask % 16) ≡ k
+    → resetClass graph class mask ≡ k
 unfolding resetClass
 class-is class mask graph k e = e
 
@@ -277,19 +292,24 @@ module _ (graph : List ℕ) (class mask after : ℕ) where
   reset-other place h differs =
       let first = load-other resets graph (16 * (class % mostRegions) + mask % 16) after place differs in
       reset-ways (λ (g : List ℕ). load resets g place ≡ load resets graph place) refl first
-      (source-keeps (store resets graph (16 * (class % mostRegions) + mask % 16) after) class (mask % 16) after resets refl refl place h ∙ first)
+      (source-keeps (store resets graph (16 * (class % mostRegions) + mask % 16) after) class (mask % 16) after resets refl refl place h
+      ∙ first)
 
-  pub reset-stored : resetClass graph class mask ≡ nothing → Lent resets graph → after < 65536 → resetClass (withReset graph class mask after) class mask ≡ after
+  pub reset-stored : resetClass graph class mask ≡ nothing → Lent resets graph → after < 65536 → resetClass
+      (withReset graph class mask after) class mask ≡ after
   reset-stored fresh lent small = go (decide (mask % 16) 0)
     where
-      stored : load resets (store resets graph (16 * (class % mostRegions) + mask % 16) after) (16 * (class % mostRegions) + mask % 16) ≡ after
+      stored : load resets (store resets graph (16 * (class % mostRegions) + mask % 16) after)
+          (16 * (class % mostRegions) + mask % 16) ≡ after
       stored = load-stored resets graph (16 * (class % mostRegions) + mask % 16) after (reset-below class mask) lent small
 
       go : (mask % 16 ≡ 0) ⊎ (mask % 16 ≡ 0 → ⊥) → resetClass (withReset graph class mask after) class mask ≡ after
-      go (inl m) = ap (λ (g : List ℕ). resetClass g class mask) (reset-plain graph class mask after fresh m) ∙ class-is class mask _ after stored
+      go (inl m) = ap (λ (g : List ℕ). resetClass g class mask) (reset-plain graph class mask after fresh m)
+          ∙ class-is class mask _ after stored
       go (inr m) =
           ap (λ (g : List ℕ). resetClass g class mask) (reset-both graph class mask after fresh m)
-          ∙ class-is class mask (withSource (store resets graph (16 * (class % mostRegions) + mask % 16) after) class (mask % 16) after) after
+          ∙ class-is class mask (withSource (store resets graph (16 * (class % mostRegions) + mask % 16) after) class
+          (mask % 16) after) after
           (source-keeps (store resets graph (16 * (class % mostRegions) + mask % 16) after) class (mask % 16) after resets refl refl
           (16 * (class % mostRegions) + mask % 16) (reset-below class mask) ∙ stored)
 

@@ -24,13 +24,16 @@ module _ (graph : List ℕ) (class : ℕ) where
 
     pub walk-ends : steps < 4096 → x ≡ nothing → nothing ≡ walk graph (4096 - steps) x class
     unfolding walk
-    walk-ends h e = sym (ap (λ (k : ℕ). walk graph k x class) (one-less h) ∙ ap (λ (b : Bool). cond b nothing (cond (eqb (classOf graph x) class) x (walk graph (4096 - (steps + 1)) (regionLink graph x) class)))
+    walk-ends h e = sym (ap (λ (k : ℕ). walk graph k x class) (one-less h) ∙ ap
+        (λ (b : Bool). cond b nothing (cond (eqb (classOf graph x) class) x (walk graph (4096 - (steps + 1)) (regionLink graph x) class)))
         (eq-eqb x nothing e))
 
     pub walk-here : steps < 4096 → (x ≡ nothing → ⊥) → classOf graph x ≡ class → x ≡ walk graph (4096 - steps) x class
     unfolding walk
     walk-here h some e =
-        sym (ap (λ (k : ℕ). walk graph k x class) (one-less h) ∙ ap (λ (b : Bool). cond b nothing (cond (eqb (classOf graph x) class) x (walk graph (4096 - (steps + 1)) (regionLink graph x) class)))
+        sym (ap (λ (k : ℕ). walk graph k x class) (one-less h) ∙ ap
+        (λ (b : Bool). cond b nothing (cond (eqb (classOf graph x) class) x
+        (walk graph (4096 - (steps + 1)) (regionLink graph x) class)))
         (ne-eqb x nothing some)
         ∙ ap (λ (b : Bool). cond b x (walk graph (4096 - (steps + 1)) (regionLink graph x) class)) (eq-eqb (classOf graph x) class e))
 
@@ -38,7 +41,9 @@ module _ (graph : List ℕ) (class : ℕ) where
         → walk graph (4096 - (steps + 1)) (regionLink graph x) class ≡ walk graph (4096 - steps) x class
     unfolding walk
     walk-on h some other =
-        sym (ap (λ (k : ℕ). walk graph k x class) (one-less h) ∙ ap (λ (b : Bool). cond b nothing (cond (eqb (classOf graph x) class) x (walk graph (4096 - (steps + 1)) (regionLink graph x) class)))
+        sym (ap (λ (k : ℕ). walk graph k x class) (one-less h) ∙ ap
+        (λ (b : Bool). cond b nothing (cond (eqb (classOf graph x) class) x
+        (walk graph (4096 - (steps + 1)) (regionLink graph x) class)))
         (ne-eqb x nothing some)
         ∙ ap (λ (b : Bool). cond b x (walk graph (4096 - (steps + 1)) (regionLink graph x) class)) (ne-eqb (classOf graph x) class other))
 
@@ -72,14 +77,16 @@ module _ (graph : List ℕ) (class mask after : ℕ) where
   pub reset-known : (resetClass graph class mask ≡ nothing → ⊥) → withReset graph class mask after ≡ graph
   unfolding withReset
   reset-known known = ap (λ (b : Bool). cond b (cond (eqb (mask % 16) 0) (store resets graph (16 * (class % mostRegions) + mask % 16) after)
-      (withSource (store resets graph (16 * (class % mostRegions) + mask % 16) after) class (mask % 16) after)) graph) (ne-eqb (resetClass graph class mask) nothing known)
+      (withSource (store resets graph (16 * (class % mostRegions) + mask % 16) after) class (mask % 16) after)) graph)
+      (ne-eqb (resetClass graph class mask) nothing known)
 
   pub reset-plain : resetClass graph class mask ≡ nothing → mask % 16 ≡ 0
       → withReset graph class mask after ≡ store resets graph (16 * (class % mostRegions) + mask % 16) after
   unfolding withReset
   reset-plain fresh none =
       ap (λ (b : Bool). cond b (cond (eqb (mask % 16) 0) (store resets graph (16 * (class % mostRegions) + mask % 16) after)
-      (withSource (store resets graph (16 * (class % mostRegions) + mask % 16) after) class (mask % 16) after)) graph) (eq-eqb (resetClass graph class mask) nothing fresh)
+      (withSource (store resets graph (16 * (class % mostRegions) + mask % 16) after) class (mask % 16) after)) graph)
+      (eq-eqb (resetClass graph class mask) nothing fresh)
       ∙ ap (λ (b : Bool). cond b (store resets graph (16 * (class % mostRegions) + mask % 16) after)
       (withSource (store resets graph (16 * (class % mostRegions) + mask % 16) after) class (mask % 16) after)) (eq-eqb (mask % 16) 0 none)
 
@@ -89,6 +96,7 @@ module _ (graph : List ℕ) (class mask after : ℕ) where
   unfolding withReset
   reset-both fresh some =
       ap (λ (b : Bool). cond b (cond (eqb (mask % 16) 0) (store resets graph (16 * (class % mostRegions) + mask % 16) after)
-      (withSource (store resets graph (16 * (class % mostRegions) + mask % 16) after) class (mask % 16) after)) graph) (eq-eqb (resetClass graph class mask) nothing fresh)
+      (withSource (store resets graph (16 * (class % mostRegions) + mask % 16) after) class (mask % 16) after)) graph)
+      (eq-eqb (resetClass graph class mask) nothing fresh)
       ∙ ap (λ (b : Bool). cond b (store resets graph (16 * (class % mostRegions) + mask % 16) after)
       (withSource (store resets graph (16 * (class % mostRegions) + mask % 16) after) class (mask % 16) after)) (ne-eqb (mask % 16) 0 some)

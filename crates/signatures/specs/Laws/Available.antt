@@ -46,7 +46,8 @@ module _ (F : Finite) (names : List ℕ) (x : ℕ) where
   steps-past k e = ap (λ (b : Bool). cond b (stepOf F names x k ∷ stepsBelow F names x k) (stepsBelow F names x k)) e
 
   -- None is available from k on, for d ranks.
-  pub steps-skip : (k d : ℕ) → ((j : ℕ) → k ≤ j → j < k + d → F .available x j ≡ false) → stepsBelow F names x (k + d) ≡ stepsBelow F names x k
+  pub steps-skip : (k d : ℕ) → ((j : ℕ) → k ≤ j → j < k + d → F .available x j ≡ false) → stepsBelow F names x
+      (k + d) ≡ stepsBelow F names x k
   steps-skip k zero none = let e : k + 0 ≡ k = omega arith in ap (stepsBelow F names x) e
   steps-skip k (suc d) none =
       let e : k + suc d ≡ suc (k + d) = omega arith in
@@ -155,13 +156,15 @@ module _ (n : ℕ) (graph edges names : List ℕ) (x : ℕ) where
       subst (λ (s : List (List ℕ)). Partial held held s rank list 0) (sym (skip 0 count rank is next))
       (partial-more (partial-none held list) rank (omega arith))
 
-  module _ {held₀ held : List (List ℕ)} {rank : ℕ} {list : List ℕ} {len : ℕ} (p : Partial held₀ held (stepsBelow F names x rank) rank list len)
+  module _ {held₀ held : List (List ℕ)} {rank : ℕ} {list : List ℕ} {len : ℕ}
+      (p : Partial held₀ held (stepsBelow F names x rank) rank list len)
       (count : ℕ) (is : count ≡ edgeCount graph (locationOf graph x)) where
     module _ (h : rank < count) (here : isAvailable graph x rank ≡ true) (held′ : List (List ℕ)) where
       open-here : F .available x rank ≡ true
       open-here = available-is n graph edges names x rank (omega (arith, h, is)) ∙ here
 
-      pub steps-turn : (list′ : List ℕ) (len′ id rank′ : ℕ) → Told (stepAt graph edges names (classOf graph x) (edgeOf graph x rank)) held held′ (Id id)
+      pub steps-turn : (list′ : List ℕ) (len′ id rank′ : ℕ) → Told
+          (stepAt graph edges names (classOf graph x) (edgeOf graph x rank)) held held′ (Id id)
           → take len′ list′ ≡ putIn id (take len list) → len′ ≤ len + 1 → NextAvailable graph x (rank + 1) count rank′
           → Partial held₀ held′ (stepsBelow F names x rank′) rank′ list′ len′
       steps-turn list′ len′ id rank′ told put short next =
@@ -169,7 +172,8 @@ module _ (n : ℕ) (graph edges names : List ℕ) (x : ℕ) where
           subst (λ (l : List (List ℕ)). Partial held₀ held′ l rank′ list′ len′)
           (sym (skip (rank + 1) count rank′ is next ∙ ap (stepsBelow F names x) (add-one rank) ∙ steps-here F names x rank open-here
           ∙ ap (λ (t : List ℕ). t ∷ stepsBelow F names x rank) (step-is n graph edges names x rank)))
-          (partial-more (partial-on p held′ s list′ len′ id (step-short graph edges names (classOf graph x) (edgeOf graph x rank)) told put short)
+          (partial-more (partial-on p held′ s list′ len′ id
+          (step-short graph edges names (classOf graph x) (edgeOf graph x rank)) told put short)
           rank′ (next .after))
 
       pub steps-full : Told (stepAt graph edges names (classOf graph x) (edgeOf graph x rank)) held held′ Full

@@ -48,13 +48,15 @@ module _ (names : List ℕ) (x : ℕ) (list : List ℕ) (y i len : ℕ)
       (subst (λ (k : ℕ). Walked whole (putIn (nameOf names y) (take len list))
       (namesOf names (chainFrom (jumpOf names) (itemsIn names) (itemsIn names - (i + 1)) k))) (sym goes)
       (walked-on whole (take len list) (namesOf names (chainFrom (jumpOf names) (itemsIn names) (itemsIn names - (i + 1)) (jumpOf names y)))
-      (nameOf names y) (subst (λ (l : List ℕ). Walked whole (take len list) (namesOf names l)) (chain-on (jumpOf names) (itemsIn names) i y h less) w)))
+      (nameOf names y) (subst (λ (l : List ℕ). Walked whole (take len list) (namesOf names l))
+      (chain-on (jumpOf names) (itemsIn names) i y h less) w)))
 
   done : chainFrom (jumpOf names) (itemsIn names) (itemsIn names - i) y ≡ [] → take len list ≡ reachedFrom names x
   unfolding reachedFrom
   done e =
       walked-end (namesOf names (chainFrom (jumpOf names) (itemsIn names) (itemsIn names) x)) (take len list)
-      (subst (λ (l : List ℕ). Walked (namesOf names (chainFrom (jumpOf names) (itemsIn names) (itemsIn names) x)) (take len list) (namesOf names l)) e w)
+      (subst (λ (l : List ℕ). Walked (namesOf names (chainFrom (jumpOf names) (itemsIn names) (itemsIn names) x)) (take len list)
+      (namesOf names l)) e w)
 
   pub delays-stop : i < itemsIn names → itemsIn names ≤ y → take len list ≡ reachedFrom names x
   delays-stop h past = done (chain-ends (jumpOf names) (itemsIn names) i y h past)

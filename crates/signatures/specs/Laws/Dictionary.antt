@@ -8,7 +8,8 @@ use mathlib.Core.List.{List, [], _∷_, _++_}
 use mathlib.Core.Bool.{Bool, true, false}
 use mathlib.Core.Logic.{_⊎_, inl, inr, ⊎-elim}
 use lib.ListN.{length, getD, set, take, drop, length-append, List·getD-append, length-set}
-use lib.Seq.{getD-set-same, getD-set-other, slice, paste, length-slice, length-paste, take-paste, length-take-le, take-take, take-append-le, drop-at, take-add, take-length, ext-getD}
+use lib.Seq.{getD-set-same, getD-set-other, slice, paste, length-slice, length-paste, take-paste, length-take-le, take-take}
+use lib.Seq.{take-append-le, drop-at, take-add, take-length, ext-getD}
 use Rattle.signatures.specs.declared.dictionary.Lookup.{Lookup}
 use Rattle.signatures.specs.declared.dictionary.Lookup.the-variants.{At, Nothing}
 use Rattle.signatures.specs.declared.dictionary.Interned.{Interned}
@@ -18,7 +19,8 @@ use Rattle.signatures.specs.Laws.Chain.{hash-below, chained-none, chaine
 use Rattle.signatures.specs.Book.{maxIds, room, Absent, Different, numbersIn, Fits, Told}
 use Rattle.signatures.specs.Laws.Book.{at-end, length-more, numbers-more, different-more}
 use Rattle.signatures.specs.Book as book
-use Rattle.signatures.specs.Dictionary.{indexSize, countOf, headOf, startOf, endOf, linkOf, entryOf, listed, entriesOf, Dictionary, Found, Interns, Tells, entered, Empty}
+use Rattle.signatures.specs.Dictionary.{indexSize, countOf, headOf, startOf, endOf, linkOf, entryOf, listed, entriesOf, Dictionary}
+use Rattle.signatures.specs.Dictionary.{Found, Interns, Tells, entered, Empty}
 
 -- ---- The list of the entries
 
@@ -191,7 +193,8 @@ module _ (index : List ℕ) (n end bucket : ℕ) where
 module _ (numbers : List ℕ) (start : ℕ) (list : List ℕ) (fits : start + length list ≤ length numbers) where
   pasted-here : slice start (start + length list) (paste numbers start list (length list)) ≡ list
   pasted-here =
-      ap (drop start) (take-paste numbers start list (length list) (omega arith) (omega arith) ∙ ap (λ (r : List ℕ). take start numbers ++ r) (take-length list))
+      ap (drop start) (take-paste numbers start list (length list) (omega arith) (omega arith) ∙ ap
+      (λ (r : List ℕ). take start numbers ++ r) (take-length list))
       ∙ drop-at (take start numbers) list start (length-take-le start numbers (omega arith))
 
   pasted-before : (a b : ℕ) → b ≤ start → slice a b (paste numbers start list (length list)) ≡ slice a b numbers

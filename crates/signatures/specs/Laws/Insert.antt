@@ -105,7 +105,13 @@ module _ (v len : ℕ) (list : List ℕ) (room : len < length list) (r : Rising 
       where
         rises : (x y : ℕ) → x < y → y < len → getD list x 0 < getD list y 0
         rises x y h k =
-            omega (arith, rising-at (take len list) x y r h (omega (arith, size-is)), getD-take len list x 0 (omega arith), getD-take len list y 0 k)
+            omega (
+              arith,
+              rising-at (take len list) x y r h (omega (arith, size-is)),
+              getD-take len list x 0
+                  (omega arith),
+              getD-take len list y 0 k,
+            )
 
     high : (u : ℕ) → List·Memᴰ u b → v < u
     high u m =

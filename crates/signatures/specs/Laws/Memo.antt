@@ -6,7 +6,8 @@ use mathlib.Core.Bool.{Bool}
 use mathlib.Core.List.{List, [], _∷_, _++_, append-assoc}
 use mathlib.Core.Logic.{_⊎_, inl, inr, ⊎-elim}
 use lib.ListN.{length, getD, set, take, drop, length-drop, length-set, length-append, List·getD-append}
-use lib.Seq.{getD-set-same, getD-set-other, getD-take, getD-drop, length-take-le, ext-getD, paste, length-paste, take-paste, drop-paste, take-length, drop-at, take-append-seam}
+use lib.Seq.{getD-set-same, getD-set-other, getD-take, getD-drop, length-take-le, ext-getD, paste, length-paste, take-paste, drop-paste}
+use lib.Seq.{take-length, drop-at, take-append-seam}
 use Rattle.signatures.specs.Laws.Order.{decide, cases}
 use Rattle.signatures.specs.declared.dictionary.Interned.{Interned}
 use Rattle.signatures.specs.declared.dictionary.Interned.the-variants.{Id, Full}
@@ -16,16 +17,19 @@ use Rattle.signatures.specs.Dictionary.{Dictionary, Interns, Tells, entr
 use Rattle.signatures.specs.Laws.Dictionary.{interned-old, count-is}
 use Rattle.signatures.specs.Memo.{slots, memoSize, maxRaw, rawOf, idOf, Noted, Holds, written, Notes}
 
-pub noted-grows : (meaning : List ℕ → List ℕ) (held held′ : List (List ℕ)) (memo : List ℕ) → Grows held held′ → Noted meaning held memo → Noted meaning held′ memo
+pub noted-grows : (meaning : List ℕ → List ℕ) (held held′ : List (List ℕ)) (memo : List ℕ) → Grows held held′ → Noted meaning held memo
+    → Noted meaning held′ memo
 noted-grows meaning held held′ memo g n = record { size = n .size; short = n .short; right = λ s h k. g .keeps _ _ (n .right s h k) }
 
 -- A hit.
-pub noted-hit : (meaning : List ℕ → List ℕ) (held : List (List ℕ)) (memo : List ℕ) (s : ℕ) (raw : List ℕ) → Noted meaning held memo → s < slots → Holds memo s raw
+pub noted-hit : (meaning : List ℕ → List ℕ) (held : List (List ℕ)) (memo : List ℕ) (s : ℕ) (raw : List ℕ) → Noted meaning held memo
+    → s < slots → Holds memo s raw
     → At held (idOf memo s) (meaning raw)
 noted-hit meaning held memo s raw n h k = subst (λ (r : List ℕ). At held (idOf memo s) (meaning r)) (k .is) (n .right s h (k .some))
 
 -- An empty memo is right.
-pub noted-none : (meaning : List ℕ → List ℕ) (held : List (List ℕ)) (memo : List ℕ) → length memo ≡ memoSize → ((s : ℕ) → s < slots → getD memo (11 * s) 0 ≡ 0) → Noted meaning held memo
+pub noted-none : (meaning : List ℕ → List ℕ) (held : List (List ℕ)) (memo : List ℕ) → length memo ≡ memoSize →
+    ((s : ℕ) → s < slots → getD memo (11 * s) 0 ≡ 0) → Noted meaning held memo
 noted-none meaning held memo size zeros =
     record { size = size; short = λ s h. omega (arith, zeros s h); right = λ s h k. absurd (omega (arith, zeros s h)) }
 
@@ -97,7 +101,8 @@ module _ (memo : List ℕ) (s : ℕ) (raw : List ℕ) (id : ℕ) (size : length 
   -- Another slot stays as it was.
   module _ (t : ℕ) (ht : t < slots) (other : t ≡ s → ⊥) where
     far : (j : ℕ) → j < 11 → getD (written memo s raw id) (11 * t + j) 0 ≡ getD memo (11 * t + j) 0
-    far j l = written-far (11 * t + j) (⊎-elim (λ a. inl (omega arith)) (λ b. ⊎-elim (λ e. absurd (other e)) (λ a. inr (omega arith)) b) (cases t s))
+    far j l = written-far (11 * t + j) (⊎-elim (λ a. inl (omega arith)) (λ b. ⊎-elim (λ e. absurd (other e)) (λ a. inr (omega arith)) b)
+        (cases t s))
 
     far-head : getD (written memo s raw id) (11 * t) 0 ≡ getD memo (11 * t) 0
     far-head =
@@ -108,12 +113,14 @@ module _ (memo : List ℕ) (s : ℕ) (raw : List ℕ) (id : ℕ) (size : length 
     unfolding rawOf
     far-raw few =
         ap (λ (k : ℕ). take (k - 1) (drop (11 * t + 2) (written memo s raw id))) far-head
-        ∙ ext-getD 0 _ _ (size-of (written memo s raw id) written-size ∙ sym (size-of memo size)) (λ k l. agree k (omega (arith, size-of (written memo s raw id) written-size)))
+        ∙ ext-getD 0 _ _ (size-of (written memo s raw id) written-size ∙ sym (size-of memo size))
+        (λ k l. agree k (omega (arith, size-of (written memo s raw id) written-size)))
       where
         c : ℕ
         c = getD memo (11 * t) 0 - 1
 
-        size-of : (l : List ℕ) → length l ≡ memoSize → length (take (getD memo (11 * t) 0 - 1) (drop (11 * t + 2) l)) ≡ getD memo (11 * t) 0 - 1
+        size-of : (l : List ℕ) → length l ≡ memoSize → length (take (getD memo (11 * t) 0 - 1) (drop (11 * t + 2) l)) ≡ getD memo
+            (11 * t) 0 - 1
         size-of l e = length-take-le (getD memo (11 * t) 0 - 1) (drop (11 * t + 2) l) (omega (arith, length-drop (11 * t + 2) l))
 
         agree : (k : ℕ) → k < getD memo (11 * t) 0 - 1
@@ -121,11 +128,13 @@ module _ (memo : List ℕ) (s : ℕ) (raw : List ℕ) (id : ℕ) (size : length 
             ≡ getD (take (getD memo (11 * t) 0 - 1) (drop (11 * t + 2) memo)) k 0
         agree k l =
             let e : 11 * t + 2 + k ≡ 11 * t + (2 + k) = omega arith in
-            getD-take (getD memo (11 * t) 0 - 1) (drop (11 * t + 2) (written memo s raw id)) k 0 l ∙ getD-drop (11 * t + 2) (written memo s raw id) k 0
+            getD-take (getD memo (11 * t) 0 - 1) (drop (11 * t + 2) (written memo s raw id)) k 0 l ∙ getD-drop (11 * t + 2)
+            (written memo s raw id) k 0
             ∙ ap (λ (j : ℕ). getD (written memo s raw id) j 0) e ∙ far (2 + k) (omega arith) ∙ ap (λ (j : ℕ). getD memo j 0) (sym e)
             ∙ sym (getD-take (getD memo (11 * t) 0 - 1) (drop (11 * t + 2) memo) k 0 l ∙ getD-drop (11 * t + 2) memo k 0)
 
-  pub noted-note : (meaning : List ℕ → List ℕ) (held : List (List ℕ)) → Noted meaning held memo → At held id (meaning raw) → Noted meaning held (written memo s raw id)
+  pub noted-note : (meaning : List ℕ → List ℕ) (held : List (List ℕ)) → Noted meaning held memo → At held id (meaning raw)
+      → Noted meaning held (written memo s raw id)
   noted-note meaning held n is =
       record {
         size = written-size;
@@ -140,7 +149,8 @@ module _ (memo : List ℕ) (s : ℕ) (raw : List ℕ) (id : ℕ) (size : length 
       same : (t : ℕ) → t < slots → 0 < getD (written memo s raw id) (11 * t) 0 → (t ≡ s) ⊎ (t ≡ s → ⊥)
           → At held (idOf (written memo s raw id) t) (meaning (rawOf (written memo s raw id) t))
       same t ht some (inl e) = rw e (rw (written-id, written-raw) is)
-      same t ht some (inr d) = rw (far t ht d 1 (omega arith), far-raw t ht d (n .short t ht)) (n .right t ht (omega (arith, far-head t ht d)))
+      same t ht some (inr d) = rw (far t ht d 1 (omega arith), far-raw t ht d (n .short t ht))
+          (n .right t ht (omega (arith, far-head t ht d)))
 
 -- ---- What the code does
 
@@ -167,7 +177,8 @@ module _ (memo : List ℕ) (s : ℕ) (h : s < slots) (size : length memo ≡ mem
           fails = λ e k. t .fails e (part-raw ∙ k .is);
         }
 
-pub notes-hit : (meaning : List ℕ → List ℕ) (raw index numbers memo : List ℕ) (s id : ℕ) → Dictionary index numbers → Noted meaning (entriesOf index numbers) memo → s < slots
+pub notes-hit : (meaning : List ℕ → List ℕ) (raw index numbers memo : List ℕ) (s id : ℕ) → Dictionary index numbers → Noted meaning
+    (entriesOf index numbers) memo → s < slots
     → Holds memo s raw → id ≡ idOf memo s → Notes meaning raw index numbers index numbers memo (Id id)
 notes-hit meaning raw index numbers memo s id d n h k e =
     record {
@@ -175,12 +186,14 @@ notes-hit meaning raw index numbers memo s id d n h k e =
       noted = n;
     }
 
-pub notes-full : (meaning : List ℕ → List ℕ) (raw index numbers index′ numbers′ memo : List ℕ) → Noted meaning (entriesOf index numbers) memo
+pub notes-full : (meaning : List ℕ → List ℕ) (raw index numbers index′ numbers′ memo : List ℕ) → Noted meaning
+    (entriesOf index numbers) memo
     → Interns (meaning raw) index numbers index′ numbers′ Full → Notes meaning raw index numbers index′ numbers′ memo Full
 notes-full meaning raw index numbers index′ numbers′ memo n i =
     record { interns = i; noted = noted-grows meaning _ _ memo (told-grows (meaning raw) _ _ Full (i .told)) n }
 
-pub notes-new : (meaning : List ℕ → List ℕ) (raw index numbers index′ numbers′ memo memo′ : List ℕ) (s id : ℕ) → Noted meaning (entriesOf index numbers) memo → s < slots
+pub notes-new : (meaning : List ℕ → List ℕ) (raw index numbers index′ numbers′ memo memo′ : List ℕ) (s id : ℕ) → Noted meaning
+    (entriesOf index numbers) memo → s < slots
     → length raw ≤ maxRaw → Interns (meaning raw) index numbers index′ numbers′ (Id id) → memo′ ≡ written memo s raw id
     → Notes meaning raw index numbers index′ numbers′ memo′ (Id id)
 notes-new meaning raw index numbers index′ numbers′ memo memo′ s id n h short i e =

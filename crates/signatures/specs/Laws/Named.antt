@@ -1,4 +1,5 @@
--- What ids of signatures tell: equal ids exactly for equal names, delays and sets of steps; and what is refused is like nothing that has an id.
+-- What ids of signatures tell: equal ids exactly for equal names, delays and sets of steps; and what is refused is like nothing that has an
+-- id.
 use Prim.Native.Nat.{ℕ, zero, suc, _+_, _-_, _*_, _≤_, _<_}
 use native.Mathlib.Omega.{arith}
 use native.Mathlib.Numerals.{add-one}
@@ -15,7 +16,8 @@ use Rattle.signatures.specs.Book.{maxIds, room, At, Absent, Different, n
 use Rattle.signatures.specs.Laws.Book.{grows-same, grows-then, told-grows, told-few}
 use Rattle.signatures.specs.Sets.{putIn, setOf}
 use Rattle.signatures.specs.Laws.Sets.{set-same, same-set}
-use Rattle.signatures.specs.Named.{AllIds, none, more, spelled, Named, Refused, by-step, by-delays, by-whole, Alike, Partial, Signed, reachedFrom, stepsFrom, Finishes, Gathering, Signs}
+use Rattle.signatures.specs.Named.{AllIds, none, more, spelled, Named, Refused, by-step, by-delays, by-whole, Alike, Partial, Signed}
+use Rattle.signatures.specs.Named.{reachedFrom, stepsFrom, Finishes, Gathering, Signs}
 use Rattle.signatures.specs.declared.signature.Gathered.the-variants.{Ids, Short}
 use Rattle.signatures.specs.Raw.{rawStep}
 use Rattle.signatures.specs.Laws.Memo.{noted-grows}
@@ -24,7 +26,8 @@ use Rattle.signatures.specs.Dictionary.{Interns, entriesOf}
 
 -- ---- Ids
 
-pub ids-grow : {held held′ : List (List ℕ)} {steps : List (List ℕ)} {ids : List ℕ} → Grows held held′ → AllIds held steps ids → AllIds held′ steps ids
+pub ids-grow : {held held′ : List (List ℕ)} {steps : List (List ℕ)} {ids : List ℕ} → Grows held held′ → AllIds held steps ids
+    → AllIds held′ steps ids
 ids-grow g none = none
 ids-grow g (more h r) = more (g .keeps _ _ h) (ids-grow g r)
 
@@ -57,7 +60,8 @@ module _ {held : List (List ℕ)} (different : Different held) where
       subst (λ (k : List ℕ). List·Memᴰ k steps′) (sym (from .2 .1) ∙ there .2 .1) (from .1)
 
   -- Alike items spell the same list.
-  spelled-same : {a b d d′ : ℕ} {l l′ : List ℕ} {steps steps′ : List (List ℕ)} {ids ids′ : List ℕ} → AllIds held steps ids → AllIds held steps′ ids′
+  spelled-same : {a b d d′ : ℕ} {l l′ : List ℕ} {steps steps′ : List (List ℕ)} {ids ids′ : List ℕ} → AllIds held steps ids
+      → AllIds held steps′ ids′
       → At held d l → At held d′ l′ → Alike a l steps b l′ steps′ → spelled a d ids ≡ spelled b d′ ids′
   spelled-same {a} {b} {d} {d′} {l} {l′} {ids = ids} {ids′ = ids′} h h′ at at′ k =
       ap₂ (λ (r : List ℕ) (n : ℕ). r ++ (n ∷ d ∷ [])) (set-same ids ids′ (ids-same h h′ (k .to)) (ids-same h′ h (k .fro))) (k .same)
@@ -103,10 +107,18 @@ refused-apart different (by-delays shut) k e = shut .absent (k .delay) (k .reach
 refused-apart {j = j} different (by-whole each at shut) k e =
     shut .absent j (k .whole .0, k .whole .1 ∙ sym (spelled-same different each (k .each) at (k .reached) e))
 
-pub named-grows : {held held′ : List (List ℕ)} {a : ℕ} {l : List ℕ} {steps : List (List ℕ)} {i : ℕ} → Grows held held′ → Named held a l steps i
+pub named-grows : {held held′ : List (List ℕ)} {a : ℕ} {l : List ℕ} {steps : List (List ℕ)} {i : ℕ} → Grows held held′
+    → Named held a l steps i
     → Named held′ a l steps i
 named-grows g h =
-    record { ids = h .ids; each = ids-grow g (h .each); delay = h .delay; reached = g .keeps _ _ (h .reached); whole = g .keeps _ _ (h .whole) }
+    record {
+      ids = h .ids;
+      each = ids-grow g (h .each);
+      delay = h .delay;
+      reached = g .keeps _ _ (h .reached);
+      whole = g .keeps _ _
+          (h .whole);
+    }
 
 pub refused-grows : {held held′ : List (List ℕ)} {a : ℕ} {l : List ℕ} {steps : List (List ℕ)} → Grows held held′ → Refused held a l steps
     → Refused held′ a l steps
@@ -138,7 +150,8 @@ module _ {held₀ held : List (List ℕ)} {steps : List (List ℕ)} {k : ℕ} {l
       }
 
   -- A step is refused.
-  pub partial-full : (name : ℕ) (delays s : List ℕ) (all : List (List ℕ)) → List·Memᴰ s all → k < 128 → length s ≤ 25 → Told s held held′ Full
+  pub partial-full : (name : ℕ) (delays s : List ℕ) (all : List (List ℕ)) → List·Memᴰ s all → k < 128 → length s ≤ 25
+      → Told s held held′ Full
       → Signed held₀ held′ name delays all Full
   unfolding numbersIn
   partial-full name delays s all among most fits told = (
@@ -236,7 +249,8 @@ module _ (names : List ℕ) (x len : ℕ) (index numbers list index₁ numbers�
         kept = i .kept;
         size = size;
         grows = told-grows (reachedFrom names x) (entriesOf index numbers) (entriesOf index₁ numbers₁) Full (i .told);
-        signed = λ held steps p. delays-full p (omega arith) (nameOf names x) (reachedFrom names x) (entriesOf index₁ numbers₁) fits (i .told);
+        signed = λ held steps p. delays-full p (omega arith) (nameOf names x) (reachedFrom names x) (entriesOf index₁ numbers₁) fits
+            (i .told);
       }
 
   pub finished-closed : (delay name : ℕ) (index₂ numbers₂ list₂ : List ℕ) (answer : Interned) → len ≤ 128 → 4226 ≤ length list
@@ -254,7 +268,8 @@ module _ (names : List ℕ) (x len : ℕ) (index numbers list index₁ numbers�
             (entriesOf index₂ numbers₂) answer fits (i .told)
             (omega (arith, sym (ap length (p .put)), length-take-le len list (omega (arith, few, room)), few))
             (subst (λ (l : List ℕ). Told l (entriesOf index₁ numbers₁) (entriesOf index₂ numbers₂) answer)
-            (ap₂ (λ (l : List ℕ) (n : ℕ). l ++ (n ∷ delay ∷ [])) (first-same len list₁ list (omega (arith, few)) first ∙ p .put) is) (j .told));
+            (ap₂ (λ (l : List ℕ) (n : ℕ). l ++ (n ∷ delay ∷ [])) (first-same len list₁ list (omega (arith, few)) first ∙ p .put) is)
+            (j .told));
       }
 
 module _ (graph edges names : List ℕ) (x : ℕ) (index numbers list index₁ numbers₁ memo₁ list₁ : List ℕ) where
@@ -267,7 +282,8 @@ module _ (graph edges names : List ℕ) (x : ℕ) (index numbers list index₁ n
         kept = f .kept;
         noted = noted-grows (rawStep edges) (entriesOf index₁ numbers₁) (entriesOf index₂ numbers₂) memo₁ (f .grows) (g .noted);
         size = f .size ∙ g .size;
-        grows = grows-then (entriesOf index numbers) (entriesOf index₁ numbers₁) (entriesOf index₂ numbers₂) (g .answered .grows) (f .grows);
+        grows = grows-then (entriesOf index numbers) (entriesOf index₁ numbers₁) (entriesOf index₂ numbers₂) (g .answered .grows)
+            (f .grows);
         signed = f .signed (entriesOf index numbers) (stepsFrom graph edges names x) (g .answered);
       }
 

@@ -51,7 +51,8 @@ module _ (graph edges names items items′ : List ℕ) (held held′ : List (Lis
   stored-id Full number small is signed some = absurd (some is)
 
   stored-full : (answer : Interned) (number : ℕ) → ((id : ℕ) → answer ≡ Id id → id < 8192) → number ≡ numberOf answer
-      → Signed held held′ (name k) (delays k) (steps k) answer → number ≡ noId → Refused held′ (name k) (delays k) (steps k) × (held ≡ [] → ⊥)
+      → Signed held held′ (name k) (delays k) (steps k) answer → number ≡ noId → Refused held′ (name k) (delays k) (steps k) ×
+      (held ≡ [] → ⊥)
   stored-full (Id id) number small is signed none = absurd (omega (arith, sym (is ∙ number-id id (small id refl)) ∙ none, small id refl))
   stored-full Full number small is signed none = signed
 
@@ -80,7 +81,8 @@ module _ (graph edges names items items′ : List ℕ) (held held′ : List (Lis
       item = at ∙ p .rest k (omega arith)
 
       signed : Signed held held′ (name k) (delays k) (steps k) answer
-      signed = subst (λ (y : ℕ). Signed held held′ (nameOf names y) (reachedFrom names y) (stepsFrom graph edges names y) answer) item signed₀
+      signed = subst (λ (y : ℕ). Signed held held′ (nameOf names y) (reachedFrom names y)
+          (stepsFrom graph edges names y) answer) item signed₀
 
       ids : (j : ℕ) → j < k + 1 → (j ≡ k) ⊎ (j ≡ k → ⊥) → (getD (set items′ k number) j 0 ≡ noId → ⊥)
           → Named held′ (name j) (delays j) (steps j) (getD (set items′ k number) j 0)
@@ -92,7 +94,8 @@ module _ (graph edges names items items′ : List ℕ) (held held′ : List (Lis
           subst (λ (n : ℕ). Named held′ (name j) (delays j) (steps j) n) (sym (other j d))
           (named-grows grows (p .id j (omega (arith, h, d)) (λ none. some (other j d ∙ none))))
 
-      full : (j : ℕ) → j < k + 1 → (j ≡ k) ⊎ (j ≡ k → ⊥) → getD (set items′ k number) j 0 ≡ noId → Refused held′ (name j) (delays j) (steps j)
+      full : (j : ℕ) → j < k + 1 → (j ≡ k) ⊎ (j ≡ k → ⊥) → getD (set items′ k number) j 0 ≡ noId → Refused held′ (name j) (delays j)
+          (steps j)
       full j h (inl e) none =
           rw e (stored-full answer number small is signed
           (sym here ∙ sym (ap (λ (i : ℕ). getD (set items′ k number) i 0) e) ∙ none) .0)

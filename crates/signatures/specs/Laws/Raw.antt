@@ -50,7 +50,8 @@ landed-on graph names edge class raw i v room first before is =
     go j (inl e) = rw e (getD-set-same raw (1 + i) v 0 room ∙ is)
     go j (inr h) = getD-set-other raw (1 + i) (1 + j) v 0 (omega arith) ∙ before j h
 
-module _ {graph names : List ℕ} {edge class : ℕ} {raw : List ℕ} {size : ℕ} (landed : Landed graph names edge class raw size) (edges : List ℕ) where
+module _ {graph names : List ℕ} {edge class : ℕ} {raw : List ℕ} {size : ℕ} (landed : Landed graph names edge class raw size)
+    (edges : List ℕ) where
   landed-branches : (i left : ℕ) → i + left ≤ branchCount graph edge
       → rawBranches edges raw i left ≡ named names (branchesFrom graph edges class edge i left)
   landed-branches i zero h = refl
@@ -60,12 +61,18 @@ module _ {graph names : List ℕ} {edge class : ℕ} {raw : List ℕ} {size : �
   taken-branches : (i left : ℕ) → i + left < size → rawBranches edges (take size raw) i left ≡ rawBranches edges raw i left
   taken-branches i zero h = refl
   taken-branches i (suc left) h =
-      rw (getD-take size raw 0 0 (omega (arith, h)), getD-take size raw (1 + i) 0 (omega (arith, h)), taken-branches (suc i) left (omega (arith, h))) refl
+      rw (
+        getD-take size raw 0 0 (omega (arith, h)),
+        getD-take size raw (1 + i) 0 (omega (arith, h)),
+        taken-branches (suc i) left
+            (omega (arith, h)),
+      ) refl
 
   -- The raw form means the edge's step.
   pub landed-step : size ≤ length raw
       → rawStep edges (take size raw)
-      ≡ stepList (actionOf edges edge) (denominatorOf edges edge) (named names (branchesFrom graph edges class edge 0 (branchCount graph edge)))
+      ≡ stepList (actionOf edges edge) (denominatorOf edges edge)
+      (named names (branchesFrom graph edges class edge 0 (branchCount graph edge)))
   unfolding rawStep
   landed-step room =
       let count : length (take size raw) - 1 ≡ branchCount graph edge =
@@ -74,7 +81,8 @@ module _ {graph names : List ℕ} {edge class : ℕ} {raw : List ℕ} {size : �
       ap (λ (k : ℕ). stepList (actionOf edges (rawEdge (take size raw))) (denominatorOf edges (rawEdge (take size raw)))
       (rawBranches edges (take size raw) 0 k)) count
       ∙ ap₂ (λ (e : ℕ) (l : List (Branch ℕ)). stepList (actionOf edges e) (denominatorOf edges e) l) first
-      (taken-branches 0 (branchCount graph edge) (omega (arith, landed .size-is)) ∙ landed-branches 0 (branchCount graph edge) (omega arith))
+      (taken-branches 0 (branchCount graph edge) (omega (arith, landed .size-is)) ∙ landed-branches 0 (branchCount graph edge)
+      (omega arith))
 
 -- ---- Masses
 
@@ -119,7 +127,8 @@ module _ (raw : List ℕ) (count : ℕ) where
         let next : count - i ≡ suc (count - (i + 1)) = omega arith in
         subst (λ (l : List ℕ). Walked (rawNames raw 0 count) l (rawNames raw (i + 1) (count - (i + 1))))
         (sym (put ∙ ap (λ (k : ℕ). putIn k (take len list)) is))
-        (subst (λ (k : ℕ). Walked (rawNames raw 0 count) (putIn (getD raw (1 + i) 0) (take len list)) (rawNames raw k (count - (i + 1)))) (sym (add-one i))
+        (subst (λ (k : ℕ). Walked (rawNames raw 0 count) (putIn (getD raw (1 + i) 0) (take len list)) (rawNames raw k (count - (i + 1))))
+        (sym (add-one i))
         (walked-on (rawNames raw 0 count) (take len list) (rawNames raw (suc i) (count - (i + 1))) (getD raw (1 + i) 0)
         (subst (λ (k : ℕ). Walked (rawNames raw 0 count) (take len list) (rawNames raw i k)) next w)))
 
@@ -185,11 +194,14 @@ module _ (mass : ℕ → ℕ) (d : ℕ) where
 -- The list of a step, from its first number and the shares.
 pub step-made : (edges raw list names l : List ℕ) (action d : ℕ) → 0 < length list → action ≡ actionOf edges (rawEdge raw)
     → names ≡ setOf (rawNames raw 0 (length raw - 1))
-    → l ≡ take 1 (set list 0 action) ++ sharesOver (λ m. massOf m (rawBranches edges raw 0 (length raw - 1))) (denominatorOf edges (rawEdge raw)) names
+    → l ≡ take 1 (set list 0 action) ++ sharesOver (λ m. massOf m (rawBranches edges raw 0 (length raw - 1)))
+    (denominatorOf edges (rawEdge raw)) names
     → l ≡ rawStep edges raw
 unfolding rawStep stepList
 step-made edges raw list names l action d some is same e =
-    e ∙ ap (λ (r : List ℕ). r ++ sharesOver (λ m. massOf m (rawBranches edges raw 0 (length raw - 1))) (denominatorOf edges (rawEdge raw)) names)
+    e ∙ ap (λ (r : List ℕ). r ++ sharesOver (λ m. massOf m (rawBranches edges raw 0 (length raw - 1)))
+    (denominatorOf edges (rawEdge raw)) names)
     (take-suc-set list 0 action some)
-    ∙ ap₂ (λ (a : ℕ) (n : List ℕ). a ∷ sharesOver (λ m. massOf m (rawBranches edges raw 0 (length raw - 1))) (denominatorOf edges (rawEdge raw)) n)
+    ∙ ap₂ (λ (a : ℕ) (n : List ℕ). a ∷ sharesOver (λ m. massOf m (rawBranches edges raw 0 (length raw - 1)))
+    (denominatorOf edges (rawEdge raw)) n)
     is (same ∙ ap setOf (sym (names-raw edges raw 0 (length raw - 1))))

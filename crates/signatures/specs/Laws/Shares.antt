@@ -1,9 +1,12 @@
--- Shares as two numbers are equal exactly where the cross products are: denominators are below 2^30, so that different shares differ by more
+-- Shares as two numbers are equal exactly where the cross products are: denominators are below 2^30, so that different shares differ by
+-- more
 -- than 2^-60.
 use Prim.Native.Nat.{ℕ, _+_, _*_, _/_, _%_, _≤_, _<_}
 use native.Mathlib.Omega.{arith}
-use native.Mathlib.Nat.{mul-le-mul-right, mul-le-mul, mul-right-comm, mul-comm, mul-assoc, add-mul, mul-div-mul-right, lt-of-mul-lt-mul-right}
-use native.Mathlib.Nat.{mul-lt-mul-of-pos-right, div-mul-le-self, lt-div-mul-add, div-add-mod, mod-lt, mod-eq-of-lt, mul-add-div, div-lt-iff-lt-mul}
+use native.Mathlib.Nat.{mul-le-mul-right, mul-le-mul, mul-right-comm, mul-comm, mul-assoc, add-mul, mul-div-mul-right}
+use native.Mathlib.Nat.{lt-of-mul-lt-mul-right}
+use native.Mathlib.Nat.{mul-lt-mul-of-pos-right, div-mul-le-self, lt-div-mul-add, div-add-mod, mod-lt, mod-eq-of-lt, mul-add-div}
+use native.Mathlib.Nat.{div-lt-iff-lt-mul}
 use mathlib.Core.Path.{_≡_, refl, sym, _∙_, ap, ap₂, subst}
 use Rattle.signatures.specs.Shares.{highShare, lowShare}
 
@@ -49,7 +52,8 @@ unfolding wholeShare
 whole-same a b w z hw hz e =
     sym (mul-div-mul-right (a * 1152921504606846976) w hz)
     ∙ ap₂ (λ (s t : ℕ). s / t)
-    (mul-right-comm a 1152921504606846976 z ∙ ap (λ (s : ℕ). s * 1152921504606846976) e ∙ mul-right-comm b w 1152921504606846976) (mul-comm w z)
+    (mul-right-comm a 1152921504606846976 z ∙ ap (λ (s : ℕ). s * 1152921504606846976) e ∙ mul-right-comm b w 1152921504606846976)
+    (mul-comm w z)
     ∙ mul-div-mul-right (b * 1152921504606846976) z hw
 
 -- With q the common quotient and K = 2^60: a K z < q w z + w z, and q z w ≤ b K w, so that (a z) K < (b w + 1) K.

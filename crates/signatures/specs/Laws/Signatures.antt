@@ -8,7 +8,8 @@ use mathlib.Core.List.{List, [], _∷_, List·Memᴰ, List·Memᴰ·head, List·
 use mathlib.Core.Logic.{_⊎_, inl, inr, _↔_}
 use lib.Dec.{eqb}
 use Rattle.bisimulation.specs.Structures.{Closed}
-use Rattle.bisimulation.specs.Finite.{Finite, structure, related, allBelow, someBelow, allOf, anyOf, alike, delaysMatch, edgesMatch, matches, next}
+use Rattle.bisimulation.specs.Finite.{Finite, structure, related, allBelow, someBelow, allOf, anyOf, alike, delaysMatch, edgesMatch}
+use Rattle.bisimulation.specs.Finite.{matches, next}
 use Rattle.bisimulation.specs.Laws.Tests.{both, and-iff, eqb-iff, cond-iff, all-below, some-below, below-some, all-of, any-of, of-any}
 use Rattle.signatures.specs.Sets.{setOf}
 use Rattle.signatures.specs.Steps.{nameOf, stepOf}
@@ -62,10 +63,12 @@ module _ (F : Finite) (names : List ℕ) (x : ℕ) where
 -- ---- One way
 
 module _ (F : Finite) (names : List ℕ) (x y : ℕ) where
-  delays-to : delaysMatch F names x y ≡ true → (u : ℕ) → List·Memᴰ u (namesOf names (F .delays x)) → List·Memᴰ u (namesOf names (F .delays y))
+  delays-to : delaysMatch F names x y ≡ true → (u : ℕ) → List·Memᴰ u (namesOf names (F .delays x)) → List·Memᴰ u
+      (namesOf names (F .delays y))
   delays-to is u m =
       let (x′, h, e) = names-from names (F .delays x) u m in
-      let (y′, k, f) = any-of (λ z. related names x′ z) (F .delays y) (all-of (λ z. anyOf (λ w. related names z w) (F .delays y)) (F .delays x) .0 is x′ h) in
+      let (y′, k, f) = any-of (λ z. related names x′ z) (F .delays y)
+      (all-of (λ z. anyOf (λ w. related names z w) (F .delays y)) (F .delays x) .0 is x′ h) in
       subst (λ (v : ℕ). List·Memᴰ v (namesOf names (F .delays y))) (sym (e ∙ eqb-iff (nameOf names x′) (nameOf names y′) .0 f))
       (names-in names (F .delays y) y′ k)
 
@@ -80,13 +83,15 @@ module _ (F : Finite) (names : List ℕ) (x y : ℕ) where
 abbrev pub Small : Finite → Type 0
 Small F = (x e : ℕ) → F .whole x e < 1073741824
 
-module _ (F : Finite) (closed : Closed (structure F)) (small : Small F) (names : List ℕ) (x y : ℕ) (hx : x < F .size) (hy : y < F .size) where
+module _ (F : Finite) (closed : Closed (structure F)) (small : Small F) (names : List ℕ) (x y : ℕ) (hx : x < F .size)
+    (hy : y < F .size) where
   steps-to : edgesMatch F names x y ≡ true → (s : List ℕ) → List·Memᴰ s (stepsOf F names x) → List·Memᴰ s (stepsOf F names y)
   steps-to is s m =
       let (e, h, t, same) = step-from F names x (F .edges) s m in
       let (f, k, both′) = some-below (F .edges) (λ f. F .available y f && alike F names x e y f)
       (cond-iff (F .available x e) (someBelow (F .edges) (λ f. F .available y f && alike F names x e y f)) .0
-      (all-below (F .edges) (λ e. cond (F .available x e) (someBelow (F .edges) (λ f. F .available y f && alike F names x e y f)) true) .0 is e h) t) in
+      (all-below (F .edges) (λ e. cond (F .available x e)
+      (someBelow (F .edges) (λ f. F .available y f && alike F names x e y f)) true) .0 is e h) t) in
       let (u, a) = and-iff (F .available y f) (alike F names x e y f) .0 both′ in
       subst (λ (v : List ℕ). List·Memᴰ v (stepsOf F names y)) (sym (same ∙ alike-step F closed names x e y f hx hy (h, t) (k, u) a))
       (step-in F names y (F .edges) f k u)
@@ -95,14 +100,16 @@ module _ (F : Finite) (closed : Closed (structure F)) (small : Small F) (names :
   to-steps to =
       all-below (F .edges) (λ e. cond (F .available x e) (someBelow (F .edges) (λ f. F .available y f && alike F names x e y f)) true) .1
       (λ e h. cond-iff (F .available x e) (someBelow (F .edges) (λ f. F .available y f && alike F names x e y f)) .1 (λ t.
-      let (f, k, u, same) = step-from F names y (F .edges) (stepOf F names x e) (to (stepOf F names x e) (step-in F names x (F .edges) e h t)) in
+      let (f, k, u, same) = step-from F names y (F .edges) (stepOf F names x e)
+      (to (stepOf F names x e) (step-in F names x (F .edges) e h t)) in
       below-some (F .edges) (λ f. F .available y f && alike F names x e y f) f k
       (and-iff (F .available y f) (alike F names x e y f) .1
       (u, step-alike F closed names x e y f hx hy (h, t) (k, u) (small x e) (small y f) same))))
 
 -- ---- Both ways
 
-module _ (F : Finite) (closed : Closed (structure F)) (small : Small F) (names : List ℕ) (x y : ℕ) (hx : x < F .size) (hy : y < F .size) where
+module _ (F : Finite) (closed : Closed (structure F)) (small : Small F) (names : List ℕ) (x y : ℕ) (hx : x < F .size)
+    (hy : y < F .size) where
   pub signature-tells : (next F names x y ≡ true) ↔ SameSignature F names x y
   signature-tells = (to, fro)
     where
@@ -114,7 +121,8 @@ module _ (F : Finite) (closed : Closed (structure F)) (small : Small F) (names :
           let (d′, e′) = and-iff (delaysMatch F names y x) (edgesMatch F names y x) .0 other in
           record {
             name = eqb-iff (nameOf names x) (nameOf names y) .0 r;
-            delays = set-same (namesOf names (F .delays x)) (namesOf names (F .delays y)) (delays-to F names x y d) (delays-to F names y x d′);
+            delays = set-same (namesOf names (F .delays x)) (namesOf names (F .delays y)) (delays-to F names x y d)
+                (delays-to F names y x d′);
             steps-to = steps-to F closed small names x y hx hy e;
             steps-from = steps-to F closed small names y x hy hx e′;
           }

@@ -257,7 +257,8 @@ module _ (F : Finite) (closed : Closed (structure F)) (names : List ℕ) (x e y 
   step-alike small small′ same =
       let told = lists-alike (F .action x e) (F .action y f) (F .whole x e) (F .whole y f) (named names (F .branches x e))
       (named names (F .branches y f)) (closed .positive hx ex) (closed .positive hy fy)
-      (omega (arith, named-total names (F .branches x e), closed .sums hx ex)) (omega (arith, named-total names (F .branches y f), closed .sums hy fy))
+      (omega (arith, named-total names (F .branches x e), closed .sums hx ex))
+      (omega (arith, named-total names (F .branches y f), closed .sums hy fy))
       small small′ same in
       and-iff _ _ .1 (
         eqb-iff _ _ .1 (told .0),
@@ -271,9 +272,11 @@ module _ (F : Finite) (closed : Closed (structure F)) (names : List ℕ) (x e y 
   unfolding stepOf
   alike-step is =
       let told = and-iff _ _ .0 is in
-      alike-lists (F .action x e) (F .action y f) (F .whole x e) (F .whole y f) (named names (F .branches x e)) (named names (F .branches y f))
+      alike-lists (F .action x e) (F .action y f) (F .whole x e) (F .whole y f) (named names (F .branches x e))
+      (named names (F .branches y f))
       (closed .positive hx ex) (closed .positive hy fy)
-      (omega (arith, named-total names (F .branches x e), closed .sums hx ex)) (omega (arith, named-total names (F .branches y f), closed .sums hy fy))
+      (omega (arith, named-total names (F .branches x e), closed .sums hx ex))
+      (omega (arith, named-total names (F .branches y f), closed .sums hy fy))
       (eqb-iff _ _ .0 (told .0)) (λ m. cross m
       (mass-item names (F .size) (F .branches x e) (λ b h. closed .targets hx ex b h) m)
       (mass-item names (F .size) (F .branches y f) (λ b h. closed .targets hy fy b h) m))
@@ -292,8 +295,11 @@ module _ (F : Finite) (closed : Closed (structure F)) (names : List ℕ) (x e y 
           → ((c : ℕ) × (c < F .size) × (nameOf names c ≡ m)) ⊎ (massOf m (named names (F .branches y f)) ≡ 0)
           → massOf m (named names (F .branches x e)) * F .whole y f ≡ massOf m (named names (F .branches y f)) * F .whole x e
       cross m (inl (c, h, is)) other =
-          subst (λ (k : ℕ). massOf k (named names (F .branches x e)) * F .whole y f ≡ massOf k (named names (F .branches y f)) * F .whole x e) is (item c h)
+          subst (λ (k : ℕ). massOf k (named names (F .branches x e)) * F .whole y f ≡ massOf k
+          (named names (F .branches y f)) * F .whole x e) is (item c h)
       cross m (inr z) (inl (c, h, is)) =
-          subst (λ (k : ℕ). massOf k (named names (F .branches x e)) * F .whole y f ≡ massOf k (named names (F .branches y f)) * F .whole x e) is (item c h)
+          subst (λ (k : ℕ). massOf k (named names (F .branches x e)) * F .whole y f ≡ massOf k
+          (named names (F .branches y f)) * F .whole x e) is (item c h)
       cross m (inr z) (inr z′) =
-          ap (λ (k : ℕ). k * F .whole y f) z ∙ zero-mul (F .whole y f) ∙ sym (zero-mul (F .whole x e)) ∙ sym (ap (λ (k : ℕ). k * F .whole x e) z′)
+          ap (λ (k : ℕ). k * F .whole y f) z ∙ zero-mul (F .whole y f) ∙ sym (zero-mul (F .whole x e)) ∙ sym
+          (ap (λ (k : ℕ). k * F .whole x e) z′)

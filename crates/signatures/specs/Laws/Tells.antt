@@ -1,4 +1,5 @@
--- What the ids of a pass tell of the next round, in a closed structure: items have equal ids exactly where it relates them; and an item that
+-- What the ids of a pass tell of the next round, in a closed structure: items have equal ids exactly where it relates them; and an item
+-- that
 -- found no room is related to none that has an id.
 use Prim.Native.Nat.{ℕ, zero, suc, _≤_, _<_}
 use native.Mathlib.Omega.{arith}
@@ -28,11 +29,13 @@ Jumps graph edges names =
     (x : ℕ) → x < itemsIn names → reachedFrom names x ≡ setOf (namesOf names (structureOf (itemsIn names) graph edges .delays x))
 
 -- It is, where each item goes on to what follows it.
-chain-same : (next next′ : ℕ → ℕ) (n : ℕ) → ((y : ℕ) → y < n → next y ≡ next′ y) → (steps x : ℕ) → chainFrom next n steps x ≡ chainFrom next′ n steps x
+chain-same : (next next′ : ℕ → ℕ) (n : ℕ) → ((y : ℕ) → y < n → next y ≡ next′ y) → (steps x : ℕ)
+    → chainFrom next n steps x ≡ chainFrom next′ n steps x
 chain-same next next′ n same zero x = refl
 chain-same next next′ n same (suc steps) x =
     elim (both (ltb x n)) [
-      | inl e ↦ rw e (ap (λ (l : List ℕ). x ∷ l) (ap (chainFrom next n steps) (same x (ltb-true x n e)) ∙ chain-same next next′ n same steps (next′ x)))
+      | inl e ↦ rw e (ap (λ (l : List ℕ). x ∷ l)
+          (ap (chainFrom next n steps) (same x (ltb-true x n e)) ∙ chain-same next next′ n same steps (next′ x)))
       | inr e ↦ rw e refl
     ]
 
@@ -51,7 +54,8 @@ module _ {graph edges names items items′ : List ℕ} (passed : Passed graph ed
   abbrev F : Finite
   F = structureOf (itemsIn names) graph edges
 
-  module _ (j k : ℕ) (hj : j < length items) (hk : k < length items) (nj : getD items j 0 < itemsIn names) (nk : getD items k 0 < itemsIn names) where
+  module _ (j k : ℕ) (hj : j < length items) (hk : k < length items) (nj : getD items j 0 < itemsIn names)
+      (nk : getD items k 0 < itemsIn names) where
     alike-same : Alike (nameOf names (getD items j 0)) (reachedFrom names (getD items j 0)) (stepsFrom graph edges names (getD items j 0))
         (nameOf names (getD items k 0)) (reachedFrom names (getD items k 0)) (stepsFrom graph edges names (getD items k 0))
         → SameSignature F names (getD items j 0) (getD items k 0)
@@ -119,4 +123,5 @@ waiting-less (x ∷ l) h some = rw (ne-eqb x noId some) (omega (arith, waiting-m
 pub pass-progress : {graph edges names items items′ : List ℕ} → Passed graph edges names items items′ → 0 < length items
     → waiting items′ < length items
 pass-progress {items = items} {items′ = items′} passed h =
-    subst (λ (n : ℕ). waiting items′ < n) (passed .all .size) (waiting-less items′ (omega (arith, passed .all .size, h)) (passed .all .first h))
+    subst (λ (n : ℕ). waiting items′ < n) (passed .all .size)
+    (waiting-less items′ (omega (arith, passed .all .size, h)) (passed .all .first h))

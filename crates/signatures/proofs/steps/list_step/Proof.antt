@@ -46,36 +46,52 @@ array-share-prefix-names c = search needs
 
 -- src/steps.rt:147:16
 slice-aggregate-put-shares : tie.Need-slice-aggregate-put-shares
-slice-aggregate-put-shares c = sym (length-take-le ((c .before .before .gather-names) .result) ((c .before .before .gather-names) .last .1 .0)
-    (omega (arith, (c .before .before .gather-names) .ensures .1, (c .before .before .gather-names) .ensures .2, length-replicate {A = ℕ} 9 0)))
+slice-aggregate-put-shares c =
+    let gather-names = c .before .before .gather-names in
+    sym (length-take-le gather-names.result gather-names.last.1.0
+    (omega (arith, gather-names.ensures.1, gather-names.ensures.2, length-replicate {A = ℕ} 9 0)))
 
 -- src/steps.rt:147:5
 put-shares-requires : tie.Need-put-shares-requires
-put-shares-requires c κs = (
-  (c .before .before .before .before .before .before .before .before .before .before .pre) .0,
-  (c .before .before .before .before .before .before .before .before .before .before .pre) .1,
-  omega (
-    arith,
-    (c .before .before .before .gather-names) .ensures .1,
-    length-take-le ((c .before .before .before .gather-names) .result) ((c .before .before .before .gather-names) .last .1 .0)
-        (omega (arith, (c .before .before .before .gather-names) .ensures .1, (c .before .before .before .gather-names) .ensures .2, length-replicate {A = ℕ} 9 0)),
-  ),
-  omega (arith, length-set ((c .before .before .before .before .before .before .before .before .before .before .args) .list .now) 0 ((c .before .before .before .before .before .action-of) .result), (c .before .before .before .before .before .before .before .before .before .before .pre) .2),
-)
+put-shares-requires c κs =
+    let pre = c .before .before .before .before .before .before .before .before .before .before .pre in
+    let gather-names = c .before .before .before .gather-names in
+    let args = c .before .before .before .before .before .before .before .before .before .before .args in
+    let action-of = c .before .before .before .before .before .action-of in (
+      pre.0,
+      pre.1,
+      omega (
+        arith,
+        gather-names.ensures.1,
+        length-take-le gather-names.result gather-names.last.1.0
+            (omega (arith, gather-names.ensures.1, gather-names.ensures.2, length-replicate {A = ℕ} 9 0)),
+      ),
+      omega (arith, length-set args.list.now 0 action-of.result, pre.2),
+    )
 
 -- src/steps.rt:139:1
 same-length : tie.Need-same-length
-same-length c = (c .before .before .put-shares) .ensures .2 ∙ length-set ((c .before .before .before .before .before .before .before .before .before .before .before .before .before .args) .list .now) 0 ((c .before .before .before .before .before .before .before .before .action-of) .result)
+same-length c =
+    let put-shares = c .before .before .put-shares in
+    let args = c .before .before .before .before .before .before .before .before .before .before .before .before .before .args in
+    let action-of = c .before .before .before .before .before .before .before .before .action-of in
+    put-shares.ensures.2 ∙ length-set args.list.now 0 action-of.result
 
 -- src/steps.rt:139:1
 returns : tie.Need-returns
-returns c = (
-  step-made ((c .before .before .before .before .before .before .before .before .before .before .before .before .before .args) .edges .now) ((c .before .before .before .before .before .before .before .before .before .before .before .before .before .args) .raw .now) ((c .before .before .before .before .before .before .before .before .before .before .before .before .before .args) .list .now) (take ((c .before .before .before .before .before .before .gather-names) .result) ((c .before .before .before .before .before .before .gather-names) .last .1 .0)) (take ((c .before .before .put-shares) .result) ((c .before .before .put-shares) .last .1 .1 .1 .0))
-      ((c .before .before .before .before .before .before .before .before .action-of) .result) 0 (omega (arith, (c .before .before .before .before .before .before .before .before .before .before .before .before .before .pre) .2)) ((c .before .before .before .before .before .before .before .before .action-of) .ensures .0 ∙ ap (actionOf ((c .before .before .before .before .before .before .before .before .before .before .before .before .before .args) .edges .now)) ((c .before .before .before .before .before .before .before .before .before .name-at) .ensures .0)) ((c .before .before .before .before .before .before .gather-names) .ensures .0)
-      ((c .before .before .put-shares) .ensures .0),
-  (c .before .before .put-shares) .ensures .1,
-  (c .before .before .put-shares) .ensures .2 ∙ length-set ((c .before .before .before .before .before .before .before .before .before .before .before .before .before .args) .list .now) 0 ((c .before .before .before .before .before .before .before .before .action-of) .result),
-)
+returns c =
+    let args = c .before .before .before .before .before .before .before .before .before .before .before .before .before .args in
+    let gather-names = c .before .before .before .before .before .before .gather-names in
+    let put-shares = c .before .before .put-shares in
+    let action-of = c .before .before .before .before .before .before .before .before .action-of in
+    let pre = c .before .before .before .before .before .before .before .before .before .before .before .before .before .pre in
+    let name-at = c .before .before .before .before .before .before .before .before .before .name-at in (
+      step-made args.edges.now args.raw.now args.list.now (take gather-names.result gather-names.last.1.0)
+          (take put-shares.result put-shares.last.1.1.1.0) action-of.result 0 (omega (arith, pre.2))
+          (action-of.ensures.0 ∙ ap (actionOf args.edges.now) name-at.ensures.0) gather-names.ensures.0 put-shares.ensures.0,
+      put-shares.ensures.1,
+      put-shares.ensures.2 ∙ length-set args.list.now 0 action-of.result,
+    )
 
 pub list-step-spec : {M : Type 1} → statement M
 list-step-spec =
