@@ -1,6 +1,5 @@
 -- Chains by buckets: after the members below n were stored, each head is the latest member of its bucket and each link the one before; one
--- member
--- more keeps that. The index of clock classes and the slots by mask and target are such.
+-- member more keeps that. The index of clock classes and the slots by mask and target are such.
 use Prim.Native.Nat.{ℕ, zero, suc, _+_, _%_, _≤_, _<_}
 use native.Mathlib.Omega.{arith}
 use native.Mathlib.Nat.{eq-or-lt-of-le, mod-eq-of-lt}
