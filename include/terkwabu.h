@@ -145,7 +145,7 @@ extern "C" {
  *
  * If one of the three rises, those after it start again from 0. */
 #define TERKWABU_VERSION_MAJOR 1
-#define TERKWABU_VERSION_MINOR 0
+#define TERKWABU_VERSION_MINOR 1
 #define TERKWABU_VERSION_PATCH 0
 #define TERKWABU_VERSION (TERKWABU_VERSION_MAJOR * 1000000 + TERKWABU_VERSION_MINOR * 1000 + TERKWABU_VERSION_PATCH)
 

@@ -51,7 +51,7 @@ from typing import Any, Dict, List, Mapping, NamedTuple, Optional, Sequence, Tup
 __all__ = ["graph", "judge", "library_version", "listing", "pair", "place", "reduce"]
 __all__ += ["Block", "Clock", "LibraryMissing", "MAX_REGIONS", "OVER", "Over", "Reduced", "Refused", "Region", "Step"]
 
-__version__ = "1.0.0"
+__version__ = "1.1.0"
 """Names the version of this module, and of the library that it uses: TERKWABU_VERSION_MAJOR, _MINOR and _PATCH of the header."""
 
 MAX_REGIONS = 4096
@@ -614,7 +614,7 @@ def _library() -> ctypes.CDLL:
 
 
 def library_version() -> str:
-    """Asks the library for its version, such as "1.0.0": also where it is not the module's, and the other functions do not use it."""
+    """Asks the library for its version, such as "1.1.0": also where it is not the module's, and the other functions do not use it."""
     return _version_of(*_opened())
 
 

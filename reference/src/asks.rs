@@ -14,6 +14,7 @@
 //              8  many edges at each location      4  wide: eight branches to different locations
 //             10  of any shape: up to 64 locations, 128 edges, 8 guard atoms and constants of 15
 //             10  chains, ticking chains, free models
+//   weights   96  as made                          4  at exact halves of a ten-thousandth, over any multiple of 32
 //   regions    4  of 1 or 2                       22  of 3 to 12
 //             38  of 13 to 60                     24  of 61 to 200
 //              8  of 201 to 500                    3  of 501 to 900
@@ -41,7 +42,7 @@ use crate::graph_cases;
 use crate::graph_models::{by_chance, free, invariant, LESS};
 use crate::judge_cases::any_proposal;
 use crate::limit_asks;
-use crate::listing_models::{branching, entered_late, many_edges, wide};
+use crate::listing_models::{branching, entered_late, halved, many_edges, wide};
 use crate::meetings::spoil;
 use crate::pair_cases::{any_pair, some_pair};
 use crate::partition::Question;
@@ -117,9 +118,15 @@ const PLACE: usize = 40;
 const REDUCE: usize = 65;
 const PAIR: usize = 83;
 
+/// The part of a hundred of all models that get weights at exact halves.
+const HALVED: usize = 4;
+
 /// A table by chance.
 fn some_table(rng: &mut Rng) -> Vec<u8> {
-    let model = some_model(rng);
+    let mut model = some_model(rng);
+    if rng.chance(HALVED, 100) {
+        model = halved(rng, model);
+    }
     let whole = Records::of(&model);
     match rng.below(100) {
         0..72 => whole.bytes(),

@@ -33,6 +33,7 @@ mod listing;
 mod listing_borders;
 mod listing_cases;
 mod listing_check;
+mod listing_halves;
 mod listing_models;
 mod listing_parse;
 mod meetings;

@@ -1,4 +1,5 @@
-// The listing: the text that the program prints for a table. A refusal prints its line.
+// The listing: the text that the program prints for a table. A refusal prints its line. Shares are rounded as
+// document 02 asks in Job 7; all else is as in document 01.
 
 use crate::explore::{self, MOST_REGIONS};
 use crate::links::{Graph, Step};
@@ -6,6 +7,7 @@ use crate::refine;
 use crate::region::{Region, ENTRY};
 use crate::rounds::{self, Rounds};
 use crate::table::{self, Refusal};
+use std::cmp::Ordering;
 use std::collections::{BTreeMap, BTreeSet};
 
 /// How many entries the program lends.
@@ -118,7 +120,13 @@ fn step_line(block: u32, step: &Step, blocks: &[u32]) -> String {
     line(&fields)
 }
 
-/// A share in ten-thousandths, half rounded up.
+/// A share in ten-thousandths, the nearest: what divides out or one more. An exact half goes to the even one of the
+/// two (document 02, Job 7), so that 1 of 20,000 is 0 and 3 of 20,000 is 2.
 fn parts(weight: u64, denominator: u64) -> u64 {
-    (2 * WHOLE * weight + denominator) / (2 * denominator)
+    let (below, left) = (WHOLE * weight / denominator, WHOLE * weight % denominator);
+    match (2 * left).cmp(&denominator) {
+        Ordering::Less => below,
+        Ordering::Equal => below + below % 2,
+        Ordering::Greater => below + 1,
+    }
 }

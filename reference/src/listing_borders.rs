@@ -15,7 +15,7 @@ use crate::listing_parse::check_strictness;
 use crate::records::{with_places, Records};
 use crate::region::ENTRY;
 use crate::rng::Rng;
-use crate::table::{Edge, Model, BRANCH, LARGEST_CONSTANT, LARGEST_DENOMINATOR, MOST_BRANCHES, MOST_EDGES};
+use crate::table::{Edge, Model, BRANCH, LARGEST_CONSTANT, MOST_BRANCHES, MOST_EDGES};
 use std::collections::BTreeMap;
 
 /// Adds all cases of this file.
@@ -83,15 +83,15 @@ fn no_clocks(cases: &mut ListingCases) {
     }
 }
 
-/// A share in ten-thousandths: what divides out, and one more if what is left is half of the denominator or
-/// more.
-fn parts(weight: u64, denominator: u64) -> u64 {
-    let (whole, left) = (10_000 * weight / denominator, 10_000 * weight % denominator);
-    whole + u64::from(2 * left >= denominator)
+/// A share in ten-thousandths: of all numbers that may be printed the one nearest to it, and of two equally near ones
+/// the even one.
+pub fn parts(weight: u64, denominator: u64) -> u64 {
+    let distance = |number: u64| (10_000 * weight).abs_diff(number * denominator);
+    (0..=10_000).min_by_key(|&number| (distance(number), number % 2)).expect("there are numbers")
 }
 
 /// A step of a star: the action, and its branches by weight and target.
-type StarStep = (u8, Vec<(u16, u8)>);
+pub type StarStep = (u8, Vec<(u16, u8)>);
 
 /// A model without clocks whose location 0 leads to so many others, all of different labels, and what is
 /// printed for it. The first step meets the others by number; the given steps follow.
@@ -131,50 +131,39 @@ fn star_line(action: u8, branches: &[(u16, u8)]) -> String {
 }
 
 /// Adds a star with what must be printed for it.
-fn put_star(cases: &mut ListingCases, others: u8, steps: &[StarStep]) {
+pub fn put_star(cases: &mut ListingCases, others: u8, steps: &[StarStep]) {
     let (model, text) = star(others, steps);
     cases.foretold(&written(&model), LENT_OF_PROGRAM, &text);
 }
 
-/// Shares of all sorts, as many in a table as there may be edges: each weight of each small denominator, weights
-/// around a half of a ten-thousandth, and weights by chance.
+/// Shares of all sorts: each weight of each small denominator, weights around a half of a ten-thousandth, and weights
+/// by chance.
 fn rounding(cases: &mut ListingCases) {
-    assert_eq!([parts(1, 20_000), parts(1, 60_000), parts(7, 7)], [1, 0, 10_000], "the document's points");
-    let mut shares: Vec<(u16, u16)> = Vec::new();
+    let points = [(1, 20_000), (3, 20_000), (1, 60_000), (7, 7)].map(|(weight, of)| parts(weight, of));
+    assert_eq!(points, [0, 2, 0, 10_000], "the documents' points");
+    let mut shares: Vec<Share> = Vec::new();
     for denominator in 1..=40 {
         shares.extend((1..=denominator).map(|weight| (weight, denominator)));
     }
-    for denominator in [
-        32,
-        160,
-        800,
-        4_000,
-        9_999,
-        10_000,
-        10_001,
-        12_000,
-        16_000,
-        19_999,
-        20_000,
-        20_001,
-        29_999,
-        30_000,
-        32_000,
-        39_999,
-        40_000,
-        49_999,
-        52_000,
-        59_997,
-        59_999,
-        LARGEST_DENOMINATOR,
-    ] {
+    for denominator in AROUND_HALF {
         shares.extend(around_half(denominator).into_iter().map(|weight| (weight, denominator)));
     }
-    while shares.len() % (MOST_EDGES - 1) != 0 {
+    while shares.len() % SHARES_IN_A_STAR != 0 {
         let denominator = denominator(&mut cases.rng, 1);
         shares.push((cases.rng.between(1, denominator.into()) as u16, denominator));
     }
-    for (table, shares) in shares.chunks(MOST_EDGES - 1).enumerate() {
+    put_shares(cases, &shares);
+}
+
+/// A share: a weight and the denominator.
+pub type Share = (u16, u16);
+
+/// One edge of a star meets the other locations.
+const SHARES_IN_A_STAR: usize = MOST_EDGES - 1;
+
+/// Adds stars with steps that give these shares.
+pub fn put_shares(cases: &mut ListingCases, shares: &[Share]) {
+    for (table, shares) in shares.chunks(SHARES_IN_A_STAR).enumerate() {
         let steps: Vec<StarStep> =
             shares.iter().enumerate().map(|(index, &share)| share_step(table + index, share)).collect();
         put_star(cases, 2, &steps);
@@ -182,7 +171,7 @@ fn rounding(cases: &mut ListingCases) {
 }
 
 /// The step that gives a share to one of two locations, and what is left to the other.
-fn share_step(index: usize, (weight, denominator): (u16, u16)) -> StarStep {
+fn share_step(index: usize, (weight, denominator): Share) -> StarStep {
     let (one, other) = if index % 3 == 0 { (2, 1) } else { (1, 2) };
     let mut branches = vec![(weight, one)];
     if weight < denominator {
@@ -191,19 +180,30 @@ fn share_step(index: usize, (weight, denominator): (u16, u16)) -> StarStep {
     ((index * 7) as u8, branches)
 }
 
-/// Weights whose shares are half between two ten-thousandths, or the nearest to it below and above; the least
-/// and the greatest ones.
+/// Denominators with exact halves, up to the largest one, and neighbours of such, whose shares come near to halves.
+const AROUND_HALF: [u16; 36] = [
+    32, 96, 160, 480, 800, 1_600, 3_999, 4_000, 4_001, 9_999, 10_000, 10_001, 12_000, 16_000, 19_999, 20_000,
+    20_001, 28_000, 29_999, 30_000, 31_999, 32_000, 32_001, 36_000, 39_999, 40_000, 40_001, 44_000, 49_999,
+    52_000, 56_000, 59_840, 59_968, 59_997, 59_999, 60_000,
+];
+
+/// Weights whose shares are half between two ten-thousandths, or the nearest to it below and above, after even numbers
+/// and after odd ones; the least and the greatest weights.
 fn around_half(denominator: u16) -> Vec<u16> {
     let whole = u32::from(denominator);
     let left = |weight: u16| 2 * (10_000 * u32::from(weight) % whole);
-    let mut below: Vec<u16> = (1..=denominator).filter(|&weight| left(weight) < whole).collect();
-    let mut above: Vec<u16> = (1..=denominator).filter(|&weight| left(weight) > whole).collect();
-    let half: Vec<u16> = (1..=denominator).filter(|&weight| left(weight) == whole).collect();
-    below.sort_by_key(|&weight| whole - left(weight));
-    above.sort_by_key(|&weight| left(weight) - whole);
     let mut found = vec![1, 2, 3, 4, denominator - 3, denominator - 2, denominator - 1];
-    found.extend(below.iter().take(3).chain(above.iter().take(3)));
-    found.extend(half.iter().step_by(1 + half.len() / 6));
+    for parity in [0, 1] {
+        let after = |weight: &u16| 10_000 * u32::from(*weight) / whole % 2 == parity;
+        let weights: Vec<u16> = (1..=denominator).filter(after).collect();
+        let (half, mut beside): (Vec<u16>, Vec<u16>) =
+            weights.into_iter().partition(|&weight| left(weight) == whole);
+        beside.sort_by_key(|&weight| left(weight).abs_diff(whole));
+        let below = beside.iter().filter(|&&weight| left(weight) < whole);
+        let above = beside.iter().filter(|&&weight| left(weight) > whole);
+        found.extend(below.take(2).chain(above.take(2)));
+        found.extend(half.iter().step_by(1 + half.len() / 4));
+    }
     found
 }
 
@@ -240,20 +240,40 @@ fn sums(cases: &mut ListingCases) {
         (5, vec![(1, 2), (1, 2), (1, 2), (1, 2), (1, 2), (1, 2), (1, 2), (59_993, 1)]),
         (6, vec![(1, 1), (1, 2), (1, 1)]),
         (7, vec![(1, 2); 7]),
+        (8, vec![(1, 1), (19_997, 2), (1, 1), (1, 1)]),
+        (9, vec![(1, 2), (5, 2), (39_994, 1)]),
+        (10, vec![(1, 1), (2, 1), (4, 1), (25, 2)]),
     ];
     put_star(cases, 2, &steps);
-    for (weights, share, rest) in [
-        ([1, 1, 1, 59_997], 1, 10_000),
-        ([1, 1, 0, 39_998], 1, 10_000),
-        ([1, 1, 0, 19_998], 1, 9_999),
-        ([1, 1, 0, 59_998], 0, 10_000),
-        ([1, 1, 1, 0], 10_000, 0),
-        ([1, 1, 1, 3], 5_000, 5_000),
-    ] {
+    for (weights, share, rest) in SUMS {
         twin_sum(cases, weights, share, rest);
         reset_sum(cases, weights, share, rest);
     }
 }
+
+/// Weights, the first three of which land in one block, with what is printed for it and for the block of the last.
+const SUMS: [([u16; 4], u64, u64); 18] = [
+    ([1, 1, 0, 19_998], 1, 9_999),
+    ([1, 1, 0, 59_998], 0, 10_000),
+    ([1, 1, 1, 0], 10_000, 0),
+    ([1, 1, 1, 3], 5_000, 5_000),
+    // Exact halves of branches that are halves too.
+    ([1, 1, 1, 19_997], 2, 9_998),
+    ([3, 1, 1, 19_995], 2, 9_998),
+    ([3, 3, 3, 19_991], 4, 9_996),
+    ([1, 1, 1, 29], 938, 9_062),
+    // Exact halves that the branches make only together.
+    ([1, 1, 0, 39_998], 0, 10_000),
+    ([1, 5, 0, 39_994], 2, 9_998),
+    ([3, 7, 0, 39_990], 2, 9_998),
+    ([1, 1, 1, 59_997], 0, 10_000),
+    ([1, 1, 7, 59_991], 2, 9_998),
+    ([5, 5, 5, 59_985], 2, 9_998),
+    ([7, 7, 7, 59_979], 4, 9_996),
+    ([10_001, 9_998, 10_004, 29_997], 5_000, 5_000),
+    ([1, 2, 10, 51_987], 2, 9_998),
+    ([10, 10, 19, 51_961], 8, 9_992),
+];
 
 /// The shares of a line: the low block's, then the high one's. A weight of 0 stands for no branch.
 fn two_shares(low: (u32, u64), high: (u32, u64), has_low: bool) -> String {

@@ -11,8 +11,9 @@ use crate::graph_cases::{count_of, written};
 use crate::graph_models::by_chance;
 use crate::listing::{self, ENTRIES_OF_PROGRAM};
 use crate::listing_borders;
-use crate::listing_check::{self, Findings};
-use crate::listing_models::{branching, coloured, many_edges, renamed, wide};
+use crate::listing_check::{self, Findings, Halves};
+use crate::listing_halves;
+use crate::listing_models::{branching, coloured, halved, many_edges, renamed, wide};
 use crate::region::ENTRY;
 use crate::rng::Rng;
 use crate::table::{self, Model, Refusal};
@@ -195,12 +196,12 @@ impl ListingCases {
             ("step lines of 8 blocks", found.of_eight, 100),
             ("step lines with sums", found.summed, 2_000),
             ("repeated actions", found.repeated, 1_000),
-            ("shares of a half", found.halves, 200),
             ("shares of 0", found.zeros, 100),
             ("shares of nearly a whole", found.nearly_whole, 50),
             ("blocks with other edges", found.otherwise, 200),
             ("listings with 15", found.fifteen, 40),
         ];
+        demands.extend(demands_on_halves(&found.halves));
         demands.extend(BY_CLOCKS.iter().zip(found.clocks).map(|(&name, times)| (name, times, 80)));
         demands.extend(BY_DIGITS.iter().zip(found.digits).map(|(&name, times)| (name, times, 25)));
         demands
@@ -220,12 +221,31 @@ impl ListingCases {
     }
 }
 
+/// How often shares at exact halves and beside them must occur, on either side of a rule that tells even numbers from
+/// odd ones.
+fn demands_on_halves(halves: &Halves) -> [(&'static str, usize, usize); 10] {
+    [
+        ("halves gone down", halves.exact[0], 2_000),
+        ("halves gone up", halves.exact[1], 2_000),
+        ("halves of sums gone down", halves.together[0], 200),
+        ("halves of sums gone up", halves.together[1], 200),
+        ("shares hardly below a half after an even number", halves.hardly_below[0], 50),
+        ("shares hardly below a half after an odd number", halves.hardly_below[1], 50),
+        ("shares hardly above a half after an even number", halves.hardly_above[0], 50),
+        ("shares hardly above a half after an odd number", halves.hardly_above[1], 50),
+        ("halves that print 0", halves.zeros, 100),
+        ("step lines of halves", halves.lines, 1_000),
+    ]
+}
+
 /// Makes all cases of the listing. The tables of a folder, if one is given, come last.
 pub fn make(vectors: &Vectors, tables: Option<&str>) -> Result<ListingCases, String> {
     let mut cases = ListingCases::new();
     listing_borders::add_cases(&mut cases);
+    listing_halves::add_cases(&mut cases);
     add_block_borders(&mut cases);
     add_by_chance(&mut cases);
+    add_halved(&mut cases);
     add_many_edges(&mut cases);
     add_large_tables(&mut cases);
     add_damaged(&mut cases);
@@ -293,6 +313,19 @@ fn coloured_of(rng: &mut Rng, fewest: usize, most: usize) -> (Model, usize) {
         if let Some(count) = count_of(&model).filter(fits) {
             let model = if plain { coloured(rng, model) } else { model };
             return (model, count);
+        }
+    }
+}
+
+/// Models by chance with weights at exact halves, so many of each size.
+fn add_halved(cases: &mut ListingCases) {
+    cases.begin_group(103);
+    for (fewest, most, models) in [(3, 12, 25), (13, 40, 25), (41, 120, 15)] {
+        for _ in 0..models {
+            let (model, count) = coloured_of(&mut cases.rng, fewest, most);
+            let model = halved(&mut cases.rng, model);
+            let lent = some_lent(&mut cases.rng, count);
+            cases.regions(&model, count, lent);
         }
     }
 }

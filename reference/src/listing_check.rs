@@ -1,7 +1,7 @@
 // What must hold of each listing, and what was found in it. The text is read back and compared with the
 // partition call and with the model: the regions with the entries, the blocks with the block lists, delay and
 // steps with what the model's lowest region of each block does, each share by the two borders between which
-// it is rounded to what is printed.
+// it is rounded to what is printed, and which belong to even numbers alone.
 
 use crate::explore::Layout;
 use crate::listing_parse::{parse, BlockLines, Listing, RegionLine, StepLine};
@@ -27,10 +27,10 @@ pub struct Findings {
     pub of_eight: usize,
     pub summed: usize,
     pub repeated: usize,
-    /// Shares that are half between two numbers, that print 0, and that print 10000 though not all land there.
-    pub halves: usize,
+    /// Shares that print 0, and that print 10000 though not all land there.
     pub zeros: usize,
     pub nearly_whole: usize,
+    pub halves: Halves,
     /// Blocks of which another region has other edges, or the same ones otherwise.
     pub otherwise: usize,
     /// Listings by the number of clocks, and by the digits of the last region's number.
@@ -38,6 +38,22 @@ pub struct Findings {
     pub digits: [usize; 4],
     /// Listings with an integer part of 15.
     pub fifteen: usize,
+}
+
+/// Shares at exact halves of a ten-thousandth and beside them. In a pair the first is about shares after an even
+/// number, which an exact half goes down to, and the second about those after an odd one, which it goes up from.
+#[derive(Default)]
+pub struct Halves {
+    pub exact: [usize; 2],
+    /// Exact halves that the branches landing in a block make together, none of them alone.
+    pub together: [usize; 2],
+    /// Shares off a half by a thousandth of it at most, below it and above it.
+    pub hardly_below: [usize; 2],
+    pub hardly_above: [usize; 2],
+    /// Exact halves that print 0.
+    pub zeros: usize,
+    /// Step lines of several blocks, all at exact halves.
+    pub lines: usize,
 }
 
 /// A listing with the model that it is about.
@@ -185,32 +201,65 @@ fn rises(list: &[u32]) -> bool {
 }
 
 /// A step line must have the blocks in which the branches land, rising, each with its share; the shares sum to
-/// a whole but for the rounding.
+/// a whole but for the rounding. Two shares sum to it exactly: what one of them gains the other loses.
 fn check_step(line: &StepLine, edge: &Edge, landed: &[u32], findings: &mut Findings) {
     assert_eq!(line.action, edge.action, "the action of a step line");
     let listed: Vec<u32> = line.shares.iter().map(|&(block, _)| block).collect();
     assert!(rises(&listed), "the blocks of a step line rise");
     assert!(landed.iter().all(|block| listed.contains(block)), "each block landed in is listed");
+    let mut at_half = 0;
     for &(block, share) in &line.shares {
         let branches = edge.branches.iter().zip(landed).filter(|&(_, &into)| into == block);
-        let weight: u64 = branches.map(|(branch, _)| u64::from(branch.weight)).sum();
-        assert!(weight > 0, "a block is listed in which nothing lands");
-        check_share(weight, edge.denominator.into(), share, findings);
+        let weights: Vec<u64> = branches.map(|(branch, _)| u64::from(branch.weight)).collect();
+        assert!(!weights.is_empty(), "a block is listed in which nothing lands");
+        check_share(weights.iter().sum(), edge.denominator.into(), share, findings);
+        at_half += usize::from(findings.halves.note(&weights, edge.denominator.into()));
     }
     let sum: u64 = line.shares.iter().map(|&(_, share)| share).sum();
     assert!(2 * sum.abs_diff(10_000) <= listed.len() as u64, "shares sum to {sum}");
+    assert!(listed.len() != 2 || sum == 10_000, "two shares sum to {sum}");
+    findings.halves.lines += usize::from(at_half > 1 && at_half == listed.len());
     findings.of_eight += usize::from(listed.len() == 8);
     findings.summed += usize::from(listed.len() < landed.len());
     findings.steps_in_order += usize::from(!landed.windows(2).all(|pair| pair[0] <= pair[1]));
 }
 
-/// A share is printed as s where it lies from s - 1/2, that included, to s + 1/2.
+/// A share is printed as s where it lies between s - 1/2 and s + 1/2. Both borders belong to s where s is even, and
+/// neither does where s is odd.
 fn check_share(weight: u64, denominator: u64, share: u64, findings: &mut Findings) {
     let twice = 20_000 * weight;
     let low = (2 * share * denominator).saturating_sub(denominator);
     let high = (2 * share + 1) * denominator;
-    assert!(low <= twice && twice < high, "{weight} of {denominator} is listed as {share}");
-    findings.halves += usize::from(share > 0 && low == twice);
+    let at_border = twice == low || twice == high;
+    let fits = low <= twice && twice <= high && (share % 2 == 0 || !at_border);
+    assert!(fits, "{weight} of {denominator} is listed as {share}");
     findings.zeros += usize::from(share == 0);
     findings.nearly_whole += usize::from(share == 10_000 && weight < denominator);
+}
+
+/// How far a share is above the half after the last whole ten-thousandth, below it if less than 0, in parts of which
+/// a half has as many as the denominator says.
+fn above_half(weight: u64, denominator: u64) -> i64 {
+    2 * (10_000 * weight % denominator) as i64 - denominator as i64
+}
+
+impl Halves {
+    /// Counts the share that these weights make together. Returns whether it is an exact half.
+    fn note(&mut self, weights: &[u64], denominator: u64) -> bool {
+        let weight: u64 = weights.iter().sum();
+        let side = (10_000 * weight / denominator % 2) as usize;
+        let hardly = denominator as i64 / 1_000;
+        match above_half(weight, denominator) {
+            0 => {
+                let alone = weights.iter().any(|&weight| above_half(weight, denominator) == 0);
+                self.exact[side] += 1;
+                self.together[side] += usize::from(!alone);
+                self.zeros += usize::from(10_000 * weight < denominator);
+                return true;
+            }
+            above if above < 0 => self.hardly_below[side] += usize::from(-above <= hardly),
+            above => self.hardly_above[side] += usize::from(above <= hardly),
+        }
+        false
+    }
 }

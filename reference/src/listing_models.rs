@@ -1,5 +1,5 @@
-// Models for the listing: by chance with any labels, actions and denominators, with many branches, with twin
-// locations in any order, and the one in which time meets blocks in another order than by number.
+// Models for the listing: by chance with any labels, actions and denominators, with shares at exact halves, with
+// many branches, and the one in which time meets blocks in another order than by number.
 
 use crate::block_models::{labelled, shuffle, step};
 use crate::generate::{any_byte, index_below, mask, weights};
@@ -46,6 +46,50 @@ fn weigh(rng: &mut Rng, edge: &mut Edge) {
     let weights = weights(rng, edge.denominator, edge.branches.len());
     for (branch, weight) in edge.branches.iter_mut().zip(weights) {
         branch.weight = weight;
+    }
+}
+
+/// The denominators, in lowest terms, of all shares that are half between two ten-thousandths: 20,000 times such a
+/// share is odd. Each divides the largest denominator.
+pub const HALVING: [u16; 5] = [32, 160, 800, 4_000, 20_000];
+
+/// How many times as large weights over such a denominator are made: once, as often as can be, or between.
+pub fn factor(rng: &mut Rng, halving: u16) -> u16 {
+    let most = LARGEST_DENOMINATOR / halving;
+    let any = rng.between(1, most.into()) as u16;
+    rng.pick(&[1, most, any, any])
+}
+
+/// Numbers by chance, each as large as its least one or larger by some units, that sum to the total.
+pub fn spread(rng: &mut Rng, total: u16, least: &[u16], unit: u16) -> Vec<u16> {
+    let count = least.len();
+    let units = (total - least.iter().sum::<u16>()) / unit;
+    let more = weights(rng, units + count as u16, count);
+    least.iter().zip(more).map(|(least, more)| least + unit * (more - 1)).collect()
+}
+
+/// The model with other weights. The share of each branch is an exact half of a ten-thousandth, and so is that of any
+/// odd number of branches of an edge together, but for one branch of each edge that has an odd number of them: its share
+/// is a whole number of ten-thousandths.
+pub fn halved(rng: &mut Rng, mut model: Model) -> Model {
+    for edge in &mut model.edges {
+        halve(rng, edge);
+    }
+    with_places(model)
+}
+
+/// Gives the branches of an edge odd weights over a denominator of halves, one of them an even weight where the sum
+/// asks for it, and makes all so many times as large.
+fn halve(rng: &mut Rng, edge: &mut Edge) {
+    let halving = rng.pick(&HALVING);
+    let count = edge.branches.len();
+    let mut least = vec![1; count];
+    least[rng.below(count)] += count as u16 % 2;
+    let weights = spread(rng, halving, &least, 2);
+    let factor = factor(rng, halving);
+    edge.denominator = halving * factor;
+    for (branch, weight) in edge.branches.iter_mut().zip(weights) {
+        branch.weight = weight * factor;
     }
 }
 

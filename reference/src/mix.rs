@@ -1,8 +1,10 @@
-// What a series of asks covers: how often each call succeeds or meets each refusal, and how regions, blocks and
-// rounds are spread.
+// What a series of asks covers: how often each call succeeds or meets each refusal, how regions, blocks and rounds
+// are spread, and which shares the listings of the tables have.
 
 use crate::asks::{self, Ask, What};
 use crate::calls::{self, Answer};
+use crate::listing;
+use crate::listing_check::{self, Findings};
 
 /// The names of the calls, in the order of `What`.
 const CALLS: [&str; 5] = ["graph", "state", "partition", "pair", "judging"];
@@ -39,6 +41,38 @@ impl Spread {
     }
 }
 
+/// What the listings of accepted tables have.
+#[derive(Default)]
+struct Listed {
+    findings: Findings,
+    /// How many there are, and how many of them have a share at an exact half.
+    listings: usize,
+    with_halves: usize,
+}
+
+impl Listed {
+    /// Checks and counts the listing of the table that is asked about.
+    fn note(&mut self, ask: &Ask) {
+        let text = listing::listing(&ask.table, ask.entries).expect("an accepted table");
+        let before = self.findings.halves.exact;
+        listing_check::check(&ask.table, ask.entries, &text, &mut self.findings);
+        self.listings += 1;
+        self.with_halves += usize::from(self.findings.halves.exact != before);
+    }
+
+    fn text(&self) -> String {
+        let (steps, halves) = (self.findings.steps, &self.findings.halves);
+        let [down, up] = halves.exact;
+        let [down_together, up_together] = halves.together;
+        let mut text = format!("listings: {}  step lines: {steps}\n", self.listings);
+        text.push_str(&format!("listings with exact halves: {}", self.with_halves));
+        text.push_str(&format!("  gone down: {down}  gone up: {up}  printed as 0: {}\n", halves.zeros));
+        text + &format!(
+            "exact halves made by sums alone  gone down: {down_together}  gone up: {up_together}\n"
+        )
+    }
+}
+
 /// Asks so many questions of a seed and says what they met.
 pub fn summary(seed: u64, count: u64) -> String {
     let mut met = [[0; CALLS.len()]; LAST_REFUSAL + 1];
@@ -46,6 +80,7 @@ pub fn summary(seed: u64, count: u64) -> String {
     let mut blocks = Spread::new("blocks of partitions", &REGIONS);
     let mut rounds = Spread::new("rounds of partitions", &ROUNDS);
     let mut sharing = 0;
+    let mut listed = Listed::default();
     for number in 0..count {
         let ask = asks::ask(seed, number);
         let answer = answered(&ask);
@@ -53,6 +88,7 @@ pub fn summary(seed: u64, count: u64) -> String {
         let graph = calls::graph(&ask.table, &mut vec![0; ask.entries]);
         if graph.refusal == 0 {
             regions.note(graph.value);
+            listed.note(&ask);
         }
         match ask.what {
             What::Reduce { .. } if answer.refusal == 0 => {
@@ -70,7 +106,8 @@ pub fn summary(seed: u64, count: u64) -> String {
         text.push_str(&format!("{name:<11}{times}\n"));
     }
     text.push_str(&(regions.text() + &blocks.text() + &rounds.text()));
-    text + &format!("pairs that share a block: {sharing}\n")
+    text.push_str(&format!("pairs that share a block: {sharing}\n"));
+    text + &listed.text()
 }
 
 /// The answer to an ask.

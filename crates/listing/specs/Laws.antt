@@ -4,6 +4,7 @@
 --   Texts    texts one after the other
 --   Buffers  a text in a buffer
 --   Joined   the parts of the listing, joined, are the listing
+--   Rounding shares are rounded to the nearest, a half to the even one
 --   Sense    what the definitions fall back on never occurs in what a call left
 --   Lengths  how long texts are
 --   Blocks   blocks in a list of block numbers
@@ -14,6 +15,7 @@ pub mod Decimal
 pub mod Texts
 pub mod Buffers
 pub mod Joined
+pub mod Rounding
 pub mod Sense
 pub mod Lengths
 pub mod Blocks

@@ -14,7 +14,8 @@ use Rattle.partition.specs.Passed.{Cell, over, at, reset, cells, delay, State, 
 use Rattle.partition.specs.Passed.{Finite, alike, printed, printedModel}
 use Rattle.partition.specs.Instances.{delaysFrom}
 use Rattle.listing.specs.Text.{decimal}
-use Rattle.listing.specs.Printed.{ShareRecord, tenThousandths, shareField, listing}
+use Rattle.listing.specs.Rounding.{tenThousandths}
+use Rattle.listing.specs.Printed.{ShareRecord, shareField, listing}
 
 pub data Point : Type 0 where
   -- The table is refused, with this number and place.
@@ -126,6 +127,38 @@ edgesAndBranches =
     ∷ 6 ∷ 1 ∷ 0 ∷ 1 ∷ 0
     ∷ 7 ∷ []
 
+-- Two locations and no clock, and two edges from location 0 back to it and to location 1: there with 1/20,000, and with 3/20,000.
+abbrev halves : List ℕ
+halves =
+    1 ∷ 0 ∷ 2 ∷ 0
+    ∷ 2 ∷ 1
+    ∷ 2 ∷ 2
+    ∷ 4 ∷ 0 ∷ 4 ∷ 32 ∷ 78
+    ∷ 6 ∷ 1 ∷ 0 ∷ 1 ∷ 0
+    ∷ 6 ∷ 31 ∷ 78 ∷ 0 ∷ 0
+    ∷ 4 ∷ 0 ∷ 4 ∷ 32 ∷ 78
+    ∷ 6 ∷ 3 ∷ 0 ∷ 1 ∷ 0
+    ∷ 6 ∷ 29 ∷ 78 ∷ 0 ∷ 0
+    ∷ 7 ∷ []
+
+-- What is printed for it: a block landed in is named, also with a share of 0.
+abbrev halvesText : List ℕ
+halvesText =
+    -- `regions 2 blocks 2 rounds 0`
+    114 ∷ 101 ∷ 103 ∷ 105 ∷ 111 ∷ 110 ∷ 115 ∷ 32 ∷ 50 ∷ 32 ∷ 98 ∷ 108 ∷ 111 ∷ 99 ∷ 107 ∷ 115 ∷ 32 ∷ 50 ∷ 32 ∷ 114 ∷ 111 ∷ 117 ∷ 110 ∷ 100 ∷ 115 ∷ 32 ∷ 48 ∷ 10
+    -- `region 0 0 0`
+    ∷ 114 ∷ 101 ∷ 103 ∷ 105 ∷ 111 ∷ 110 ∷ 32 ∷ 48 ∷ 32 ∷ 48 ∷ 32 ∷ 48 ∷ 10
+    -- `region 1 1 1`
+    ∷ 114 ∷ 101 ∷ 103 ∷ 105 ∷ 111 ∷ 110 ∷ 32 ∷ 49 ∷ 32 ∷ 49 ∷ 32 ∷ 49 ∷ 10
+    -- `block 0 1 1`
+    ∷ 98 ∷ 108 ∷ 111 ∷ 99 ∷ 107 ∷ 32 ∷ 48 ∷ 32 ∷ 49 ∷ 32 ∷ 49 ∷ 10
+    -- `step 0 4 0:10000 1:0`
+    ∷ 115 ∷ 116 ∷ 101 ∷ 112 ∷ 32 ∷ 48 ∷ 32 ∷ 52 ∷ 32 ∷ 48 ∷ 58 ∷ 49 ∷ 48 ∷ 48 ∷ 48 ∷ 48 ∷ 32 ∷ 49 ∷ 58 ∷ 48 ∷ 10
+    -- `step 0 4 0:9998 1:2`
+    ∷ 115 ∷ 116 ∷ 101 ∷ 112 ∷ 32 ∷ 48 ∷ 32 ∷ 52 ∷ 32 ∷ 48 ∷ 58 ∷ 57 ∷ 57 ∷ 57 ∷ 56 ∷ 32 ∷ 49 ∷ 58 ∷ 50 ∷ 10
+    -- `block 1 2 1`
+    ∷ 98 ∷ 108 ∷ 111 ∷ 99 ∷ 107 ∷ 32 ∷ 49 ∷ 32 ∷ 50 ∷ 32 ∷ 49 ∷ 10 ∷ []
+
 -- A location, and clock 0 with an integer part and rank 0; with rank 1.
 abbrev region : (location part : ℕ) → Region
 region location part = record { location = location; whole = part ∷ 0 ∷ 0 ∷ 0 ∷ []; rank = 0 ∷ 0 ∷ 0 ∷ 0 ∷ [] }
@@ -227,11 +260,17 @@ points =
     -- "1/3 and 2/6 are equal shares; 3,333/10,000 is not 1/3."
     ∷ shares 1 3 2 6 true
     ∷ shares 1 3 3333 10000 false
-    -- "1/20,000 prints 1": it is half of one, and what is less than half prints 0.
-    ∷ rounded 1 20000 1
+    -- "1/20,000 prints 0 .. and 3/20,000 prints 2" (document 02, Job 7): exact halves, as 5/20,000 is, and what is next to them.
+    ∷ rounded 1 20000 0
+    ∷ rounded 3 20000 2
+    ∷ rounded 5 20000 2
+    ∷ rounded 1 19999 1
     ∷ rounded 1 20001 0
-    ∷ shareText (record { block = 0; weight = 1; denominator = 20000 }) (32 ∷ 48 ∷ 58 ∷ 49 ∷ [])
-    ∷ shareText (record { block = 0; weight = 1; denominator = 20001 }) (32 ∷ 48 ∷ 58 ∷ 48 ∷ [])
+    ∷ rounded 3 19999 2
+    ∷ rounded 3 20001 1
+    ∷ shareText (record { block = 0; weight = 1; denominator = 20000 }) (32 ∷ 48 ∷ 58 ∷ 48 ∷ [])
+    ∷ shareText (record { block = 0; weight = 3; denominator = 20000 }) (32 ∷ 48 ∷ 58 ∷ 50 ∷ [])
+    ∷ prints halves 2048 halvesText
     -- The shares of the printed model's step, ` 0:6667` and ` 2:3333`.
     ∷ rounded 2 3 6667
     ∷ rounded 1 3 3333
@@ -260,4 +299,5 @@ points-met =
     (also refl (also refl (also refl (also refl (also refl (also refl
     (also refl (also refl (also refl (also refl (also refl (also refl
     (also refl (also refl (also refl (also refl (also refl (also refl
-    (also refl none))))))))))))))))))))))))))))))))))))))))))
+    (also refl (also refl (also refl (also refl (also refl (also refl
+    (also refl none))))))))))))))))))))))))))))))))))))))))))))))))

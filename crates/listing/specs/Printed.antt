@@ -1,6 +1,6 @@
 -- The printed model (document 01, "The printed model"): records of the regions and blocks of a model, each line over them, and the
 -- listing of a table.
-use Prim.Native.Nat.{ℕ, zero, suc, _+_, _*_, _/_}
+use Prim.Native.Nat.{ℕ, zero, suc, _+_}
 use mathlib.Core.Bool.{Bool, true, false, cond, not, _&&_, _||_}
 use mathlib.Core.List.{List, [], _∷_, _++_, map}
 use lib.Dec.{eqb}
@@ -10,6 +10,7 @@ use Rattle.partition.specs.Instances.{regionOf, graph}
 use Rattle.partition.specs.Calls.{afterGraph}
 use Rattle.listing.specs.Text.{lineFeed, plus, colon, above, blank, decimal, field, upTo, rising, each}
 use Rattle.listing.specs.Text.{regionsWord, blocksWord, roundsWord, regionWord, blockWord, delayWord, stepWord, refusedWord, placeWord}
+use Rattle.listing.specs.Rounding.{tenThousandths}
 
 -- ---- Records
 
@@ -70,12 +71,7 @@ abbrev pub delayLineOf : (number : ℕ) → List ℕ → List ℕ
 delayLineOf number [] = []
 delayLineOf number (c ∷ l) = delayWord ++ (field number ++ (each field (c ∷ l) ++ (lineFeed ∷ [])))
 
--- "Share in ten-thousandths, half rounded up": the whole part of 10,000 weight / denominator + 1/2. (0 where the denominator is 0, a choice
--- of ours: no table that is read has W = 0.)
-unfoldable pub tenThousandths : (weight denominator : ℕ) → ℕ
-tenThousandths weight denominator = (20000 * weight + denominator) / (2 * denominator)
-
--- "Then block:share".
+-- "Then block:share in ten-thousandths", a share being rounded as `Rounded` (Rounding) has it.
 abbrev pub shareField : ShareRecord → List ℕ
 shareField s = field (s .block) ++ (colon ∷ decimal (tenThousandths (s .weight) (s .denominator)))
 

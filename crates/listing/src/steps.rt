@@ -3,7 +3,8 @@ ghost use Prim.Native.Nat.{ℕ, _+_, _*_, _≤_, _<_};
 ghost use mathlib.Core.Path.{_≡_};
 ghost use lib.ListN.{length, getD};
 ghost use Rattle.listing.specs.Text.{each, field, upTo};
-ghost use Rattle.listing.specs.Printed.{otherBlocks, delayLineOf, tenThousandths, weightInto};
+ghost use Rattle.listing.specs.Rounding.{tenThousandths};
+ghost use Rattle.listing.specs.Printed.{otherBlocks, delayLineOf, weightInto};
 ghost use Rattle.listing.specs.Printed.{shareField, sharesOf, targetsOf, stepLine};
 ghost use Rattle.listing.specs.Slices.{branchesFrom, stepAt, stepTextAt};
 ghost use Rattle.listing.specs.Writing.{Adds};
@@ -65,7 +66,7 @@ pub(crate) fn put_delay(
     put(LINE_FEED, two, text)
 }
 
-// A share in ten-thousandths, half rounded up; 0 where the denominator is.
+// A share in ten-thousandths, to the nearest, half to the even one; 0 where the denominator is.
 fn ten_thousandths(weight: u64, denominator: u64) -> u64
     requires { ⌜ (weight < 4294967296) × (denominator < 65536) ⌝ }
     ensures { λ r. ⌜ r ≡ tenThousandths weight denominator ⌝ }
@@ -73,7 +74,15 @@ fn ten_thousandths(weight: u64, denominator: u64) -> u64
     if denominator == 0 {
         return 0;
     }
-    (20000 * weight + denominator) / (2 * denominator)
+    let down = 10000 * weight / denominator;
+    let left = 10000 * weight % denominator;
+    if 2 * left < denominator {
+        return down;
+    }
+    if denominator < 2 * left {
+        return down + 1;
+    }
+    down + down % 2
 }
 
 // The weight of k branches, from a place of the rows on, that land in a block.

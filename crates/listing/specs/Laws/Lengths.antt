@@ -1,7 +1,7 @@
 -- How long texts are: a local array of 128 bytes holds the first line and a refusal's, one of 256 a region's, and one of 65,536 the
 -- lines of a block. The bounds are generous: what counts is that they hold for whatever the code can be given.
 use Prim.Native.Nat.{ℕ, zero, suc, _+_, _*_, _/_, _%_, _^_, _≤_, _<_}
-use native.Mathlib.Nat.{div-lt-iff-lt-mul, div-le-self, pow-suc, mul-suc}
+use native.Mathlib.Nat.{div-lt-iff-lt-mul, pow-suc, mul-suc}
 use native.Mathlib.Omega.{arith}
 use mathlib.Core.Path.{_≡_, refl, sym, _∙_, ap, subst}
 use mathlib.Core.Bool.{Bool, true, false, cond, not, _&&_, _||_}
@@ -11,11 +11,13 @@ use lib.ListN.{length, getD, length-append}
 use borrow.Author.Tests.{ltb-false, eqb-true, ne-eqb}
 use Rattle.listing.specs.Text.{lineFeed, blank, digitsBy, decimal, field, upTo, rising, each}
 use Rattle.listing.specs.Text.{plus, above, regionsWord, blocksWord, roundsWord, regionWord, blockWord, delayWord, stepWord, refusedWord, placeWord}
-use Rattle.listing.specs.Printed.{ShareRecord, StepRecord, firstLine, rankText, clockField, regionLine, blockLine, delayLineOf, tenThousandths}
+use Rattle.listing.specs.Printed.{ShareRecord, StepRecord, firstLine, rankText, clockField, regionLine, blockLine, delayLineOf}
 use Rattle.listing.specs.Printed.{shareField, stepLine, refusalLine, isAmong, targetsOf, weightInto, otherBlocks, sharesOf}
+use Rattle.listing.specs.Rounding.{tenThousandths}
 use Rattle.listing.specs.Slices.{rowRoom, branchesFrom, stepAt, stepTextAt}
 use Rattle.listing.specs.Laws.Texts.{each-append}
 use Rattle.listing.specs.Laws.Joined.{each-upto}
+use Rattle.listing.specs.Laws.Rounding.{rounded-most}
 
 -- ---- Numbers
 
@@ -249,16 +251,13 @@ module _ (list rows : List ℕ) (small : (i : ℕ) → getD rows i 0 < 65536) wh
       go true rest = omega (arith, rest, small at)
       go false rest = omega (arith, rest)
 
-  share-most : (weight denominator : ℕ) → weight ≤ 524288 → denominator < 65536
-      → length (decimal (tenThousandths weight denominator)) ≤ 20
-  unfolding tenThousandths
-  share-most weight denominator hw hd =
-      let less = div-le-self (20000 * weight + denominator) (2 * denominator) in
-      decimal-length ((20000 * weight + denominator) / (2 * denominator)) 20 (omega arith) (omega (arith, less, hw, hd))
+  share-most : (weight denominator : ℕ) → weight ≤ 524288 → length (decimal (tenThousandths weight denominator)) ≤ 20
+  share-most weight denominator hw =
+      decimal-length (tenThousandths weight denominator) 20 (omega arith) (omega (arith, rounded-most weight denominator, hw))
 
-  shares-fit : (count denominator at k : ℕ) → count ≤ 4096 → denominator < 65536 → k ≤ 8
+  shares-fit : (count denominator at k : ℕ) → count ≤ 4096 → k ≤ 8
       → Fits (each shareField (sharesOf list count denominator (branchesFrom rows at k))) 208
-  shares-fit count denominator at k few hd hk =
+  shares-fit count denominator at k few hk =
       subst (λ (l : List ℕ). Fits l 208)
       (sym (each-map shareField share (rising (λ c. isAmong list c (targetsOf (branchesFrom rows at k))) count)))
       (fits-less (rise-each (λ c. shareField (share c)) (λ c. isAmong list c (targetsOf (branchesFrom rows at k))) count one)
@@ -270,7 +269,7 @@ module _ (list rows : List ℕ) (small : (i : ℕ) → getD rows i 0 < 65536) wh
       one : (c : ℕ) → c < count → Fits (shareField (share c)) 26
       one c h =
           let digits =
-          share-most (weightInto list c (branchesFrom rows at k)) denominator (omega (arith, weight-most c at k, hk)) hd in
+          share-most (weightInto list c (branchesFrom rows at k)) denominator (omega (arith, weight-most c at k, hk)) in
           fits-then {more = 21} (block-field c (omega (arith, h, few))) (record { within = omega (arith, digits) })
 
   step-fits : (count own e : ℕ) → count ≤ 4096 → own < count
@@ -285,7 +284,7 @@ module _ (list rows : List ℕ) (small : (i : ℕ) → getD rows i 0 < 65536) wh
           (fits-then (half-field (getD rows (rowRoom * e + 1) 0) (small (rowRoom * e + 1)))
           (fits-then
           (shares-fit count (getD rows (rowRoom * e + 2) 0) (rowRoom * e + 4) (getD rows (rowRoom * e + 3) 0) few
-          (small (rowRoom * e + 2)) (branches (eqb-true (getD rows (rowRoom * e) 0) 1 is)))
+          (branches (eqb-true (getD rows (rowRoom * e) 0) 1 is)))
           (fits-word (lineFeed ∷ [])))))
       go false is = record { within = omega arith }
 

@@ -1,8 +1,8 @@
 -- The loops of a block's lines: the numbers that pass a test, found one after the other and put one after the other; and the branches
 -- of a row, gone through from either end.
-use Prim.Native.Nat.{ℕ, zero, suc, _+_, _-_, _*_, _/_, _≤_, _<_}
+use Prim.Native.Nat.{ℕ, zero, suc, _+_, _-_, _*_, _≤_, _<_}
 use native.Mathlib.Omega.{arith}
-use native.Mathlib.Nat.{eq-or-lt-of-le, div-zero}
+use native.Mathlib.Nat.{eq-or-lt-of-le}
 use mathlib.Core.Path.{_≡_, refl, sym, _∙_, ap, ap₂, subst}
 use mathlib.Core.Bool.{Bool, true, false, cond}
 use mathlib.Core.Logic.{inl, inr}
@@ -12,7 +12,7 @@ use lib.Seq.{length-take-le, take-all, take-suc-set}
 use borrow.Author.Tests.{eq-eqb, ne-eqb}
 use Rattle.partition.specs.Passed.{Branch}
 use Rattle.listing.specs.Text.{lineFeed, delayWord, field, upTo, rising, each}
-use Rattle.listing.specs.Printed.{delayLineOf, tenThousandths, isAmong, targetsOf, weightInto, shareField, sharesOf, stepLine}
+use Rattle.listing.specs.Printed.{delayLineOf, isAmong, targetsOf, weightInto, shareField, sharesOf, stepLine}
 use Rattle.listing.specs.Slices.{Next, branchesFrom, stepAt, stepTextAt}
 use Rattle.listing.specs.Writing.{Adds}
 use Rattle.listing.specs.Laws.Writing.{adds-none, adds-then, adds-same}
@@ -122,13 +122,6 @@ module _ (p : ℕ → Bool) where
       go (x ∷ l) some = refl
 
 -- ---- Shares
-
--- A share over 0.
-pub ten-thousandths-none : (weight denominator : ℕ) → denominator ≡ 0 → 0 ≡ tenThousandths weight denominator
-unfolding tenThousandths
-ten-thousandths-none weight denominator e =
-    let none : 2 * denominator ≡ 0 = omega (arith, e) in
-    sym (ap (λ (k : ℕ). (20000 * weight + denominator) / k) none ∙ div-zero (20000 * weight + denominator))
 
 -- The text of a block landed in, and of all of them.
 module _ (list : List ℕ) (denominator : ℕ) (branches : List (Branch ℕ)) where

@@ -1,7 +1,8 @@
 -- `ten_thousandths` meets its contract. Assumes nothing.
-use mathlib.Core.Path.{refl}
-use Rattle.listing.specs.Printed.{tenThousandths}
-use Rattle.listing.specs.Laws.Rising.{ten-thousandths-none}
+use Prim.Native.Nat.{_*_, _/_}
+use native.Mathlib.Nat.{mod-le, div-le-self}
+use native.Mathlib.Omega.{arith}
+use Rattle.listing.specs.Laws.Rounding.{rounds-none, rounds-down, rounds-up, rounds-half}
 use borrow.Author.Needs.{needs}
 use Rattle.listing.proofs.steps.ten_thousandths.Statement.{statement}
 use Rattle.listing.proofs.steps.ten_thousandths.Tie as tie
@@ -9,25 +10,69 @@ use Rattle.listing.proofs.steps.ten_thousandths.Tie as tie
 returns : tie.Need-returns
 returns c =
     let args = c .before .args in
-    ten-thousandths-none args.weight args.denominator (c .if1 .taken)
+    rounds-none args.weight args.denominator (c .if1 .taken)
 
-mul-result : tie.Need-mul-result
-mul-result c = search needs
+mul-down : tie.Need-mul-down
+mul-down c = search needs
 
-add-result : tie.Need-add-result
-add-result c = search needs
+div-down : tie.Need-div-down
+div-down c = search needs
 
-mul-result-2 : tie.Need-mul-result-2
-mul-result-2 c = search needs
+mul-left : tie.Need-mul-left
+mul-left c = search needs
 
-div-result : tie.Need-div-result
-div-result c = search needs
+rem-left : tie.Need-rem-left
+rem-left c = search needs
+
+mul-if2 : tie.Need-mul-if2
+mul-if2 c =
+    let args = c .before .args in
+    omega (arith, mod-le (10000 * args.weight) args.denominator, c .before .pre .0)
 
 returns-2 : tie.Need-returns-2
-unfolding tenThousandths
 returns-2 c =
-    refl
+    let args = c .before .before .args in
+    rounds-down args.weight args.denominator (c .before .if1 .left) (omega (arith, c .if2 .taken))
+
+mul-if3 : tie.Need-mul-if3
+mul-if3 c =
+    let args = c .before .before .args in
+    omega (arith, mod-le (10000 * args.weight) args.denominator, c .before .before .pre .0)
+
+add-result : tie.Need-add-result
+add-result c =
+    let args = c .before .before .before .args in
+    omega (arith, div-le-self (10000 * args.weight) args.denominator, c .before .before .before .pre .0)
+
+returns-3 : tie.Need-returns-3
+returns-3 c =
+    let args = c .before .before .before .args in
+    rounds-up args.weight args.denominator (c .before .before .if1 .left) (omega (arith, c .if3 .taken))
+
+add-result-2 : tie.Need-add-result-2
+add-result-2 c =
+    let args = c .before .before .before .args in
+    let down = 10000 * args.weight / args.denominator in
+    omega (arith, div-le-self (10000 * args.weight) args.denominator, mod-le down 2, c .before .before .before .pre .0)
+
+returns-4 : tie.Need-returns-4
+returns-4 c =
+    let args = c .before .before .before .args in
+    rounds-half args.weight args.denominator (c .before .before .if1 .left) (omega (arith, c .before .if2 .left, c .if3 .left))
 
 pub ten-thousandths-spec : {M : Type 1} → statement M
 ten-thousandths-spec =
-    tie.close (tie.spec returns mul-result add-result mul-result-2 div-result returns-2)
+    tie.close
+    (tie.spec
+    returns
+    mul-down
+    div-down
+    mul-left
+    rem-left
+    mul-if2
+    returns-2
+    mul-if3
+    add-result
+    returns-3
+    add-result-2
+    returns-4)

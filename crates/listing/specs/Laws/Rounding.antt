@@ -1,0 +1,187 @@
+-- Shares are rounded as document 02, Job 7, has it: `tenThousandths` is `Rounded`, no other number is, and an exact half goes to the
+-- even one. Then what the code goes by, and how large the number can be.
+use Prim.Native.Nat.{ℕ, zero, suc, _+_, _-_, _*_, _/_, _%_, _≤_, _<_}
+use native.Mathlib.Decide.{decLt}
+use native.Mathlib.Nat.{mul-le-mul-right, suc-mul, add-mul, mul-assoc, mod-lt, div-add-mod', div-le-self}
+use native.Mathlib.Omega.{arith}
+use mathlib.Core.Path.{_≡_, refl, sym, _∙_, subst}
+use mathlib.Core.Bool.{Bool, true, false, cond}
+use mathlib.Core.Logic.{_↔_}
+use lib.Dec.{eqb, ltb}
+use borrow.Author.Tests.{eq-eqb, ne-eqb, lt-ltb, le-ltb}
+use Rattle.listing.specs.Rounding.{distance, Rounded, rounding, tenThousandths}
+
+-- ---- What is nearest
+
+-- Over a denominator d the share is `down` whole ones and `left` of the next.
+module _ (weight d down left : ℕ) (split : down * d + left ≡ 10000 * weight) (rest : left < d) where
+  at-down : distance weight d down ≡ left
+  at-down = omega (arith, split)
+
+  at-up : distance weight d (suc down) ≡ d - left
+  at-up = omega (arith, split, rest, suc-mul down d)
+
+  -- Those from `down` downwards, and those above it.
+  below : (s : ℕ) → s ≤ down → left ≤ distance weight d s
+  below s h = omega (arith, split, mul-le-mul-right d h)
+
+  above : (s : ℕ) → down < s → d - left ≤ distance weight d s
+  above s h = omega (arith, split, rest, suc-mul down d, mul-le-mul-right d h)
+
+  -- Those that are further off than these.
+  far-below : (s : ℕ) → s < down → d + left ≤ distance weight d s
+  far-below s h = omega (arith, split, suc-mul s d, mul-le-mul-right d h)
+
+  far-above : (s : ℕ) → suc down < s → d + (d - left) ≤ distance weight d s
+  far-above s h = omega (arith, split, rest, suc-mul down d, suc-mul (suc down) d, mul-le-mul-right d h)
+
+  near-down : 2 * left ≤ d → (s : ℕ) → distance weight d down ≤ distance weight d s
+  near-down h s = go (decLt down s)
+    where
+      go : Dec (down < s) → distance weight d down ≤ distance weight d s
+      go (yes l) = omega (arith, at-down, above s l, h)
+      go (no l) = omega (arith, at-down, below s (omega (arith, l)))
+
+  near-up : d ≤ 2 * left → (s : ℕ) → distance weight d (suc down) ≤ distance weight d s
+  near-up h s = go (decLt down s)
+    where
+      go : Dec (down < s) → distance weight d (suc down) ≤ distance weight d s
+      go (yes l) = omega (arith, at-up, above s l)
+      go (no l) = omega (arith, at-up, below s (omega (arith, l)), h)
+
+  -- Less than half is left: no other is as near.
+  rounded-down : 2 * left < d → Rounded weight d down
+  rounded-down h = record { nearest = near-down (omega (arith, h)); even = λ s other same. absurd (go s other same (decLt down s)) }
+    where
+      go : (s : ℕ) → ¬ (s ≡ down) → distance weight d s ≡ distance weight d down → Dec (down < s) → ⊥
+      go s other same (yes l) = omega (arith, at-down, above s l, h, same)
+      go s other same (no l) = omega (arith, at-down, far-below s (omega (arith, l, other)), h, same, rest)
+
+  rounded-up : d < 2 * left → Rounded weight d (suc down)
+  rounded-up h = record { nearest = near-up (omega (arith, h)); even = λ s other same. absurd (go s other same (decLt down s)) }
+    where
+      go : (s : ℕ) → ¬ (s ≡ suc down) → distance weight d s ≡ distance weight d (suc down) → Dec (down < s) → ⊥
+      go s other same (yes l) = omega (arith, at-up, far-above s (omega (arith, l, other)), same, rest)
+      go s other same (no l) = omega (arith, at-up, below s (omega (arith, l)), h, same)
+
+  -- Half is left: of the two that are as near, the even one.
+  rounded-half : 2 * left ≡ d → Rounded weight d (down + down % 2)
+  rounded-half h = go (down % 2) refl (mod-lt down {m = 2} (omega arith))
+    where
+      go : (odd : ℕ) → down % 2 ≡ odd → odd < 2 → Rounded weight d (down + odd)
+      go zero is few =
+          let same : down ≡ down + 0 = omega arith in
+          subst (λ (t : ℕ). Rounded weight d t) same (record { nearest = near-down (omega (arith, h)); even = λ s other tie. is })
+      go (suc zero) is few =
+          let same : suc down ≡ down + 1 = omega arith in
+          let even : suc down % 2 ≡ 0 = omega (arith, is) in
+          subst (λ (t : ℕ). Rounded weight d t) same (record { nearest = near-up (omega (arith, h)); even = λ s other tie. even })
+      go (suc (suc odd)) is few = absurd (omega (arith, few))
+
+-- ---- There is one
+
+module _ (weight d : ℕ) (some : 0 < d) where
+  -- Two numbers as near to a share, with another between them, are not nearest.
+  between : (s t : ℕ) → suc s < t → distance weight d s ≡ distance weight d t → distance weight d (suc s) < distance weight d s
+  between s t h same = omega (arith, same, some, suc-mul s d, suc-mul (suc s) d, mul-le-mul-right d h)
+
+  not-below : (s t : ℕ) → Rounded weight d s → Rounded weight d t → s < t → ⊥
+  not-below s t a b h =
+      let same : distance weight d s ≡ distance weight d t = omega (arith, a .nearest t, b .nearest s) in
+      let even : s % 2 ≡ 0 = a .even t (λ e. omega (arith, e, h)) (sym same) in
+      let even′ : t % 2 ≡ 0 = b .even s (λ e. omega (arith, e, h)) same in
+      let parted : suc s < t = omega (arith, even, even′, h) in
+      omega (arith, between s t parted same, a .nearest (suc s))
+
+  pub rounded-one : (s t : ℕ) → Rounded weight d s → Rounded weight d t → s ≡ t
+  rounded-one s t a b = go (decLt s t) (decLt t s)
+    where
+      go : Dec (s < t) → Dec (t < s) → s ≡ t
+      go (yes h) k = absurd (not-below s t a b h)
+      go (no h) (yes k) = absurd (not-below t s b a k)
+      go (no h) (no k) = omega (arith, h, k)
+
+-- ---- The number that is printed
+
+module _ (weight denominator : ℕ) where
+  abbrev down : ℕ
+  down = 10000 * weight / denominator
+
+  abbrev left : ℕ
+  left = 10000 * weight % denominator
+
+  split : down * denominator + left ≡ 10000 * weight
+  split = div-add-mod' (10000 * weight) denominator
+
+  pub rounded : 0 < denominator → Rounded weight denominator (tenThousandths weight denominator)
+  unfolding tenThousandths
+  rounded some = rw (ne-eqb denominator 0 (λ e. omega (arith, e, some))) (go (decLt (2 * left) denominator) (decLt denominator (2 * left)))
+    where
+      rest : left < denominator
+      rest = mod-lt (10000 * weight) some
+
+      go : Dec (2 * left < denominator) → Dec (denominator < 2 * left) → Rounded weight denominator (rounding down left denominator)
+      go (yes h) k = rw (lt-ltb (2 * left) denominator h) (rounded-down weight denominator down left split rest h)
+      go (no h) (yes k) =
+          rw (le-ltb (2 * left) denominator (omega (arith, h)), lt-ltb denominator (2 * left) k)
+          (rounded-up weight denominator down left split rest k)
+      go (no h) (no k) =
+          rw (le-ltb (2 * left) denominator (omega (arith, h)), le-ltb denominator (2 * left) (omega (arith, k)))
+          (rounded-half weight denominator down left split rest (omega (arith, h, k)))
+
+  -- How large it can be, whatever the denominator.
+  pub rounded-most : tenThousandths weight denominator ≤ 10000 * weight + 1
+  unfolding tenThousandths
+  rounded-most = go (eqb denominator 0) (ltb (2 * left) denominator) (ltb denominator (2 * left))
+    where
+      go : (none less more : Bool)
+          → cond none 0 (cond less down (cond more (suc down) (down + down % 2))) ≤ 10000 * weight + 1
+      go true less more = omega arith
+      go false true more = omega (arith, div-le-self (10000 * weight) denominator)
+      go false false true = omega (arith, div-le-self (10000 * weight) denominator)
+      go false false false = omega (arith, div-le-self (10000 * weight) denominator, mod-lt down {m = 2} (omega arith))
+
+module _ (weight d : ℕ) (some : 0 < d) where
+  -- A share is rounded to a number exactly where that is printed.
+  pub rounded-iff : (t : ℕ) → Rounded weight d t ↔ (t ≡ tenThousandths weight d)
+  rounded-iff t = (
+    λ r. rounded-one weight d some t (tenThousandths weight d) r (rounded weight d some),
+    λ e. subst (λ (s : ℕ). Rounded weight d s) (sym e) (rounded weight d some),
+  )
+
+  -- "An exact half to the even one": of s and the next.
+  pub half-to-even : (s : ℕ) → 2 * (10000 * weight) ≡ (2 * s + 1) * d → s + s % 2 ≡ tenThousandths weight d
+  half-to-even s half =
+      let left : ℕ = 10000 * weight - s * d in
+      let twice : (2 * s + 1) * d ≡ 2 * (s * d) + d = omega (arith, add-mul (2 * s) 1 d, mul-assoc 2 s d) in
+      let split : s * d + left ≡ 10000 * weight = omega (arith, half, twice) in
+      let exact : 2 * left ≡ d = omega (arith, half, twice) in
+      rounded-iff (s + s % 2) .0 (rounded-half weight d s left split (omega (arith, exact, some)) exact)
+
+-- ---- What the code gives is rounded, so it is what is printed
+
+module _ (weight denominator : ℕ) where
+  pub rounds-none : denominator ≡ 0 → 0 ≡ tenThousandths weight denominator
+  unfolding tenThousandths
+  rounds-none h = rw (eq-eqb denominator 0 h) refl
+
+  module _ (other : ¬ (denominator ≡ 0)) where
+    some : 0 < denominator
+    some = omega (arith, other)
+
+    rest : 10000 * weight % denominator < denominator
+    rest = mod-lt (10000 * weight) some
+
+    pub rounds-down : 2 * (10000 * weight % denominator) < denominator
+        → 10000 * weight / denominator ≡ tenThousandths weight denominator
+    rounds-down h = rounded-iff weight denominator some _ .0 (rounded-down weight denominator _ _ (split weight denominator) rest h)
+
+    pub rounds-up : denominator < 2 * (10000 * weight % denominator)
+        → 10000 * weight / denominator + 1 ≡ tenThousandths weight denominator
+    rounds-up h =
+        let next : 10000 * weight / denominator + 1 ≡ suc (10000 * weight / denominator) = omega arith in
+        next ∙ rounded-iff weight denominator some _ .0 (rounded-up weight denominator _ _ (split weight denominator) rest h)
+
+    pub rounds-half : 2 * (10000 * weight % denominator) ≡ denominator
+        → 10000 * weight / denominator + 10000 * weight / denominator % 2 ≡ tenThousandths weight denominator
+    rounds-half h = rounded-iff weight denominator some _ .0 (rounded-half weight denominator _ _ (split weight denominator) rest h)
