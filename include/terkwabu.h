@@ -252,6 +252,10 @@ terkwabu_answer terkwabu_judge(const uint8_t *TERKWABU_RESTRICT table, size_t ta
  * their numbers, the parts are the listing. Part 0 is the first line, then comes a part for each region, its line, and then one for each
  * block, its lines. Each part ends with a line feed, and no zero byte is put behind it.
  *
+ * The shares in step lines are ten-thousandths, each rounded to the nearest by itself, an exact half to the even one: 1/20,000 is
+ * printed as 0 and 3/20,000 as 2. A block that is landed in is named also where its share is printed as 0, and a line need not sum to
+ * 10,000.
+ *
  * Hand over what terkwabu_reduce left for the same table: the entries, either of the two lists, and its value, blocks and rounds for
  * regions, blocks and rounds. The table is read again, but nothing is explored or reduced.
  *

@@ -170,7 +170,11 @@ class Region(NamedTuple):
 
 
 class Step(NamedTuple):
-    """An edge that is available in a block: its action, and each block landed in with its share in ten-thousandths, half rounded up."""
+    """An edge that is available in a block: its action, and each block landed in with its share in ten-thousandths.
+
+    Each share is rounded to the nearest by itself, an exact half to the even one: 1/20,000 is 0 and 3/20,000 is 2. So a share may be 0
+    though the block is landed in, and the shares need not sum to 10,000.
+    """
 
     action: int
     shares: Dict[int, int]

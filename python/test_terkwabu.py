@@ -445,6 +445,17 @@ class FunctionsAgainstVectors(unittest.TestCase):
                 expect_text(self, text, vector.answer)
 
 
+class Shares(unittest.TestCase):
+    """Shares in ten-thousandths, as document 02 (Job 7) has them: to the nearest, an exact half to the even one."""
+
+    HALVES = bytes.fromhex("01000200 0201 0202 040004204e 0601000100 061f4e0000 040005204e 0603000100 061d4e0000 07")
+
+    def test_halves(self):
+        """Takes 1/20,000 and 3/20,000 of two edges, and what is left of each."""
+        steps = terkwabu.reduce(self.HALVES).block(0).steps
+        self.assertEqual(steps, (terkwabu.Step(4, {0: 10000, 1: 0}), terkwabu.Step(5, {0: 9998, 1: 2})))
+
+
 class SampleModels(unittest.TestCase):
     """The sample models against the listings that the independent implementation printed."""
 

@@ -62,6 +62,34 @@ def hold_models():
         hold(f"bytes of {name}", reduce(given=call([ASSEMBLE, model]).output), good)
 
 
+# Two edges whose shares are exact halves, and what document 02 (Job 7) has printed for them.
+HALVES = """
+location idle label 1
+location lost label 2
+initial idle
+edge idle action 4 over 20000
+  branch 1 -> lost
+  branch 19999 -> idle
+edge idle action 5 over 20000
+  branch 3 -> lost
+  branch 19997 -> idle
+"""
+HALVES_LISTING = """\
+regions 2 blocks 2 rounds 0
+region 0 0 0
+region 1 1 1
+block 0 1 1
+step 0 4 0:10000 1:0
+step 0 5 0:9998 1:2
+block 1 2 1
+"""
+
+
+def hold_halves():
+    """Hands over a model text whose shares are exact halves of a ten-thousandth."""
+    hold("exact halves", reduce("-m", given=HALVES.encode()), Did(0, HALVES_LISTING.encode(), ""))
+
+
 def refused(case, name):
     """Gives what a call on a text must do whose table is refused: the listing's line, and the line of the text on standard error."""
     return Did(0, f"{case.line}\n".encode(), f"{name}{case.told} ({case.line})\n")
@@ -268,7 +296,7 @@ def hold_signal():
 def hold_command():
     """Does all of this; returns how often the command was called."""
     hold_version()
-    for step in hold_models, hold_refusals, hold_calls, hold_names, hold_without_rt, hold_hex, hold_slips, hold_pipes, hold_files:
+    for step in hold_models, hold_halves, hold_refusals, hold_calls, hold_names, hold_without_rt, hold_hex, hold_slips, hold_pipes, hold_files:
         step()
     for step in hold_inputs, hold_outputs, hold_temporary, hold_signal:
         step()
