@@ -1,9 +1,9 @@
 #!/usr/bin/env python3
 """Tests of the Python module: python3 python/test_terkwabu.py, or python3 -m unittest discover -s python.
 
-What is expected comes from tests/vectors and models/listings, which other implementations made from document 01, or from document 01
-itself; nothing is taken from the library's own answers. The library must be built (./library). gcc reads the header's constants, and makes
-small libraries of other versions.
+What is expected comes from tests/vectors and models/listings, which other implementations made from documents 01 and 02, or from these
+themselves; nothing is taken from the library's own answers. The library must be built (./library). gcc reads the header's constants, and
+makes small libraries of other versions.
 """
 
 import _ctypes

@@ -4,8 +4,8 @@
 --   Texts    texts one after the other
 --   Buffers  a text in a buffer
 --   Joined   the parts of the listing, joined, are the listing
---   Rounding shares are rounded to the nearest, a half to the even one
---   Sense    what the definitions fall back on never occurs in what a call left
+--   Rounding shares are rounded to the nearest, an exact half to the even one
+--   Sense    what the definitions fall back on never occurs in what a call left; the shares of its steps
 --   Lengths  how long texts are
 --   Blocks   blocks in a list of block numbers
 --   Rising   the loops of a block's lines: the numbers that pass a test, and the branches of a row

@@ -5,7 +5,7 @@
 --   Parts    the listing in parts: the text of a part, and the part call
 --   Writing  how the code puts text together
 --   Slices   one item of a graph in slices, as the code of a block's lines goes by it
---   Points   the points that document 01 marks ★, of all layers
+--   Points   the points that document 01 marks ★, of all layers, one of them as document 02 changes it
 -- Laws on these stand in Laws.
 pub mod Text
 pub mod Rounding

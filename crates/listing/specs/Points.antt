@@ -1,8 +1,8 @@
--- The points that document 01 marks ★: each row is a question to a definition that the contracts cite, and its answer, and
--- `points-met` proves all rows. The example of "The printed model" is among them, from its bytes to its text, so that what is proved
--- of accepted tables is proved of something; and a row for each refusal from 3 to 13, most of them at a record that meets a higher
--- number too, so that their numbers, places and order stand here without any stage or count. The rows of two small graphs show how
--- regions are numbered. The bytes of the example, `printed`, and its model stand in Example of the region layer.
+-- The points that document 01 marks ★, one of them as document 02, Job 7, changes it: each row is a question to a definition that the
+-- contracts cite, and its answer, and `points-met` proves all rows. The example of "The printed model" is among them, from its bytes to
+-- its text, so that what is proved of accepted tables is proved of something; and a row for each refusal from 3 to 13, most of them at a
+-- record that meets a higher number too, so that their numbers, places and order stand here without any stage or count. The rows of two
+-- small graphs show how regions are numbered. The bytes of the example, `printed`, and its model stand in Example of the region layer.
 use Prim.Native.Nat.{ℕ, zero, suc, _-_}
 use mathlib.Core.Path.{_≡_, refl}
 use mathlib.Core.Bool.{Bool, true, false}
@@ -32,7 +32,7 @@ pub data Point : Type 0 where
   graph : (table : List ℕ) (cap : ℕ) → Outcome → Point
   -- Whether a weight over its denominator is the same share as another.
   shares : (weight denominator weight′ denominator′ : ℕ) → Bool → Point
-  -- A weight over its denominator is so many ten-thousandths.
+  -- A weight over its denominator is rounded to so many ten-thousandths.
   rounded : (weight denominator number : ℕ) → Point
   -- A share landed in has this text in its line.
   shareText : ShareRecord → (text : List ℕ) → Point
@@ -127,7 +127,8 @@ edgesAndBranches =
     ∷ 6 ∷ 1 ∷ 0 ∷ 1 ∷ 0
     ∷ 7 ∷ []
 
--- Two locations and no clock, and two edges from location 0 back to it and to location 1: there with 1/20,000, and with 3/20,000.
+-- Two locations and no clock. Two edges from location 0, each back to it and on to location 1: the first leads on with 1/20,000, the
+-- second with 3/20,000.
 abbrev halves : List ℕ
 halves =
     1 ∷ 0 ∷ 2 ∷ 0
@@ -145,7 +146,8 @@ halves =
 abbrev halvesText : List ℕ
 halvesText =
     -- `regions 2 blocks 2 rounds 0`
-    114 ∷ 101 ∷ 103 ∷ 105 ∷ 111 ∷ 110 ∷ 115 ∷ 32 ∷ 50 ∷ 32 ∷ 98 ∷ 108 ∷ 111 ∷ 99 ∷ 107 ∷ 115 ∷ 32 ∷ 50 ∷ 32 ∷ 114 ∷ 111 ∷ 117 ∷ 110 ∷ 100 ∷ 115 ∷ 32 ∷ 48 ∷ 10
+    114 ∷ 101 ∷ 103 ∷ 105 ∷ 111 ∷ 110 ∷ 115 ∷ 32 ∷ 50
+    ∷ 32 ∷ 98 ∷ 108 ∷ 111 ∷ 99 ∷ 107 ∷ 115 ∷ 32 ∷ 50 ∷ 32 ∷ 114 ∷ 111 ∷ 117 ∷ 110 ∷ 100 ∷ 115 ∷ 32 ∷ 48 ∷ 10
     -- `region 0 0 0`
     ∷ 114 ∷ 101 ∷ 103 ∷ 105 ∷ 111 ∷ 110 ∷ 32 ∷ 48 ∷ 32 ∷ 48 ∷ 32 ∷ 48 ∷ 10
     -- `region 1 1 1`

@@ -5,26 +5,25 @@ use mathlib.Core.Path.{_≡_}
 use mathlib.Core.Bool.{cond}
 use lib.Dec.{eqb, ltb}
 
--- How far two numbers are apart.
-abbrev pub apart : ℕ → ℕ → ℕ
-apart a b = (a - b) + (b - a)
-
--- How far t ten-thousandths are from the share weight / denominator, both brought to the denominator 10,000 denominator.
+-- How far t ten-thousandths are from the share weight / denominator, times 10,000 times the denominator, which makes it a whole number. (One
+-- of the two differences is 0.)
 abbrev pub distance : (weight denominator t : ℕ) → ℕ
-distance weight denominator t = apart (10000 * weight) (t * denominator)
+distance weight denominator t = (10000 * weight - t * denominator) + (t * denominator - 10000 * weight)
 
 -- "Shares in step lines go to the nearest ten-thousandth, an exact half to the even one": no number is nearer than t, and where another
--- is as near t is even.
+-- is equally near, t is even. (Over a denominator above 0: over 0 all numbers are equally far. A number below 0 is further off than 0.)
 pub record Rounded (weight denominator t : ℕ) : Type 0 where
   pub nearest : (s : ℕ) → distance weight denominator t ≤ distance weight denominator s
   pub even : (s : ℕ) → ¬ (s ≡ t) → distance weight denominator s ≡ distance weight denominator t → t % 2 ≡ 0
 
--- Rounds what is `left` of a denominator: less than half of it goes down, more goes up, and half of it to the even one.
-abbrev pub rounding : (down left denominator : ℕ) → ℕ
-rounding down left denominator =
-    cond (ltb (2 * left) denominator) down (cond (ltb denominator (2 * left)) (suc down) (down + down % 2))
+-- Rounds `down` and remainder/denominator more: less than a half goes down, more goes up, and an exact half to the even one of `down` and
+-- the next.
+abbrev pub rounding : (down remainder denominator : ℕ) → ℕ
+rounding down remainder denominator =
+    cond (ltb (2 * remainder) denominator) down (cond (ltb denominator (2 * remainder)) (suc down) (down + down % 2))
 
--- The share weight / denominator in ten-thousandths. (0 where the denominator is 0, a choice of ours: no table that is read has W = 0.)
+-- The share weight / denominator, rounded, in ten-thousandths. (0 where the denominator is 0, a choice of ours: no available edge has W = 0,
+-- by `wholes-some` of Sense.)
 unfoldable pub tenThousandths : (weight denominator : ℕ) → ℕ
 tenThousandths weight denominator =
     cond (eqb denominator 0) 0 (rounding (10000 * weight / denominator) (10000 * weight % denominator) denominator)

@@ -66,7 +66,7 @@ pub(crate) fn put_delay(
     put(LINE_FEED, two, text)
 }
 
-// A share in ten-thousandths, to the nearest, half to the even one; 0 where the denominator is.
+// A share in ten-thousandths: the nearest, an exact half to the even one; 0 where the denominator is.
 fn ten_thousandths(weight: u64, denominator: u64) -> u64
     requires { ⌜ (weight < 4294967296) × (denominator < 65536) ⌝ }
     ensures { λ r. ⌜ r ≡ tenThousandths weight denominator ⌝ }
@@ -75,11 +75,11 @@ fn ten_thousandths(weight: u64, denominator: u64) -> u64
         return 0;
     }
     let down = 10000 * weight / denominator;
-    let left = 10000 * weight % denominator;
-    if 2 * left < denominator {
+    let remainder = 10000 * weight % denominator;
+    if 2 * remainder < denominator {
         return down;
     }
-    if denominator < 2 * left {
+    if denominator < 2 * remainder {
         return down + 1;
     }
     down + down % 2

@@ -1,5 +1,5 @@
 -- Shares are rounded as document 02, Job 7, has it: `tenThousandths` is `Rounded`, no other number is, and an exact half goes to the
--- even one. Then what the code goes by, and how large the number can be.
+-- even one. Then how large the number can be, and what the code goes by.
 use Prim.Native.Nat.{ℕ, zero, suc, _+_, _-_, _*_, _/_, _%_, _≤_, _<_}
 use native.Mathlib.Decide.{decLt}
 use native.Mathlib.Nat.{mul-le-mul-right, suc-mul, add-mul, mul-assoc, mod-lt, div-add-mod', div-le-self}
@@ -13,59 +13,59 @@ use Rattle.listing.specs.Rounding.{distance, Rounded, rounding, tenThous
 
 -- ---- What is nearest
 
--- Over a denominator d the share is `down` whole ones and `left` of the next.
-module _ (weight d down left : ℕ) (split : down * d + left ≡ 10000 * weight) (rest : left < d) where
-  at-down : distance weight d down ≡ left
+-- In ten-thousandths the share weight / d is `down` and remainder/d.
+module _ (weight d down remainder : ℕ) (split : down * d + remainder ≡ 10000 * weight) (rest : remainder < d) where
+  at-down : distance weight d down ≡ remainder
   at-down = omega (arith, split)
 
-  at-up : distance weight d (suc down) ≡ d - left
+  at-up : distance weight d (suc down) ≡ d - remainder
   at-up = omega (arith, split, rest, suc-mul down d)
 
-  -- Those from `down` downwards, and those above it.
-  below : (s : ℕ) → s ≤ down → left ≤ distance weight d s
-  below s h = omega (arith, split, mul-le-mul-right d h)
+  -- How far off a number is at least: one up to `down`, and one above it.
+  off-below : (s : ℕ) → s ≤ down → remainder ≤ distance weight d s
+  off-below s h = omega (arith, split, mul-le-mul-right d h)
 
-  above : (s : ℕ) → down < s → d - left ≤ distance weight d s
-  above s h = omega (arith, split, rest, suc-mul down d, mul-le-mul-right d h)
+  off-above : (s : ℕ) → down < s → d - remainder ≤ distance weight d s
+  off-above s h = omega (arith, split, rest, suc-mul down d, mul-le-mul-right d h)
 
-  -- Those that are further off than these.
-  far-below : (s : ℕ) → s < down → d + left ≤ distance weight d s
+  -- And one that is neither `down` nor the next.
+  far-below : (s : ℕ) → s < down → d + remainder ≤ distance weight d s
   far-below s h = omega (arith, split, suc-mul s d, mul-le-mul-right d h)
 
-  far-above : (s : ℕ) → suc down < s → d + (d - left) ≤ distance weight d s
+  far-above : (s : ℕ) → suc down < s → d + (d - remainder) ≤ distance weight d s
   far-above s h = omega (arith, split, rest, suc-mul down d, suc-mul (suc down) d, mul-le-mul-right d h)
 
-  near-down : 2 * left ≤ d → (s : ℕ) → distance weight d down ≤ distance weight d s
+  near-down : 2 * remainder ≤ d → (s : ℕ) → distance weight d down ≤ distance weight d s
   near-down h s = go (decLt down s)
     where
       go : Dec (down < s) → distance weight d down ≤ distance weight d s
-      go (yes l) = omega (arith, at-down, above s l, h)
-      go (no l) = omega (arith, at-down, below s (omega (arith, l)))
+      go (yes l) = omega (arith, at-down, off-above s l, h)
+      go (no l) = omega (arith, at-down, off-below s (omega (arith, l)))
 
-  near-up : d ≤ 2 * left → (s : ℕ) → distance weight d (suc down) ≤ distance weight d s
+  near-up : d ≤ 2 * remainder → (s : ℕ) → distance weight d (suc down) ≤ distance weight d s
   near-up h s = go (decLt down s)
     where
       go : Dec (down < s) → distance weight d (suc down) ≤ distance weight d s
-      go (yes l) = omega (arith, at-up, above s l)
-      go (no l) = omega (arith, at-up, below s (omega (arith, l)), h)
+      go (yes l) = omega (arith, at-up, off-above s l)
+      go (no l) = omega (arith, at-up, off-below s (omega (arith, l)), h)
 
-  -- Less than half is left: no other is as near.
-  rounded-down : 2 * left < d → Rounded weight d down
+  -- The remainder is less than a half, or more: no other number is as near.
+  rounded-down : 2 * remainder < d → Rounded weight d down
   rounded-down h = record { nearest = near-down (omega (arith, h)); even = λ s other same. absurd (go s other same (decLt down s)) }
     where
       go : (s : ℕ) → ¬ (s ≡ down) → distance weight d s ≡ distance weight d down → Dec (down < s) → ⊥
-      go s other same (yes l) = omega (arith, at-down, above s l, h, same)
+      go s other same (yes l) = omega (arith, at-down, off-above s l, h, same)
       go s other same (no l) = omega (arith, at-down, far-below s (omega (arith, l, other)), h, same, rest)
 
-  rounded-up : d < 2 * left → Rounded weight d (suc down)
+  rounded-up : d < 2 * remainder → Rounded weight d (suc down)
   rounded-up h = record { nearest = near-up (omega (arith, h)); even = λ s other same. absurd (go s other same (decLt down s)) }
     where
       go : (s : ℕ) → ¬ (s ≡ suc down) → distance weight d s ≡ distance weight d (suc down) → Dec (down < s) → ⊥
       go s other same (yes l) = omega (arith, at-up, far-above s (omega (arith, l, other)), same, rest)
-      go s other same (no l) = omega (arith, at-up, below s (omega (arith, l)), h, same)
+      go s other same (no l) = omega (arith, at-up, off-below s (omega (arith, l)), h, same)
 
-  -- Half is left: of the two that are as near, the even one.
-  rounded-half : 2 * left ≡ d → Rounded weight d (down + down % 2)
+  -- It is exactly a half: of the two that are equally near, the even one.
+  rounded-half : 2 * remainder ≡ d → Rounded weight d (down + down % 2)
   rounded-half h = go (down % 2) refl (mod-lt down {m = 2} (omega arith))
     where
       go : (odd : ℕ) → down % 2 ≡ odd → odd < 2 → Rounded weight d (down + odd)
@@ -81,9 +81,9 @@ module _ (weight d down left : ℕ) (split : down * d + left ≡ 10000 * weight)
 -- ---- There is one
 
 module _ (weight d : ℕ) (some : 0 < d) where
-  -- Two numbers as near to a share, with another between them, are not nearest.
-  between : (s t : ℕ) → suc s < t → distance weight d s ≡ distance weight d t → distance weight d (suc s) < distance weight d s
-  between s t h same = omega (arith, same, some, suc-mul s d, suc-mul (suc s) d, mul-le-mul-right d h)
+  -- Of two equally near numbers with another between them, neither is nearest.
+  nearer-between : (s t : ℕ) → suc s < t → distance weight d s ≡ distance weight d t → distance weight d (suc s) < distance weight d s
+  nearer-between s t h same = omega (arith, same, some, suc-mul s d, suc-mul (suc s) d, mul-le-mul-right d h)
 
   not-below : (s t : ℕ) → Rounded weight d s → Rounded weight d t → s < t → ⊥
   not-below s t a b h =
@@ -91,7 +91,7 @@ module _ (weight d : ℕ) (some : 0 < d) where
       let even : s % 2 ≡ 0 = a .even t (λ e. omega (arith, e, h)) (sym same) in
       let even′ : t % 2 ≡ 0 = b .even s (λ e. omega (arith, e, h)) same in
       let parted : suc s < t = omega (arith, even, even′, h) in
-      omega (arith, between s t parted same, a .nearest (suc s))
+      omega (arith, nearer-between s t parted same, a .nearest (suc s))
 
   pub rounded-one : (s t : ℕ) → Rounded weight d s → Rounded weight d t → s ≡ t
   rounded-one s t a b = go (decLt s t) (decLt t s)
@@ -107,32 +107,32 @@ module _ (weight denominator : ℕ) where
   abbrev down : ℕ
   down = 10000 * weight / denominator
 
-  abbrev left : ℕ
-  left = 10000 * weight % denominator
+  abbrev remainder : ℕ
+  remainder = 10000 * weight % denominator
 
-  split : down * denominator + left ≡ 10000 * weight
+  split : down * denominator + remainder ≡ 10000 * weight
   split = div-add-mod' (10000 * weight) denominator
 
   pub rounded : 0 < denominator → Rounded weight denominator (tenThousandths weight denominator)
   unfolding tenThousandths
-  rounded some = rw (ne-eqb denominator 0 (λ e. omega (arith, e, some))) (go (decLt (2 * left) denominator) (decLt denominator (2 * left)))
+  rounded some = rw (ne-eqb denominator 0 (λ e. omega (arith, e, some))) (go (decLt (2 * remainder) denominator) (decLt denominator (2 * remainder)))
     where
-      rest : left < denominator
+      rest : remainder < denominator
       rest = mod-lt (10000 * weight) some
 
-      go : Dec (2 * left < denominator) → Dec (denominator < 2 * left) → Rounded weight denominator (rounding down left denominator)
-      go (yes h) k = rw (lt-ltb (2 * left) denominator h) (rounded-down weight denominator down left split rest h)
+      go : Dec (2 * remainder < denominator) → Dec (denominator < 2 * remainder) → Rounded weight denominator (rounding down remainder denominator)
+      go (yes h) k = rw (lt-ltb (2 * remainder) denominator h) (rounded-down weight denominator down remainder split rest h)
       go (no h) (yes k) =
-          rw (le-ltb (2 * left) denominator (omega (arith, h)), lt-ltb denominator (2 * left) k)
-          (rounded-up weight denominator down left split rest k)
+          rw (le-ltb (2 * remainder) denominator (omega (arith, h)), lt-ltb denominator (2 * remainder) k)
+          (rounded-up weight denominator down remainder split rest k)
       go (no h) (no k) =
-          rw (le-ltb (2 * left) denominator (omega (arith, h)), le-ltb denominator (2 * left) (omega (arith, k)))
-          (rounded-half weight denominator down left split rest (omega (arith, h, k)))
+          rw (le-ltb (2 * remainder) denominator (omega (arith, h)), le-ltb denominator (2 * remainder) (omega (arith, k)))
+          (rounded-half weight denominator down remainder split rest (omega (arith, h, k)))
 
   -- How large it can be, whatever the denominator.
   pub rounded-most : tenThousandths weight denominator ≤ 10000 * weight + 1
   unfolding tenThousandths
-  rounded-most = go (eqb denominator 0) (ltb (2 * left) denominator) (ltb denominator (2 * left))
+  rounded-most = go (eqb denominator 0) (ltb (2 * remainder) denominator) (ltb denominator (2 * remainder))
     where
       go : (none less more : Bool)
           → cond none 0 (cond less down (cond more (suc down) (down + down % 2))) ≤ 10000 * weight + 1
@@ -142,7 +142,7 @@ module _ (weight denominator : ℕ) where
       go false false false = omega (arith, div-le-self (10000 * weight) denominator, mod-lt down {m = 2} (omega arith))
 
 module _ (weight d : ℕ) (some : 0 < d) where
-  -- A share is rounded to a number exactly where that is printed.
+  -- A share is rounded to t exactly where t is the number printed.
   pub rounded-iff : (t : ℕ) → Rounded weight d t ↔ (t ≡ tenThousandths weight d)
   rounded-iff t = (
     λ r. rounded-one weight d some t (tenThousandths weight d) r (rounded weight d some),
@@ -152,18 +152,18 @@ module _ (weight d : ℕ) (some : 0 < d) where
   -- "An exact half to the even one": of s and the next.
   pub half-to-even : (s : ℕ) → 2 * (10000 * weight) ≡ (2 * s + 1) * d → s + s % 2 ≡ tenThousandths weight d
   half-to-even s half =
-      let left : ℕ = 10000 * weight - s * d in
+      let remainder : ℕ = 10000 * weight - s * d in
       let twice : (2 * s + 1) * d ≡ 2 * (s * d) + d = omega (arith, add-mul (2 * s) 1 d, mul-assoc 2 s d) in
-      let split : s * d + left ≡ 10000 * weight = omega (arith, half, twice) in
-      let exact : 2 * left ≡ d = omega (arith, half, twice) in
-      rounded-iff (s + s % 2) .0 (rounded-half weight d s left split (omega (arith, exact, some)) exact)
+      let split : s * d + remainder ≡ 10000 * weight = omega (arith, half, twice) in
+      let exact : 2 * remainder ≡ d = omega (arith, half, twice) in
+      rounded-iff (s + s % 2) .0 (rounded-half weight d s remainder split (omega (arith, exact, some)) exact)
 
--- ---- What the code gives is rounded, so it is what is printed
+-- ---- What the code gives is `Rounded`, so it is the number printed
 
 module _ (weight denominator : ℕ) where
-  pub rounds-none : denominator ≡ 0 → 0 ≡ tenThousandths weight denominator
+  pub ten-thousandths-none : denominator ≡ 0 → 0 ≡ tenThousandths weight denominator
   unfolding tenThousandths
-  rounds-none h = rw (eq-eqb denominator 0 h) refl
+  ten-thousandths-none h = rw (eq-eqb denominator 0 h) refl
 
   module _ (other : ¬ (denominator ≡ 0)) where
     some : 0 < denominator
@@ -172,16 +172,16 @@ module _ (weight denominator : ℕ) where
     rest : 10000 * weight % denominator < denominator
     rest = mod-lt (10000 * weight) some
 
-    pub rounds-down : 2 * (10000 * weight % denominator) < denominator
+    pub ten-thousandths-down : 2 * (10000 * weight % denominator) < denominator
         → 10000 * weight / denominator ≡ tenThousandths weight denominator
-    rounds-down h = rounded-iff weight denominator some _ .0 (rounded-down weight denominator _ _ (split weight denominator) rest h)
+    ten-thousandths-down h = rounded-iff weight denominator some _ .0 (rounded-down weight denominator _ _ (split weight denominator) rest h)
 
-    pub rounds-up : denominator < 2 * (10000 * weight % denominator)
+    pub ten-thousandths-up : denominator < 2 * (10000 * weight % denominator)
         → 10000 * weight / denominator + 1 ≡ tenThousandths weight denominator
-    rounds-up h =
+    ten-thousandths-up h =
         let next : 10000 * weight / denominator + 1 ≡ suc (10000 * weight / denominator) = omega arith in
         next ∙ rounded-iff weight denominator some _ .0 (rounded-up weight denominator _ _ (split weight denominator) rest h)
 
-    pub rounds-half : 2 * (10000 * weight % denominator) ≡ denominator
+    pub ten-thousandths-half : 2 * (10000 * weight % denominator) ≡ denominator
         → 10000 * weight / denominator + 10000 * weight / denominator % 2 ≡ tenThousandths weight denominator
-    rounds-half h = rounded-iff weight denominator some _ .0 (rounded-half weight denominator _ _ (split weight denominator) rest h)
+    ten-thousandths-half h = rounded-iff weight denominator some _ .0 (rounded-half weight denominator _ _ (split weight denominator) rest h)

@@ -1,12 +1,13 @@
--- What the definitions of Printed fall back on never occurs in what a partition call left: every block has a region, and the lowest is
--- the one found (`block-has`, `block-lowest`); every region is of a block below the count (`block-below`); no region leads out of the
--- graph (`delays-inside`, `targets-inside`); and no denominator is 0 (`wholes-some`).
+-- What the definitions of Printed and Rounding fall back on never occurs in what a partition call left: every block has a region, and
+-- the lowest is the one found (`block-has`, `block-lowest`); every region is of a block below the count (`block-below`); no region leads
+-- out of the graph (`delays-inside`, `targets-inside`); and no denominator is 0 (`wholes-some`). So each share is rounded as document 02
+-- has it (`shares-rounded`), and each block landed in has one (`shares-landed`).
 use Prim.Native.Nat.{ℕ, zero, suc, _+_, _≤_, _<_}
 use native.Mathlib.Decide.{decLt, ℕ-discrete}
 use native.Mathlib.Omega.{arith}
 use mathlib.Core.Path.{_≡_, refl, sym, _∙_, ap, subst}
 use mathlib.Core.Bool.{Bool, true, false, cond, _||_, or-true}
-use mathlib.Core.Logic.{_⊎_, inl, inr}
+use mathlib.Core.Logic.{_↔_, _⊎_, inl, inr}
 use mathlib.Core.List.{List, [], _∷_, map, List·Memᴰ, List·Memᴰ·head, List·Memᴰ·tail, List·Memᴰ·not-nil, List·Memᴰ·cases-cons}
 use mathlib.Core.List.{Memᴰ·append-left, Memᴰ·append-right}
 use lib.Dec.{eqb}
@@ -18,7 +19,7 @@ use Rattle.partition.specs.Laws.Left.{Left, left-length, left-taken, left-below
 use Rattle.listing.specs.Text.{rising}
 use Rattle.listing.specs.Rounding.{Rounded, tenThousandths}
 use Rattle.listing.specs.Printed.{ShareRecord, lowestFrom, lowestOf, isAmong, targetsOf, weightInto, sharesOf}
-use Rattle.listing.specs.Laws.Rounding.{rounded}
+use Rattle.listing.specs.Laws.Rounding.{rounded-iff}
 
 -- The lowest number from x on that has block c in the list; it is below `top`.
 record Lowest (list : List ℕ) (c x top low : ℕ) : Type 0 where
@@ -130,16 +131,17 @@ module _ {table : List ℕ} {cap n b k : ℕ} {entries list : List ℕ} (left : 
   pub wholes-some : (x e : ℕ) → x < n → e < F .edges → F .available x e ≡ true → 0 < F .whole x e
   wholes-some = left-wholes left
 
-  -- The shares of a step: each is rounded as document 02, Job 7, has it, and each block landed in has one, however small it is.
+  -- The shares of a step: exactly one number is each rounded to, the one printed; and each block landed in has one, however small.
   module _ (x e : ℕ) (hx : x < n) (he : e < F .edges) (available : F .available x e ≡ true) where
     abbrev share : ℕ → ShareRecord
     share c = record { block = c; weight = weightInto L c (F .branches x e); denominator = F .whole x e }
 
     pub shares-rounded : (s : ShareRecord) → List·Memᴰ s (sharesOf L b (F .whole x e) (F .branches x e))
-        → Rounded (s .weight) (s .denominator) (tenThousandths (s .weight) (s .denominator))
+        → (t : ℕ) → Rounded (s .weight) (s .denominator) t ↔ (t ≡ tenThousandths (s .weight) (s .denominator))
     shares-rounded s m =
-        each-image (λ (r : ShareRecord). Rounded (r .weight) (r .denominator) (tenThousandths (r .weight) (r .denominator))) share
-        (λ c. rounded (weightInto L c (F .branches x e)) (F .whole x e) (wholes-some x e hx he available))
+        each-image
+        (λ (r : ShareRecord). (t : ℕ) → Rounded (r .weight) (r .denominator) t ↔ (t ≡ tenThousandths (r .weight) (r .denominator))) share
+        (λ c. rounded-iff (weightInto L c (F .branches x e)) (F .whole x e) (wholes-some x e hx he available))
         (rising (λ c. isAmong L c (targetsOf (F .branches x e))) b) s m
 
     pub shares-landed : (t : Branch ℕ) → List·Memᴰ t (F .branches x e)

@@ -2,7 +2,7 @@
 use Prim.Native.Nat.{_*_, _/_}
 use native.Mathlib.Nat.{mod-le, div-le-self}
 use native.Mathlib.Omega.{arith}
-use Rattle.listing.specs.Laws.Rounding.{rounds-none, rounds-down, rounds-up, rounds-half}
+use Rattle.listing.specs.Laws.Rounding.{ten-thousandths-none, ten-thousandths-down, ten-thousandths-up, ten-thousandths-half}
 use borrow.Author.Needs.{needs}
 use Rattle.listing.proofs.steps.ten_thousandths.Statement.{statement}
 use Rattle.listing.proofs.steps.ten_thousandths.Tie as tie
@@ -10,7 +10,7 @@ use Rattle.listing.proofs.steps.ten_thousandths.Tie as tie
 returns : tie.Need-returns
 returns c =
     let args = c .before .args in
-    rounds-none args.weight args.denominator (c .if1 .taken)
+    ten-thousandths-none args.weight args.denominator (c .if1 .taken)
 
 mul-down : tie.Need-mul-down
 mul-down c = search needs
@@ -18,11 +18,11 @@ mul-down c = search needs
 div-down : tie.Need-div-down
 div-down c = search needs
 
-mul-left : tie.Need-mul-left
-mul-left c = search needs
+mul-remainder : tie.Need-mul-remainder
+mul-remainder c = search needs
 
-rem-left : tie.Need-rem-left
-rem-left c = search needs
+rem-remainder : tie.Need-rem-remainder
+rem-remainder c = search needs
 
 mul-if2 : tie.Need-mul-if2
 mul-if2 c =
@@ -32,7 +32,7 @@ mul-if2 c =
 returns-2 : tie.Need-returns-2
 returns-2 c =
     let args = c .before .before .args in
-    rounds-down args.weight args.denominator (c .before .if1 .left) (omega (arith, c .if2 .taken))
+    ten-thousandths-down args.weight args.denominator (c .before .if1 .left) (omega (arith, c .if2 .taken))
 
 mul-if3 : tie.Need-mul-if3
 mul-if3 c =
@@ -47,7 +47,7 @@ add-result c =
 returns-3 : tie.Need-returns-3
 returns-3 c =
     let args = c .before .before .before .args in
-    rounds-up args.weight args.denominator (c .before .before .if1 .left) (omega (arith, c .if3 .taken))
+    ten-thousandths-up args.weight args.denominator (c .before .before .if1 .left) (omega (arith, c .if3 .taken))
 
 add-result-2 : tie.Need-add-result-2
 add-result-2 c =
@@ -58,7 +58,7 @@ add-result-2 c =
 returns-4 : tie.Need-returns-4
 returns-4 c =
     let args = c .before .before .before .args in
-    rounds-half args.weight args.denominator (c .before .before .if1 .left) (omega (arith, c .before .if2 .left, c .if3 .left))
+    ten-thousandths-half args.weight args.denominator (c .before .before .if1 .left) (omega (arith, c .before .if2 .left, c .if3 .left))
 
 pub ten-thousandths-spec : {M : Type 1} → statement M
 ten-thousandths-spec =
@@ -67,8 +67,8 @@ ten-thousandths-spec =
     returns
     mul-down
     div-down
-    mul-left
-    rem-left
+    mul-remainder
+    rem-remainder
     mul-if2
     returns-2
     mul-if3
