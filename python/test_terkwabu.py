@@ -450,6 +450,24 @@ class Shares(unittest.TestCase):
 
     HALVES = bytes.fromhex("01000200 0201 0202 040004204e 0601000100 061f4e0000 040005204e 0603000100 061d4e0000 07")
 
+    def test_steps(self):
+        """Reads the steps of each block off the listings of the vectors: all that were asked for in full."""
+        looked = 0
+        for vector in vectors("listing"):
+            lines = lines_of(vector.answer.get("text", ""), "step")
+            if not lines:
+                continue
+            with self.subTest(where=vector.where):
+                reduced = terkwabu.reduce(vector.table, entries=vector.ask["lent"])
+                found = [
+                    [str(number), str(step.action), *(f"{block}:{share}" for block, share in step.shares.items())]
+                    for number in range(reduced.blocks)
+                    for step in reduced.block(number).steps
+                ]
+                self.assertEqual(found, lines)
+            looked += any(word.endswith(":0") for line in lines for word in line)
+        self.assertGreater(looked, 20)
+
     def test_halves(self):
         """Takes 1/20,000 and 3/20,000 of two edges, and what is left of each."""
         steps = terkwabu.reduce(self.HALVES).block(0).steps

@@ -5,7 +5,8 @@
 --   Buffers  a text in a buffer
 --   Joined   the parts of the listing, joined, are the listing
 --   Rounding shares are rounded to the nearest, an exact half to the even one
---   Sense    what the definitions fall back on never occurs in what a call left; the shares of its steps
+--   Sense    what the definitions fall back on never occurs in what a call left
+--   Shares   the shares of a step in what a call left
 --   Lengths  how long texts are
 --   Blocks   blocks in a list of block numbers
 --   Rising   the loops of a block's lines: the numbers that pass a test, and the branches of a row
@@ -17,6 +18,7 @@ pub mod Buffers
 pub mod Joined
 pub mod Rounding
 pub mod Sense
+pub mod Shares
 pub mod Lengths
 pub mod Blocks
 pub mod Rising

@@ -127,8 +127,8 @@ edgesAndBranches =
     ∷ 6 ∷ 1 ∷ 0 ∷ 1 ∷ 0
     ∷ 7 ∷ []
 
--- Two locations and no clock. Two edges from location 0, each back to it and on to location 1: the first leads on with 1/20,000, the
--- second with 3/20,000.
+-- Two locations and no clock. Four edges from location 0, each back to it and on to location 1: on with 1/20,000; with 3/20,000; with the
+-- same by two branches, 1/20,000 and 2/20,000; and with 3/60,000.
 abbrev halves : List ℕ
 halves =
     1 ∷ 0 ∷ 2 ∷ 0
@@ -137,12 +137,19 @@ halves =
     ∷ 4 ∷ 0 ∷ 4 ∷ 32 ∷ 78
     ∷ 6 ∷ 1 ∷ 0 ∷ 1 ∷ 0
     ∷ 6 ∷ 31 ∷ 78 ∷ 0 ∷ 0
-    ∷ 4 ∷ 0 ∷ 4 ∷ 32 ∷ 78
+    ∷ 4 ∷ 0 ∷ 5 ∷ 32 ∷ 78
     ∷ 6 ∷ 3 ∷ 0 ∷ 1 ∷ 0
     ∷ 6 ∷ 29 ∷ 78 ∷ 0 ∷ 0
+    ∷ 4 ∷ 0 ∷ 6 ∷ 32 ∷ 78
+    ∷ 6 ∷ 1 ∷ 0 ∷ 1 ∷ 0
+    ∷ 6 ∷ 29 ∷ 78 ∷ 0 ∷ 0
+    ∷ 6 ∷ 2 ∷ 0 ∷ 1 ∷ 0
+    ∷ 4 ∷ 0 ∷ 7 ∷ 96 ∷ 234
+    ∷ 6 ∷ 3 ∷ 0 ∷ 1 ∷ 0
+    ∷ 6 ∷ 93 ∷ 234 ∷ 0 ∷ 0
     ∷ 7 ∷ []
 
--- What is printed for it: a block landed in is named, also with a share of 0.
+-- What is printed for it: weights are summed first, and a block landed in is named also with a share of 0.
 abbrev halvesText : List ℕ
 halvesText =
     -- `regions 2 blocks 2 rounds 0`
@@ -156,8 +163,12 @@ halvesText =
     ∷ 98 ∷ 108 ∷ 111 ∷ 99 ∷ 107 ∷ 32 ∷ 48 ∷ 32 ∷ 49 ∷ 32 ∷ 49 ∷ 10
     -- `step 0 4 0:10000 1:0`
     ∷ 115 ∷ 116 ∷ 101 ∷ 112 ∷ 32 ∷ 48 ∷ 32 ∷ 52 ∷ 32 ∷ 48 ∷ 58 ∷ 49 ∷ 48 ∷ 48 ∷ 48 ∷ 48 ∷ 32 ∷ 49 ∷ 58 ∷ 48 ∷ 10
-    -- `step 0 4 0:9998 1:2`
-    ∷ 115 ∷ 116 ∷ 101 ∷ 112 ∷ 32 ∷ 48 ∷ 32 ∷ 52 ∷ 32 ∷ 48 ∷ 58 ∷ 57 ∷ 57 ∷ 57 ∷ 56 ∷ 32 ∷ 49 ∷ 58 ∷ 50 ∷ 10
+    -- `step 0 5 0:9998 1:2`
+    ∷ 115 ∷ 116 ∷ 101 ∷ 112 ∷ 32 ∷ 48 ∷ 32 ∷ 53 ∷ 32 ∷ 48 ∷ 58 ∷ 57 ∷ 57 ∷ 57 ∷ 56 ∷ 32 ∷ 49 ∷ 58 ∷ 50 ∷ 10
+    -- `step 0 6 0:9998 1:2`
+    ∷ 115 ∷ 116 ∷ 101 ∷ 112 ∷ 32 ∷ 48 ∷ 32 ∷ 54 ∷ 32 ∷ 48 ∷ 58 ∷ 57 ∷ 57 ∷ 57 ∷ 56 ∷ 32 ∷ 49 ∷ 58 ∷ 50 ∷ 10
+    -- `step 0 7 0:10000 1:0`
+    ∷ 115 ∷ 116 ∷ 101 ∷ 112 ∷ 32 ∷ 48 ∷ 32 ∷ 55 ∷ 32 ∷ 48 ∷ 58 ∷ 49 ∷ 48 ∷ 48 ∷ 48 ∷ 48 ∷ 32 ∷ 49 ∷ 58 ∷ 48 ∷ 10
     -- `block 1 2 1`
     ∷ 98 ∷ 108 ∷ 111 ∷ 99 ∷ 107 ∷ 32 ∷ 49 ∷ 32 ∷ 50 ∷ 32 ∷ 49 ∷ 10 ∷ []
 
