@@ -4,7 +4,6 @@
 --   Texts    texts one after the other
 --   Buffers  a text in a buffer
 --   Joined   the parts of the listing, joined, are the listing
---   Rounding shares are rounded to the nearest, an exact half to the even one
 --   Sense    what the definitions fall back on never occurs in what a call left
 --   Shares   the shares of a step in what a call left
 --   Lengths  how long texts are
@@ -16,7 +15,6 @@ pub mod Decimal
 pub mod Texts
 pub mod Buffers
 pub mod Joined
-pub mod Rounding
 pub mod Sense
 pub mod Shares
 pub mod Lengths

@@ -1,6 +1,5 @@
--- The definitions of the listing layer, in the words of document 01, "The printed model", and of document 02, Job 7:
+-- The definitions of the listing layer, in the words of document 01, "The printed model":
 --   Text     text as bytes: signs, words, decimal numbers
---   Rounding shares in ten-thousandths
 --   Printed  records of regions and blocks, each line over them, and the listing of a table
 --   Parts    the listing in parts: the text of a part, and the part call
 --   Writing  how the code puts text together
@@ -8,7 +7,6 @@
 --   Points   the points that document 01 marks ★, of all layers, one of them as document 02 changes it
 -- Laws on these stand in Laws.
 pub mod Text
-pub mod Rounding
 pub mod Printed
 pub mod Writing
 pub mod Slices

@@ -14,7 +14,7 @@ use Rattle.partition.specs.Passed.{Cell, over, at, reset, cells, delay, State, 
 use Rattle.partition.specs.Passed.{Finite, alike, printed, printedModel}
 use Rattle.partition.specs.Instances.{delaysFrom}
 use Rattle.listing.specs.Text.{decimal}
-use Rattle.listing.specs.Rounding.{tenThousandths}
+use Rattle.rounding.specs.Rounding.{tenThousandths}
 use Rattle.listing.specs.Printed.{ShareRecord, shareField, listing}
 
 pub data Point : Type 0 where

@@ -10,7 +10,7 @@ use Rattle.partition.specs.Instances.{regionOf, graph}
 use Rattle.partition.specs.Calls.{afterGraph}
 use Rattle.listing.specs.Text.{lineFeed, plus, colon, above, blank, decimal, field, upTo, rising, each}
 use Rattle.listing.specs.Text.{regionsWord, blocksWord, roundsWord, regionWord, blockWord, delayWord, stepWord, refusedWord, placeWord}
-use Rattle.listing.specs.Rounding.{tenThousandths}
+use Rattle.rounding.specs.Rounding.{tenThousandths}
 
 -- ---- Records
 
@@ -71,7 +71,7 @@ abbrev pub delayLineOf : (number : ℕ) → List ℕ → List ℕ
 delayLineOf number [] = []
 delayLineOf number (c ∷ l) = delayWord ++ (field number ++ (each field (c ∷ l) ++ (lineFeed ∷ [])))
 
--- "Then block:share in ten-thousandths", a share being rounded as `Rounded` (Rounding) has it.
+-- "Then block:share in ten-thousandths", a share being rounded as `Rounded` of `crates/rounding` has it.
 abbrev pub shareField : ShareRecord → List ℕ
 shareField s = field (s .block) ++ (colon ∷ decimal (tenThousandths (s .weight) (s .denominator)))
 

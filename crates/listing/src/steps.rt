@@ -3,7 +3,7 @@ ghost use Prim.Native.Nat.{ℕ, _+_, _*_, _≤_, _<_};
 ghost use mathlib.Core.Path.{_≡_};
 ghost use lib.ListN.{length, getD};
 ghost use Rattle.listing.specs.Text.{each, field, upTo};
-ghost use Rattle.listing.specs.Rounding.{tenThousandths};
+ghost use Rattle.rounding.specs.Rounding.{tenThousandths};
 ghost use Rattle.listing.specs.Printed.{otherBlocks, delayLineOf, weightInto};
 ghost use Rattle.listing.specs.Printed.{shareField, sharesOf, targetsOf, stepLine};
 ghost use Rattle.listing.specs.Slices.{branchesFrom, stepAt, stepTextAt};

@@ -13,11 +13,11 @@ use Rattle.listing.specs.Text.{lineFeed, blank, digitsBy, decimal, field
 use Rattle.listing.specs.Text.{plus, above, regionsWord, blocksWord, roundsWord, regionWord, blockWord, delayWord, stepWord, refusedWord, placeWord}
 use Rattle.listing.specs.Printed.{ShareRecord, StepRecord, firstLine, rankText, clockField, regionLine, blockLine, delayLineOf}
 use Rattle.listing.specs.Printed.{shareField, stepLine, refusalLine, isAmong, targetsOf, weightInto, otherBlocks, sharesOf}
-use Rattle.listing.specs.Rounding.{tenThousandths}
+use Rattle.rounding.specs.Rounding.{tenThousandths}
 use Rattle.listing.specs.Slices.{rowRoom, branchesFrom, stepAt, stepTextAt}
 use Rattle.listing.specs.Laws.Texts.{each-append}
 use Rattle.listing.specs.Laws.Joined.{each-upto}
-use Rattle.listing.specs.Laws.Rounding.{rounded-most}
+use Rattle.rounding.specs.Laws.Rounding.{rounded-most}
 
 -- ---- Numbers
 

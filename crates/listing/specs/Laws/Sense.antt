@@ -1,6 +1,6 @@
--- What the definitions of Printed and Rounding fall back on never occurs in what a partition call left: every block has a region, and
--- the lowest is the one found (`block-has`, `block-lowest`); every region is of a block below the count (`block-below`); no region leads
--- out of the graph (`delays-inside`, `targets-inside`); and no denominator is 0 (`wholes-some`).
+-- What the definitions of Printed and of `crates/rounding` fall back on never occurs in what a partition call left: every block has a
+-- region, and the lowest is the one found (`block-has`, `block-lowest`); every region is of a block below the count (`block-below`); no
+-- region leads out of the graph (`delays-inside`, `targets-inside`); and no denominator is 0 (`wholes-some`).
 use Prim.Native.Nat.{ℕ, zero, suc, _+_, _≤_, _<_}
 use native.Mathlib.Decide.{decLt}
 use native.Mathlib.Omega.{arith}

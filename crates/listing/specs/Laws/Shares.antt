@@ -6,8 +6,8 @@ use native.Mathlib.Omega.{arith}
 use mathlib.Core.Path.{_≡_, refl, sym, _∙_, ap, subst}
 use mathlib.Core.Bool.{Bool, true, false, cond, _||_, or-true, false≢true}
 use mathlib.Core.Logic.{_↔_, _⊎_, inl, inr}
-use mathlib.Core.List.{List, [], _∷_, _++_, map, List·Memᴰ, List·Memᴰ·head, List·Memᴰ·tail, List·Memᴰ·not-nil, List·Memᴰ·cases-cons}
-use mathlib.Core.List.{Memᴰ·append-left, Memᴰ·append-right, List·Memᴰ·append-cases}
+use mathlib.Core.List.{List, [], _∷_, _++_, List·Memᴰ, List·Memᴰ·head, List·Memᴰ·tail, List·Memᴰ·not-nil, List·Memᴰ·cases-cons}
+use mathlib.Core.List.{Memᴰ·append-left, Memᴰ·append-right, List·Memᴰ·append-cases, Memᴰ·map, Memᴰ·of-map}
 use lib.Dec.{eqb}
 use lib.ListN.{getD, take}
 use borrow.Author.Tests.{eq-eqb, eqb-true}
@@ -15,25 +15,12 @@ use Rattle.partition.specs.Passed.{Finite, Branch}
 use Rattle.partition.specs.Instances.{graph}
 use Rattle.partition.specs.Laws.Left.{Left}
 use Rattle.listing.specs.Text.{colon, decimal, field, rising}
-use Rattle.listing.specs.Rounding.{Rounded, tenThousandths}
+use Rattle.rounding.specs.Rounding.{Rounded, tenThousandths}
 use Rattle.listing.specs.Printed.{ShareRecord, isAmong, targetsOf, weightInto, shareField, sharesOf}
-use Rattle.listing.specs.Laws.Rounding.{rounded-iff}
+use Rattle.rounding.specs.Laws.Rounding.{rounded-iff}
 use Rattle.listing.specs.Laws.Sense.{block-below, targets-inside, wholes-some}
 
 -- ---- Items of lists
-
-image-there : {A B : Type 0} (f : A → B) {l : List A} {a : A} → List·Memᴰ a l → List·Memᴰ (f a) (map f l)
-image-there f (List·Memᴰ·head e) = List·Memᴰ·head (ap f e)
-image-there f (List·Memᴰ·tail m) = List·Memᴰ·tail (image-there f m)
-
-image-of : {A B : Type 0} (f : A → B) (l : List A) (y : B) → List·Memᴰ y (map f l) → (a : A) × List·Memᴰ a l × (y ≡ f a)
-image-of f [] y m = absurd (List·Memᴰ·not-nil m)
-image-of f (a ∷ l) y m = go (List·Memᴰ·cases-cons m) (image-of f l y)
-  where
-    go : (y ≡ f a) ⊎ List·Memᴰ y (map f l) → (List·Memᴰ y (map f l) → (b : _) × List·Memᴰ b l × (y ≡ f b))
-        → (b : _) × List·Memᴰ b (a ∷ l) × (y ≡ f b)
-    go (inl e) later = (a, List·Memᴰ·head refl, e)
-    go (inr k) later = let (b, m, e) = later k in (b, List·Memᴰ·tail m, e)
 
 -- The numbers below n that pass a test are in the list of these, and no other is.
 rising-there : (p : ℕ → Bool) (n c : ℕ) → c < n → p c ≡ true → List·Memᴰ c (rising p n)
@@ -108,14 +95,14 @@ module _ {table : List ℕ} {cap n b k : ℕ} {entries list : List ℕ} (left : 
     shares = sharesOf L b (F .whole x e) (F .branches x e)
 
     share-of : (s : ShareRecord) → List·Memᴰ s shares
-        → (c : ℕ) × List·Memᴰ c (rising (λ d. isAmong L d (targetsOf (F .branches x e))) b) × (s ≡ share c)
-    share-of = image-of share (rising (λ d. isAmong L d (targetsOf (F .branches x e))) b)
+        → (c : ℕ) × List·Memᴰ c (rising (λ d. isAmong L d (targetsOf (F .branches x e))) b) × (share c ≡ s)
+    share-of s = Memᴰ·of-map share (rising (λ d. isAmong L d (targetsOf (F .branches x e))) b)
 
     pub shares-rounded : (s : ShareRecord) → List·Memᴰ s shares
         → (t : ℕ) → Rounded (s .weight) (s .denominator) t ↔ (t ≡ tenThousandths (s .weight) (s .denominator))
     shares-rounded s m t =
         let (c, _, is) = share-of s m in
-        subst (λ (r : ShareRecord). Rounded (r .weight) (r .denominator) t ↔ (t ≡ tenThousandths (r .weight) (r .denominator))) (sym is)
+        subst (λ (r : ShareRecord). Rounded (r .weight) (r .denominator) t ↔ (t ≡ tenThousandths (r .weight) (r .denominator))) is
         (rounded-iff (weightInto L c (F .branches x e)) (F .whole x e) (wholes-some left x e hx he available) t)
 
     pub shares-printed : (s : ShareRecord) → List·Memᴰ s shares → (t : ℕ) → Rounded (s .weight) (s .denominator) t
@@ -125,7 +112,7 @@ module _ {table : List ℕ} {cap n b k : ℕ} {entries list : List ℕ} (left : 
 
     pub shares-landed : (t : Branch ℕ) → List·Memᴰ t (F .branches x e) → List·Memᴰ (share (getD L (t .target) 0)) shares
     shares-landed t m =
-        image-there share
+        Memᴰ·map share
         (rising-there (λ c. isAmong L c (targetsOf (F .branches x e))) b (getD L (t .target) 0)
         (block-below left (t .target) (targets-inside left x e hx he available t m))
         (among-there L (F .branches x e) t m))
@@ -136,4 +123,4 @@ module _ {table : List ℕ} {cap n b k : ℕ} {entries list : List ℕ} (left : 
         let (c, among, is) = share-of s m in
         let (t, there, lands) =
         among-some L c (F .branches x e) (rising-passes (λ d. isAmong L d (targetsOf (F .branches x e))) b c among) in
-        (t, there, lands ∙ sym (ap (λ (r : ShareRecord). r .block) is))
+        (t, there, lands ∙ ap (λ (r : ShareRecord). r .block) is)

@@ -2,7 +2,7 @@
 use Prim.Native.Nat.{_*_, _/_}
 use native.Mathlib.Nat.{mod-le, div-le-self}
 use native.Mathlib.Omega.{arith}
-use Rattle.listing.specs.Laws.Rounding.{ten-thousandths-none, ten-thousandths-down, ten-thousandths-up, ten-thousandths-half}
+use Rattle.rounding.specs.Laws.Rounding.{ten-thousandths-none, ten-thousandths-down, ten-thousandths-up, ten-thousandths-half}
 use borrow.Author.Needs.{needs}
 use Rattle.listing.proofs.steps.ten_thousandths.Statement.{statement}
 use Rattle.listing.proofs.steps.ten_thousandths.Tie as tie

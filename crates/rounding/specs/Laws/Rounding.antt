@@ -8,8 +8,8 @@ use mathlib.Core.Path.{_≡_, refl, sym, _∙_, subst}
 use mathlib.Core.Bool.{Bool, true, false, cond}
 use mathlib.Core.Logic.{_↔_}
 use lib.Dec.{eqb, ltb}
-use borrow.Author.Tests.{eq-eqb, ne-eqb, lt-ltb, le-ltb}
-use Rattle.listing.specs.Rounding.{distance, Rounded, rounding, tenThousandths}
+use borrow.Author.Tests.{eq-eqb, ne-eqb, ltb-true, ltb-false}
+use Rattle.rounding.specs.Rounding.{distance, Rounded, twice, toEven, tenThousandths}
 
 -- ---- What is nearest
 
@@ -65,15 +65,15 @@ module _ (weight d down remainder : ℕ) (split : down * d + remainder ≡ 10000
       go s other same (no l) = omega (arith, at-up, off-below s (omega (arith, l)), h, same)
 
   -- It is exactly a half: of the two that are equally near, the even one.
-  rounded-half : 2 * remainder ≡ d → Rounded weight d (down + down % 2)
+  rounded-half : 2 * remainder ≡ d → Rounded weight d (toEven down)
   rounded-half h = go (down % 2) refl (mod-lt down {m = 2} (omega arith))
     where
-      go : (odd : ℕ) → down % 2 ≡ odd → odd < 2 → Rounded weight d (down + odd)
+      go : (odd : ℕ) → down % 2 ≡ odd → odd < 2 → Rounded weight d (toEven down)
       go zero is few =
-          let same : down ≡ down + 0 = omega arith in
+          let same : down ≡ toEven down = omega (arith, is) in
           subst (λ (t : ℕ). Rounded weight d t) same (record { nearest = near-down (omega (arith, h)); even = λ s other tie. is })
       go (suc zero) is few =
-          let same : suc down ≡ down + 1 = omega arith in
+          let same : suc down ≡ toEven down = omega (arith, is) in
           let even : suc down % 2 ≡ 0 = omega (arith, is) in
           subst (λ (t : ℕ). Rounded weight d t) same (record { nearest = near-up (omega (arith, h)); even = λ s other tie. even })
       go (suc (suc odd)) is few = absurd (omega (arith, few))
@@ -113,29 +113,35 @@ module _ (weight denominator : ℕ) where
   split : down * denominator + remainder ≡ 10000 * weight
   split = div-add-mod' (10000 * weight) denominator
 
+  rest : 0 < denominator → remainder < denominator
+  rest = mod-lt (10000 * weight)
+
   pub rounded : 0 < denominator → Rounded weight denominator (tenThousandths weight denominator)
   unfolding tenThousandths
-  rounded some = rw (ne-eqb denominator 0 (λ e. omega (arith, e, some))) (go (decLt (2 * remainder) denominator) (decLt denominator (2 * remainder)))
+  rounded some =
+      rw (ne-eqb denominator 0 (λ e. omega (arith, e, some)))
+      (go (ltb (twice remainder) denominator) refl (ltb denominator (twice remainder)) refl)
     where
-      rest : remainder < denominator
-      rest = mod-lt (10000 * weight) some
-
-      go : Dec (2 * remainder < denominator) → Dec (denominator < 2 * remainder) → Rounded weight denominator (rounding down remainder denominator)
-      go (yes h) k = rw (lt-ltb (2 * remainder) denominator h) (rounded-down weight denominator down remainder split rest h)
-      go (no h) (yes k) =
-          rw (le-ltb (2 * remainder) denominator (omega (arith, h)), lt-ltb denominator (2 * remainder) k)
-          (rounded-up weight denominator down remainder split rest k)
-      go (no h) (no k) =
-          rw (le-ltb (2 * remainder) denominator (omega (arith, h)), le-ltb denominator (2 * remainder) (omega (arith, k)))
-          (rounded-half weight denominator down remainder split rest (omega (arith, h, k)))
+      go : (less : Bool) → ltb (twice remainder) denominator ≡ less → (more : Bool) → ltb denominator (twice remainder) ≡ more
+          → Rounded weight denominator (cond less down (cond more (suc down) (toEven down)))
+      go true e more f =
+          let less = ltb-true (twice remainder) denominator e in
+          rounded-down weight denominator down remainder split (rest some) (omega (arith, less))
+      go false e true f =
+          let more = ltb-true denominator (twice remainder) f in
+          rounded-up weight denominator down remainder split (rest some) (omega (arith, more))
+      go false e false f =
+          let most = ltb-false denominator (twice remainder) f in
+          let least = ltb-false (twice remainder) denominator e in
+          rounded-half weight denominator down remainder split (rest some) (omega (arith, most, least))
 
   -- How large it can be, whatever the denominator.
   pub rounded-most : tenThousandths weight denominator ≤ 10000 * weight + 1
   unfolding tenThousandths
-  rounded-most = go (eqb denominator 0) (ltb (2 * remainder) denominator) (ltb denominator (2 * remainder))
+  rounded-most = go (eqb denominator 0) (ltb (twice remainder) denominator) (ltb denominator (twice remainder))
     where
       go : (none less more : Bool)
-          → cond none 0 (cond less down (cond more (suc down) (down + down % 2))) ≤ 10000 * weight + 1
+          → cond none 0 (cond less down (cond more (suc down) (toEven down))) ≤ 10000 * weight + 1
       go true less more = omega arith
       go false true more = omega (arith, div-le-self (10000 * weight) denominator)
       go false false true = omega (arith, div-le-self (10000 * weight) denominator)
@@ -150,13 +156,13 @@ module _ (weight d : ℕ) (some : 0 < d) where
   )
 
   -- "An exact half to the even one": of s and the next.
-  pub half-to-even : (s : ℕ) → 2 * (10000 * weight) ≡ (2 * s + 1) * d → s + s % 2 ≡ tenThousandths weight d
+  pub half-to-even : (s : ℕ) → 2 * (10000 * weight) ≡ (2 * s + 1) * d → toEven s ≡ tenThousandths weight d
   half-to-even s half =
       let remainder : ℕ = 10000 * weight - s * d in
       let twice : (2 * s + 1) * d ≡ 2 * (s * d) + d = omega (arith, add-mul (2 * s) 1 d, mul-assoc 2 s d) in
       let split : s * d + remainder ≡ 10000 * weight = omega (arith, half, twice) in
       let exact : 2 * remainder ≡ d = omega (arith, half, twice) in
-      rounded-iff (s + s % 2) .0 (rounded-half weight d s remainder split (omega (arith, exact, some)) exact)
+      rounded-iff (toEven s) .0 (rounded-half weight d s remainder split (omega (arith, exact, some)) exact)
 
 -- ---- What the code gives is `Rounded`, so it is the number printed
 
@@ -169,19 +175,20 @@ module _ (weight denominator : ℕ) where
     some : 0 < denominator
     some = omega (arith, other)
 
-    rest : 10000 * weight % denominator < denominator
-    rest = mod-lt (10000 * weight) some
+    -- What is `Rounded` is printed.
+    is-printed : (t : ℕ) → Rounded weight denominator t → t ≡ tenThousandths weight denominator
+    is-printed t = rounded-iff weight denominator some t .0
 
     pub ten-thousandths-down : 2 * (10000 * weight % denominator) < denominator
         → 10000 * weight / denominator ≡ tenThousandths weight denominator
-    ten-thousandths-down h = rounded-iff weight denominator some _ .0 (rounded-down weight denominator _ _ (split weight denominator) rest h)
+    ten-thousandths-down h = is-printed _ (rounded-down weight denominator _ _ (split weight denominator) (rest weight denominator some) h)
 
     pub ten-thousandths-up : denominator < 2 * (10000 * weight % denominator)
         → 10000 * weight / denominator + 1 ≡ tenThousandths weight denominator
     ten-thousandths-up h =
         let next : 10000 * weight / denominator + 1 ≡ suc (10000 * weight / denominator) = omega arith in
-        next ∙ rounded-iff weight denominator some _ .0 (rounded-up weight denominator _ _ (split weight denominator) rest h)
+        next ∙ is-printed _ (rounded-up weight denominator _ _ (split weight denominator) (rest weight denominator some) h)
 
     pub ten-thousandths-half : 2 * (10000 * weight % denominator) ≡ denominator
         → 10000 * weight / denominator + 10000 * weight / denominator % 2 ≡ tenThousandths weight denominator
-    ten-thousandths-half h = rounded-iff weight denominator some _ .0 (rounded-half weight denominator _ _ (split weight denominator) rest h)
+    ten-thousandths-half h = is-printed _ (rounded-half weight denominator _ _ (split weight denominator) (rest weight denominator some) h)

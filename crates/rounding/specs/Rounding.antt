@@ -5,8 +5,8 @@ use mathlib.Core.Path.{_≡_}
 use mathlib.Core.Bool.{cond}
 use lib.Dec.{eqb, ltb}
 
--- How far t ten-thousandths are from the share weight / denominator, times 10,000 times the denominator, which makes it a whole number. (One
--- of the two differences is 0.)
+-- How far t ten-thousandths are from the share weight / denominator, times 10,000 times the denominator, which makes it a whole number.
+-- (One of the two differences is 0.)
 abbrev pub distance : (weight denominator t : ℕ) → ℕ
 distance weight denominator t = (10000 * weight - t * denominator) + (t * denominator - 10000 * weight)
 
@@ -16,14 +16,21 @@ pub record Rounded (weight denominator t : ℕ) : Type 0 where
   pub nearest : (s : ℕ) → distance weight denominator t ≤ distance weight denominator s
   pub even : (s : ℕ) → ¬ (s ≡ t) → distance weight denominator s ≡ distance weight denominator t → t % 2 ≡ 0
 
--- Rounds `down` and remainder/denominator more: less than a half goes down, more goes up, and an exact half to the even one of `down` and
--- the next.
+-- A remainder is below a half of the denominator where twice the remainder is below the denominator.
+abbrev pub twice : ℕ → ℕ
+twice remainder = 2 * remainder
+
+-- The even one of a number and the next.
+abbrev pub toEven : ℕ → ℕ
+toEven down = down + down % 2
+
+-- Rounds `down` and remainder/denominator more: below a half it goes down, above it up, and an exact half to the even one.
 abbrev pub rounding : (down remainder denominator : ℕ) → ℕ
 rounding down remainder denominator =
-    cond (ltb (2 * remainder) denominator) down (cond (ltb denominator (2 * remainder)) (suc down) (down + down % 2))
+    cond (ltb (twice remainder) denominator) down (cond (ltb denominator (twice remainder)) (suc down) (toEven down))
 
--- The share weight / denominator, rounded, in ten-thousandths. (0 where the denominator is 0, a choice of ours: no available edge has W = 0,
--- by `wholes-some` of Sense.)
+-- The share weight / denominator, rounded, in ten-thousandths. (0 where the denominator is 0, a choice of ours: no available edge has
+-- W = 0, by `wholes-some` of `crates/listing`.)
 unfoldable pub tenThousandths : (weight denominator : ℕ) → ℕ
 tenThousandths weight denominator =
     cond (eqb denominator 0) 0 (rounding (10000 * weight / denominator) (10000 * weight % denominator) denominator)

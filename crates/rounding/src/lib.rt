@@ -1,0 +1,1 @@
+// The theory of rounding: definitions and laws, all in specs/. There is no code.
