@@ -1,15 +1,13 @@
 -- The definitions of the listing layer, in the words of document 01, "The printed model":
---   Text     text as bytes: signs, words, decimal numbers
 --   Printed  records of regions and blocks, each line over them, and the listing of a table
 --   Parts    the listing in parts: the text of a part, and the part call
---   Writing  how the code puts text together
 --   Slices   one item of a graph in slices, as the code of a block's lines goes by it
+--   Labels   the labels of the records, as the code lists them
 --   Points   the points that document 01 marks ★, of all layers, one of them as document 02 changes it
 -- Laws on these stand in Laws.
-pub mod Text
 pub mod Printed
-pub mod Writing
 pub mod Slices
+pub mod Labels
 pub mod Parts
 pub mod Points
 pub mod Laws

@@ -1,8 +1,8 @@
 -- The listing in parts (document 01: "The library may make the listing in parts; joined they are the listing."). The cut is a choice of
--- ours: part 0 is the first line, then comes a part for each region, its line, and then one for each block, its lines. What every cut
--- has in common is said by `joined` of Laws.Joined. The parts are numbered from 0. Past the last there is no part; its text is then
+-- ours: part 0 is the first line, then comes a part for each region, its line, then one for each block, its lines, and then one with
+-- the totals. What every cut has in common is said by `joined` of Laws.Joined. The parts are numbered from 0. Past the last there is no part; its text is then
 -- empty, which no part's text is.
-use Prim.Native.Nat.{ℕ, _-_, _*_, _≤_}
+use Prim.Native.Nat.{ℕ, suc, _+_, _-_, _*_, _≤_}
 use mathlib.Core.Path.{_≡_}
 use mathlib.Core.Bool.{Bool, cond, _&&_}
 use mathlib.Core.List.{List, [], _∷_, _++_}
@@ -11,15 +11,20 @@ use lib.ListN.{length, take, drop}
 use Rattle.partition.specs.Passed.{Model, Region, Answer, refusal, accepted, readTable, entryBytes, maxEntries, listed}
 use Rattle.partition.specs.Instances.{graph}
 use Rattle.listing.specs.Printed.{firstLine, regionLine, blockLines, regionRecord, blockRecord}
+use Rattle.listing.specs.Printed.{regionRecords, blockRecords, totalsText}
 use Rattle.listing.specs.declared.parts.Part.{Part}
 use Rattle.listing.specs.declared.parts.Part.the-variants as P
 
 -- ---- The text of a part
 
 -- Of a model with its regions, their blocks and both counts.
+abbrev pub totalsPart : Model → List Region → List ℕ → (blocks b : ℕ) → List ℕ
+totalsPart m found list blocks b =
+    cond (eqb b blocks) (totalsText (regionRecords m found list) (blockRecords m found list blocks)) []
+
 abbrev pub blockPart : Model → List Region → List ℕ → (blocks b : ℕ) → List ℕ
 blockPart m found list blocks b =
-    cond (ltb b blocks) (blockLines (blockRecord (graph m found) list blocks b)) []
+    cond (ltb b blocks) (blockLines (blockRecord (graph m found) list blocks b)) (totalsPart m found list blocks b)
 
 abbrev pub linePart : Model → List Region → List ℕ → (blocks x : ℕ) → List ℕ
 linePart m found list blocks x =
@@ -28,6 +33,10 @@ linePart m found list blocks x =
 abbrev pub partText : Model → List Region → List ℕ → (blocks rounds part : ℕ) → List ℕ
 partText m found list blocks rounds part =
     cond (eqb part 0) (firstLine (length found) blocks rounds) (linePart m found list blocks (part - 1))
+
+-- How many parts there are: the first line, one for each region and each block, and the totals.
+abbrev pub partCount : (regions blocks : ℕ) → ℕ
+partCount regions blocks = suc (suc (regions + blocks))
 
 -- The counts can be those of what is lent: entries and a list for that many regions, and at least one block, at most as many as there are
 -- regions. A successful partition call leaves such; others have no parts (a choice of ours), so that the zeros of an answer that
@@ -86,9 +95,10 @@ Within P.End room = Unit
 abbrev pub mostBytes : ℕ
 mostBytes = 65536
 
--- Every part's number is below this, whatever is lent: the first line, and a part for each of 4,096 regions and of as many blocks.
+-- Every part's number is below this, whatever is lent: the first line, a part for each of 4,096 regions and of as many blocks, and the
+-- totals.
 abbrev pub mostParts : ℕ
-mostParts = 8193
+mostParts = 8194
 
 -- The answer is not that the buffer is too short.
 abbrev pub Fits : Part → Type 0

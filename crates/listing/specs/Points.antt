@@ -1,4 +1,4 @@
--- The points that document 01 marks ★, one of them as document 02, Job 7, changes it: each row is a question to a definition that the
+-- The points that document 01 marks ★, as document 02, Jobs 7 and 1, changes them: each row is a question to a definition that the
 -- contracts cite, and its answer, and `points-met` proves all rows. The example of "The printed model" is among them, from its bytes to
 -- its text, so that what is proved of accepted tables is proved of something; and a row for each refusal from 3 to 13, most of them at a
 -- record that meets a higher number too, so that their numbers, places and order stand here without any stage or count. The rows of two
@@ -13,7 +13,7 @@ use Rattle.partition.specs.Passed.{Model, readTable, refusal, accepted, All, no
 use Rattle.partition.specs.Passed.{Cell, over, at, reset, cells, delay, State, placed, Bounds, Region, Outcome, whole, cut, outcomeOf}
 use Rattle.partition.specs.Passed.{Finite, alike, printed, printedModel}
 use Rattle.partition.specs.Instances.{delaysFrom}
-use Rattle.listing.specs.Text.{decimal}
+use Rattle.text.specs.Text.{decimal}
 use Rattle.rounding.specs.Rounding.{tenThousandths}
 use Rattle.listing.specs.Printed.{ShareRecord, shareField, listing}
 
@@ -170,7 +170,60 @@ halvesText =
     -- `step 0 7 0:10000 1:0`
     ∷ 115 ∷ 116 ∷ 101 ∷ 112 ∷ 32 ∷ 48 ∷ 32 ∷ 55 ∷ 32 ∷ 48 ∷ 58 ∷ 49 ∷ 48 ∷ 48 ∷ 48 ∷ 48 ∷ 32 ∷ 49 ∷ 58 ∷ 48 ∷ 10
     -- `block 1 2 1`
-    ∷ 98 ∷ 108 ∷ 111 ∷ 99 ∷ 107 ∷ 32 ∷ 49 ∷ 32 ∷ 50 ∷ 32 ∷ 49 ∷ 10 ∷ []
+    ∷ 98 ∷ 108 ∷ 111 ∷ 99 ∷ 107 ∷ 32 ∷ 49 ∷ 32 ∷ 50 ∷ 32 ∷ 49 ∷ 10
+    -- `label 1 regions 1 blocks 1`
+    ∷ 108 ∷ 97 ∷ 98 ∷ 101 ∷ 108 ∷ 32 ∷ 49 ∷ 32 ∷ 114 ∷ 101 ∷ 103 ∷ 105 ∷ 111 ∷ 110 ∷ 115 ∷ 32 ∷ 49 ∷ 32 ∷ 98 ∷ 108 ∷ 111 ∷ 99 ∷ 107
+    ∷ 115 ∷ 32 ∷ 49 ∷ 10
+    -- `label 2 regions 1 blocks 1`
+    ∷ 108 ∷ 97 ∷ 98 ∷ 101 ∷ 108 ∷ 32 ∷ 50 ∷ 32 ∷ 114 ∷ 101 ∷ 103 ∷ 105 ∷ 111 ∷ 110 ∷ 115 ∷ 32 ∷ 49 ∷ 32 ∷ 98 ∷ 108 ∷ 111 ∷ 99 ∷ 107
+    ∷ 115 ∷ 32 ∷ 49 ∷ 10
+    -- `all regions 2 blocks 2`
+    ∷ 97 ∷ 108 ∷ 108 ∷ 32 ∷ 114 ∷ 101 ∷ 103 ∷ 105 ∷ 111 ∷ 110 ∷ 115 ∷ 32 ∷ 50 ∷ 32 ∷ 98 ∷ 108 ∷ 111 ∷ 99 ∷ 107 ∷ 115 ∷ 32 ∷ 50 ∷ 10 ∷ []
+
+-- Four locations and no clock, with labels 255, 0, 7 and 255. An edge leads from location 0 to 1 and one from 1 to 3; none leads to 2.
+abbrev labelled : List ℕ
+labelled =
+    1 ∷ 0 ∷ 4 ∷ 0
+    ∷ 2 ∷ 255
+    ∷ 2 ∷ 0
+    ∷ 2 ∷ 7
+    ∷ 2 ∷ 255
+    ∷ 4 ∷ 0 ∷ 0 ∷ 1 ∷ 0
+    ∷ 6 ∷ 1 ∷ 0 ∷ 1 ∷ 0
+    ∷ 4 ∷ 1 ∷ 0 ∷ 1 ∷ 0
+    ∷ 6 ∷ 1 ∷ 0 ∷ 3 ∷ 0
+    ∷ 7 ∷ []
+
+-- What is printed for it: labels rise in the totals, 0 and 255 have a line, and 7, which no region bears, has none.
+abbrev labelledText : List ℕ
+labelledText =
+    -- `regions 3 blocks 3 rounds 1`
+    114 ∷ 101 ∷ 103 ∷ 105 ∷ 111 ∷ 110 ∷ 115 ∷ 32 ∷ 51 ∷ 32 ∷ 98 ∷ 108 ∷ 111 ∷ 99 ∷ 107 ∷ 115 ∷ 32 ∷ 51 ∷ 32 ∷ 114 ∷ 111 ∷ 117 ∷ 110
+    ∷ 100 ∷ 115 ∷ 32 ∷ 49 ∷ 10
+    -- `region 0 0 0`
+    ∷ 114 ∷ 101 ∷ 103 ∷ 105 ∷ 111 ∷ 110 ∷ 32 ∷ 48 ∷ 32 ∷ 48 ∷ 32 ∷ 48 ∷ 10
+    -- `region 1 1 1`
+    ∷ 114 ∷ 101 ∷ 103 ∷ 105 ∷ 111 ∷ 110 ∷ 32 ∷ 49 ∷ 32 ∷ 49 ∷ 32 ∷ 49 ∷ 10
+    -- `region 2 3 2`
+    ∷ 114 ∷ 101 ∷ 103 ∷ 105 ∷ 111 ∷ 110 ∷ 32 ∷ 50 ∷ 32 ∷ 51 ∷ 32 ∷ 50 ∷ 10
+    -- `block 0 255 1`
+    ∷ 98 ∷ 108 ∷ 111 ∷ 99 ∷ 107 ∷ 32 ∷ 48 ∷ 32 ∷ 50 ∷ 53 ∷ 53 ∷ 32 ∷ 49 ∷ 10
+    -- `step 0 0 1:10000`
+    ∷ 115 ∷ 116 ∷ 101 ∷ 112 ∷ 32 ∷ 48 ∷ 32 ∷ 48 ∷ 32 ∷ 49 ∷ 58 ∷ 49 ∷ 48 ∷ 48 ∷ 48 ∷ 48 ∷ 10
+    -- `block 1 0 1`
+    ∷ 98 ∷ 108 ∷ 111 ∷ 99 ∷ 107 ∷ 32 ∷ 49 ∷ 32 ∷ 48 ∷ 32 ∷ 49 ∷ 10
+    -- `step 1 0 2:10000`
+    ∷ 115 ∷ 116 ∷ 101 ∷ 112 ∷ 32 ∷ 49 ∷ 32 ∷ 48 ∷ 32 ∷ 50 ∷ 58 ∷ 49 ∷ 48 ∷ 48 ∷ 48 ∷ 48 ∷ 10
+    -- `block 2 255 1`
+    ∷ 98 ∷ 108 ∷ 111 ∷ 99 ∷ 107 ∷ 32 ∷ 50 ∷ 32 ∷ 50 ∷ 53 ∷ 53 ∷ 32 ∷ 49 ∷ 10
+    -- `label 0 regions 1 blocks 1`
+    ∷ 108 ∷ 97 ∷ 98 ∷ 101 ∷ 108 ∷ 32 ∷ 48 ∷ 32 ∷ 114 ∷ 101 ∷ 103 ∷ 105 ∷ 111 ∷ 110 ∷ 115 ∷ 32 ∷ 49 ∷ 32 ∷ 98 ∷ 108 ∷ 111 ∷ 99 ∷ 107
+    ∷ 115 ∷ 32 ∷ 49 ∷ 10
+    -- `label 255 regions 2 blocks 2`
+    ∷ 108 ∷ 97 ∷ 98 ∷ 101 ∷ 108 ∷ 32 ∷ 50 ∷ 53 ∷ 53 ∷ 32 ∷ 114 ∷ 101 ∷ 103 ∷ 105 ∷ 111 ∷ 110 ∷ 115 ∷ 32 ∷ 50 ∷ 32 ∷ 98 ∷ 108 ∷ 111 ∷ 99
+    ∷ 107 ∷ 115 ∷ 32 ∷ 50 ∷ 10
+    -- `all regions 3 blocks 3`
+    ∷ 97 ∷ 108 ∷ 108 ∷ 32 ∷ 114 ∷ 101 ∷ 103 ∷ 105 ∷ 111 ∷ 110 ∷ 115 ∷ 32 ∷ 51 ∷ 32 ∷ 98 ∷ 108 ∷ 111 ∷ 99 ∷ 107 ∷ 115 ∷ 32 ∷ 51 ∷ 10 ∷ []
 
 -- A location, and clock 0 with an integer part and rank 0; with rank 1.
 abbrev region : (location part : ℕ) → Region
@@ -179,7 +232,7 @@ region location part = record { location = location; whole = part ∷ 0 ∷ 0 �
 abbrev between : (location part : ℕ) → Region
 between location part = record { location = location; whole = part ∷ 0 ∷ 0 ∷ 0 ∷ []; rank = 1 ∷ 0 ∷ 0 ∷ 0 ∷ [] }
 
--- What document 01 has the program print for the printed model, line by line.
+-- What document 01 has the program print for the printed model, line by line, and the totals of document 02, Job 1.
 abbrev printedText : List ℕ
 printedText =
     -- `regions 5 blocks 3 rounds 1`
@@ -204,7 +257,15 @@ printedText =
     -- `step 1 3 0:6667 2:3333`
     ∷ 115 ∷ 116 ∷ 101 ∷ 112 ∷ 32 ∷ 49 ∷ 32 ∷ 51 ∷ 32 ∷ 48 ∷ 58 ∷ 54 ∷ 54 ∷ 54 ∷ 55 ∷ 32 ∷ 50 ∷ 58 ∷ 51 ∷ 51 ∷ 51 ∷ 51 ∷ 10
     -- `block 2 9 2`
-    ∷ 98 ∷ 108 ∷ 111 ∷ 99 ∷ 107 ∷ 32 ∷ 50 ∷ 32 ∷ 57 ∷ 32 ∷ 50 ∷ 10 ∷ []
+    ∷ 98 ∷ 108 ∷ 111 ∷ 99 ∷ 107 ∷ 32 ∷ 50 ∷ 32 ∷ 57 ∷ 32 ∷ 50 ∷ 10
+    -- `label 5 regions 3 blocks 2`
+    ∷ 108 ∷ 97 ∷ 98 ∷ 101 ∷ 108 ∷ 32 ∷ 53 ∷ 32 ∷ 114 ∷ 101 ∷ 103 ∷ 105 ∷ 111 ∷ 110 ∷ 115 ∷ 32 ∷ 51 ∷ 32 ∷ 98 ∷ 108 ∷ 111 ∷ 99 ∷ 107
+    ∷ 115 ∷ 32 ∷ 50 ∷ 10
+    -- `label 9 regions 2 blocks 1`
+    ∷ 108 ∷ 97 ∷ 98 ∷ 101 ∷ 108 ∷ 32 ∷ 57 ∷ 32 ∷ 114 ∷ 101 ∷ 103 ∷ 105 ∷ 111 ∷ 110 ∷ 115 ∷ 32 ∷ 50 ∷ 32 ∷ 98 ∷ 108 ∷ 111 ∷ 99 ∷ 107
+    ∷ 115 ∷ 32 ∷ 49 ∷ 10
+    -- `all regions 5 blocks 3`
+    ∷ 97 ∷ 108 ∷ 108 ∷ 32 ∷ 114 ∷ 101 ∷ 103 ∷ 105 ∷ 111 ∷ 110 ∷ 115 ∷ 32 ∷ 53 ∷ 32 ∷ 98 ∷ 108 ∷ 111 ∷ 99 ∷ 107 ∷ 115 ∷ 32 ∷ 51 ∷ 10 ∷ []
 
 -- `refused 2 place 0` and `refused 5 place 0`: they differ by the number's sign.
 abbrev refusedText : (sign : ℕ) → List ℕ
@@ -291,6 +352,8 @@ points =
     ∷ shareText (record { block = 2; weight = 1; denominator = 3 }) (32 ∷ 50 ∷ 58 ∷ 51 ∷ 51 ∷ 51 ∷ 51 ∷ [])
     -- "For hex .. it prints ..", with 2,048 entries lent.
     ∷ prints printed 2048 printedText
+    -- "For each label that a reached region bears, labels rising" (document 02, Job 1).
+    ∷ prints labelled 2048 labelledText
     -- "A refusal prints `refused 5 place 0`": so of the one byte 07, and the empty table is refused with 2.
     ∷ prints (7 ∷ []) 2048 (refusedText 53)
     ∷ prints [] 2048 (refusedText 50)
@@ -313,4 +376,4 @@ points-met =
     (also refl (also refl (also refl (also refl (also refl (also refl
     (also refl (also refl (also refl (also refl (also refl (also refl
     (also refl (also refl (also refl (also refl (also refl (also refl
-    (also refl none))))))))))))))))))))))))))))))))))))))))))))))))
+    (also refl (also refl none)))))))))))))))))))))))))))))))))))))))))))))))))

@@ -1,5 +1,5 @@
 -- The printed model (document 01, "The printed model"): records of the regions and blocks of a model, each line over them, and the
--- listing of a table.
+-- listing of a table, which closes with the totals (document 02, Job 1).
 use Prim.Native.Nat.{ℕ, zero, suc, _+_}
 use mathlib.Core.Bool.{Bool, true, false, cond, not, _&&_, _||_}
 use mathlib.Core.List.{List, [], _∷_, _++_, map}
@@ -8,9 +8,10 @@ use lib.ListN.{length, getD}
 use Rattle.partition.specs.Passed.{Model, Region, Branch, Finite, readTable, rounds, lastBlocks, blockCount}
 use Rattle.partition.specs.Instances.{regionOf, graph}
 use Rattle.partition.specs.Calls.{afterGraph}
-use Rattle.listing.specs.Text.{lineFeed, plus, colon, above, blank, decimal, field, upTo, rising, each}
-use Rattle.listing.specs.Text.{regionsWord, blocksWord, roundsWord, regionWord, blockWord, delayWord, stepWord, refusedWord, placeWord}
+use Rattle.text.specs.Text.{lineFeed, plus, colon, above, blank, decimal, field, upTo, rising, each}
+use Rattle.text.specs.Text.{regionsWord, blocksWord, roundsWord, regionWord, blockWord, delayWord, stepWord, refusedWord, placeWord}
 use Rattle.rounding.specs.Rounding.{tenThousandths}
+use Rattle.totals.specs.Totals.{TotalRecord, totalsOf, totalLines}
 
 -- ---- Records
 
@@ -22,6 +23,7 @@ pub record ClockRecord : Type 0 where
 pub record RegionRecord : Type 0 where
   pub number : ℕ
   pub location : ℕ
+  pub label : ℕ
   pub block : ℕ
   pub clocks : List ClockRecord
 
@@ -56,7 +58,7 @@ rankText rank = cond (eqb rank 0) [] (plus ∷ decimal rank)
 abbrev pub clockField : ClockRecord → List ℕ
 clockField c = cond (eqb (c .whole) 16) (blank ∷ above ∷ []) (field (c .whole) ++ rankText (c .rank))
 
--- "`region`: number, location, block, clocks".
+-- "`region`: number, location, block, clocks". (The label is not printed here; totals count by it.)
 abbrev pub regionLine : RegionRecord → List ℕ
 regionLine r =
     regionWord
@@ -155,19 +157,33 @@ regionRecord m found list x =
     record {
       number = x;
       location = regionOf m found x .location;
+      label = graph m found .label x;
       block = getD list x 0;
       clocks = clocksAt (m .clocks) (regionOf m found x);
     }
 
 -- ---- The listing
 
+abbrev pub regionRecords : Model → List Region → List ℕ → List RegionRecord
+regionRecords m found list = upTo (λ x. regionRecord m found list x ∷ []) (length found)
+
+abbrev pub blockRecords : Model → List Region → List ℕ → (blocks : ℕ) → List BlockRecord
+blockRecords m found list blocks = upTo (λ b. blockRecord (graph m found) list blocks b ∷ []) blocks
+
+-- The totals over the region and block records, by their labels: a record for each label that a region bears, and the text.
+abbrev pub totalRecords : List RegionRecord → List BlockRecord → List TotalRecord
+totalRecords regions blocks = totalsOf (map (λ r. r .label) regions) (map (λ b. b .label) blocks)
+
+abbrev pub totalsText : List RegionRecord → List BlockRecord → List ℕ
+totalsText regions blocks = totalLines (map (λ r. r .label) regions) (map (λ b. b .label) blocks)
+
 -- Of a model with its regions, their blocks and both counts: "the region lines in number order, then for each block in number order"
--- its lines.
+-- its lines; "after the listing" the totals.
 abbrev pub printed : Model → List Region → List ℕ → (blocks rounds : ℕ) → List ℕ
 printed m found list blocks rounds =
     firstLine (length found) blocks rounds
-    ++ (each regionLine (upTo (λ x. regionRecord m found list x ∷ []) (length found))
-    ++ each blockLines (upTo (λ b. blockRecord (graph m found) list blocks b ∷ []) blocks))
+    ++ (each regionLine (regionRecords m found list)
+    ++ (each blockLines (blockRecords m found list blocks) ++ totalsText (regionRecords m found list) (blockRecords m found list blocks)))
 
 abbrev pub printedGraph : Model → List Region → List ℕ
 printedGraph m found =

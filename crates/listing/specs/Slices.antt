@@ -9,7 +9,7 @@ use lib.Dec.{eqb}
 use lib.ListN.{getD}
 pub use Rattle.partition.specs.Passed.{rowRoom}
 pub use Rattle.partition.specs.View.{branchesFrom, branchesAt}
-use Rattle.listing.specs.Text.{upTo}
+use Rattle.text.specs.Text.{upTo}
 use Rattle.listing.specs.Printed.{StepRecord, stepOf, stepLine}
 
 -- The step of edge e, and the line of it where it is available.

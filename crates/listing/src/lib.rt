@@ -1,9 +1,9 @@
 // The listing layer: the printed model, in parts.
 mod blocks;
+mod labels;
 mod lines;
 mod parts;
 mod steps;
-mod text;
 
 pub use parts::Part;
 pub use parts::refusal_line;

@@ -3,13 +3,13 @@ ghost use Prim.Native.Nat.{ℕ};
 ghost use mathlib.Core.Path.{_≡_};
 ghost use mathlib.Core.List.{List, [], _∷_, _++_};
 ghost use lib.ListN.{getD};
-ghost use Rattle.listing.specs.Text.{field, each, upTo};
+ghost use Rattle.text.specs.Text.{field, each, upTo};
 ghost use Rattle.listing.specs.Printed.{StepRecord, rankText, clockField, firstLine, refusalLine, regionLine, blockLine};
-ghost use Rattle.listing.specs.Writing.{Adds};
-use crate::text::put;
-use crate::text::put_field;
-use crate::text::put_number;
-use crate::text::put_word;
+ghost use Rattle.text.specs.Writing.{Adds};
+use text::put;
+use text::put_field;
+use text::put_named;
+use text::put_number;
 
 const LINE_FEED: u8 = 10;
 
@@ -20,14 +20,6 @@ const PLUS: u8 = 43;
 const ABOVE: u8 = 62;
 
 const OVER: u8 = 16;
-
-// A word and a field after it.
-pub(crate) fn put_named(word: &[u8], n: u64, at: usize, text: &mut [u8]) -> usize
-    ensures { λ r. ⌜ Adds (now (text .entry)) at (now (text .exit)) r (now (word .entry) ++ field n) ⌝ }
-{
-    let after = put_word(word, at, text);
-    put_field(n, after, text)
-}
 
 // The first line: the counts of regions, blocks and rounds.
 pub(crate) fn put_first(regions: u64, blocks: u64, rounds: u64, at: usize, text: &mut [u8]) -> usize
@@ -104,13 +96,14 @@ pub(crate) fn put_region(
     at: usize,
     text: &mut [u8],
 ) -> usize
-    ensures { λ r. ⌜ Adds (now (text .entry)) at (now (text .exit)) r
+    ensures { λ r. ⌜ ((label : ℕ) → Adds (now (text .entry)) at (now (text .exit)) r
         (regionLine (record {
           number = number;
           location = location;
+          label = label;
           block = block;
           clocks = upTo (λ i. record { whole = getD whole i 0; rank = getD rank i 0 } ∷ []) clocks;
-        })) ⌝ }
+        }))) ⌝ }
 {
     let one = put_named(b"region", number, at, text);
     let two = put_field(location as u64, one, text);

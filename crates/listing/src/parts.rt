@@ -5,14 +5,19 @@ ghost use mathlib.Core.List.{List, [], _∷_, _++_};
 ghost use lib.ListN.{length, getD, take, drop};
 ghost use Rattle.partition.specs.Passed.{Model, readTable, accepted, entryBytes, maxEntries, listed};
 ghost use Rattle.partition.specs.Instances.{graph};
-ghost use Rattle.listing.specs.Text.{upTo};
+ghost use Rattle.text.specs.Text.{upTo};
 ghost use Rattle.listing.specs.Printed.{firstLine, regionLine, blockLine, delayLineOf, otherBlocks, refusalLine};
 ghost use Rattle.listing.specs.Printed.{regionRecord, blockRecord, blockLines, sizeBelow};
+ghost use Rattle.listing.specs.Printed.{regionRecords, blockRecords, totalsText};
+ghost use Rattle.listing.specs.Labels.{blockLabels};
+ghost use Rattle.totals.specs.Totals.{totalLines};
 ghost use Rattle.listing.specs.Slices.{stepTextAt};
 ghost use Rattle.listing.specs.Parts.{linePart, partText, isBorne, fitted, bufferAfter, Gives, Parted};
 use crate::blocks::block_at;
 use crate::blocks::lowest_of;
 use crate::blocks::size_of;
+use crate::labels::label_blocks;
+use crate::labels::label_regions;
 use crate::lines::put_block;
 use crate::lines::put_first;
 use crate::lines::put_refusal;
@@ -177,7 +182,38 @@ fn block_part(
     }
 }
 
-// The line of region x, or past the regions the lines of a block.
+// The totals over the labels of all regions; the list has their blocks, of which there are `blocks`.
+fn totals_text(labels: &[u8], list: &[u64], blocks: u64, buffer: &mut [u8]) -> Part
+    requires { ⌜ (length (now labels) ≡ length (now list)) × (0 < blocks) × (blocks ≤ length (now list))
+        × (length (now list) ≤ maxEntries) ⌝ }
+    ensures { λ r. ⌜ Gives (totalLines (now (labels .entry)) (blockLabels (now (labels .entry)) (now (list .entry)) blocks))
+        (now (buffer .entry)) r (now (buffer .exit)) ⌝ }
+{
+    let mut room = [0u8; 4096];
+    let count = blocks as usize;
+    let of_blocks = &mut room[..count];
+    label_blocks(list, labels, of_blocks);
+    let mut text = [0u8; 9728];
+    let k = totals::put_totals(labels, of_blocks, 0, &mut text);
+    deliver(&text, k, buffer)
+}
+
+// The totals; the list has the blocks of all regions, of which there are `blocks`.
+fn totals_part(bytes: &[u8], entries: &[u8], list: &[u64], blocks: u64, buffer: &mut [u8]) -> Part
+    requires { ⌜ (0 < blocks) × (blocks ≤ length (now list)) × (length (now list) ≤ maxEntries) ⌝ }
+    ensures { λ r. ⌜ ((m : Model) → readTable (now (bytes .entry)) ≡ accepted m
+        → Gives (totalsText (regionRecords m (listed (now (entries .entry)) (length (now (list .entry)))) (now (list .entry)))
+        (blockRecords m (listed (now (entries .entry)) (length (now (list .entry)))) (now (list .entry)) blocks))
+        (now (buffer .entry)) r (now (buffer .exit))) ⌝ }
+{
+    let mut room = [0u8; 4096];
+    let n = list.len();
+    let labels = &mut room[..n];
+    label_regions(bytes, entries, labels);
+    totals_text(labels, list, blocks, buffer)
+}
+
+// The line of region x, past the regions the lines of a block, and past the blocks the totals.
 fn line_part(
     bytes: &[u8],
     clocks: u8,
@@ -188,7 +224,7 @@ fn line_part(
     buffer: &mut [u8],
 ) -> Part
     requires { ⌜ (clocks ≤ 4) × (blocks ≤ length (now list)) × (length (now list) ≤ maxEntries)
-        × (entryBytes * length (now list) ≤ length (now entries)) ⌝ }
+        × (entryBytes * length (now list) ≤ length (now entries)) × (0 < blocks) ⌝ }
     ensures { λ r. ⌜ ((m : Model) → readTable (now (bytes .entry)) ≡ accepted m → clocks ≡ m .clocks
         → Gives (linePart m (listed (now (entries .entry)) (length (now (list .entry)))) (now (list .entry)) blocks x)
         (now (buffer .entry)) r (now (buffer .exit))) ⌝ }
@@ -200,6 +236,9 @@ fn line_part(
     let b = x - n;
     if b < blocks {
         return block_part(bytes, entries, list, blocks, b, buffer);
+    }
+    if b == blocks {
+        return totals_part(bytes, entries, list, blocks, buffer);
     }
     Part::End
 }
@@ -216,7 +255,7 @@ fn part_of(
     buffer: &mut [u8],
 ) -> Part
     requires { ⌜ (clocks ≤ 4) × (blocks ≤ length (now list)) × (length (now list) ≤ maxEntries)
-        × (entryBytes * length (now list) ≤ length (now entries)) ⌝ }
+        × (entryBytes * length (now list) ≤ length (now entries)) × (0 < blocks) ⌝ }
     ensures { λ r. ⌜ ((m : Model) → readTable (now (bytes .entry)) ≡ accepted m → clocks ≡ m .clocks
         → Gives (partText m (listed (now (entries .entry)) (length (now (list .entry)))) (now (list .entry)) blocks rounds part)
         (now (buffer .entry)) r (now (buffer .exit))) ⌝ }

@@ -2,20 +2,20 @@
 ghost use Prim.Native.Nat.{ℕ, _+_, _*_, _≤_, _<_};
 ghost use mathlib.Core.Path.{_≡_};
 ghost use lib.ListN.{length, getD};
-ghost use Rattle.listing.specs.Text.{each, field, upTo};
+ghost use Rattle.text.specs.Text.{each, field, upTo};
 ghost use Rattle.rounding.specs.Rounding.{tenThousandths};
 ghost use Rattle.listing.specs.Printed.{otherBlocks, delayLineOf, weightInto};
 ghost use Rattle.listing.specs.Printed.{shareField, sharesOf, targetsOf, stepLine};
 ghost use Rattle.listing.specs.Slices.{branchesFrom, stepAt, stepTextAt};
-ghost use Rattle.listing.specs.Writing.{Adds};
+ghost use Rattle.text.specs.Writing.{Adds};
 use crate::blocks::block_at;
 use crate::blocks::next_block;
 use crate::blocks::next_other;
 use crate::blocks::number_at;
-use crate::lines::put_named;
-use crate::text::put;
-use crate::text::put_field;
-use crate::text::put_number;
+use text::put;
+use text::put_field;
+use text::put_named;
+use text::put_number;
 
 const LINE_FEED: u8 = 10;
 

@@ -6,7 +6,7 @@ ghost use lib.ListN.{length};
 ghost use Rattle.regions.specs.Passed.{Model, readTable, refusal, accepted};
 ghost use Rattle.regions.specs.Explore.{listed};
 ghost use Rattle.partition.specs.Instances.{graph};
-ghost use Rattle.partition.specs.View.{checkedOf, entryOf, isSeen, showingOf, Alone};
+ghost use Rattle.partition.specs.View.{checkedOf, labelsAfter, entryOf, isSeen, showingOf, Alone};
 use regions::Sight;
 
 // What reading a table comes to: a refusal, 1 to 13, or the count of clocks of its model.
@@ -49,6 +49,13 @@ pub fn check_table(bytes: &[u8]) -> Checked
         },
         regions::Checked::Read(clocks) => Checked::Read(clocks),
     }
+}
+
+// Stores the labels of the first locations of a table, as many as the slice is long; the slice stays if the table is refused.
+pub fn list_labels(bytes: &[u8], labels: &mut [u8])
+    ensures { λ _. ⌜ now (labels .exit) ≡ labelsAfter (readTable (now (bytes .entry))) (now (labels .entry)) ⌝ }
+{
+    regions::list_labels(bytes, labels);
 }
 
 // The region at an entry.

@@ -13,7 +13,7 @@ use listing::Part;
 use partition::Reduction;
 
 // How many parts are asked for: one more than any listing has, so that the last answer is the end.
-const STEPS: u64 = 8194;
+const STEPS: u64 = 8195;
 
 // What came of printing: the part was printed; there is no such part, or the table is refused; the output failed; or the listing was cut,
 // which is proved not to occur.

@@ -29,11 +29,12 @@ use Rattle.partition.specs.declared.calls.Pairing.{Pairing}
 use Rattle.partition.specs.declared.calls.Pairing.the-variants as S
 use Rattle.partition.specs.declared.calls.Judgement.{Judgement}
 use Rattle.partition.specs.declared.calls.Judgement.the-variants as J
-use Rattle.listing.specs.Text.{upTo}
+use Rattle.text.specs.Text.{upTo}
+use Rattle.text.specs.Laws.Texts.{upto-same}
 use Rattle.listing.specs.Printed.{listing}
-use Rattle.listing.specs.Parts.{textOf, partOf, fitted, bytesIn, bufferAfter, mostBytes}
+use Rattle.listing.specs.Parts.{partCount, textOf, partOf, fitted, bytesIn, bufferAfter, mostBytes}
 use Rattle.listing.specs.Laws.Parts.{parted}
-use Rattle.listing.specs.Laws.Joined.{upto-same, joined-most}
+use Rattle.listing.specs.Laws.Joined.{joined-most}
 use Rattle.listing.specs.declared.parts.Part.{Part}
 use Rattle.listing.specs.declared.parts.Part.the-variants as T
 use Rattle.terkwabu.specs.Answers.{ofGraph, ofPlacing, ofReduction, oneIf, ofPairing, ofJudgement, ofPart}
@@ -226,14 +227,14 @@ module _ (table entries list : List ℕ) (regions blocks rounds part room : ℕ)
 pub host-joined : (table entries first second : List ℕ) (n b k : ℕ) (entries′ first′ second′ : List ℕ)
     → Reduced table entries first second (B.Blocks n b k) entries′ first′ second′ → (list : List ℕ)
     → (list ≡ first′) ⊎ (list ≡ second′) → (buffers : ℕ → List ℕ) (answers : ℕ → Answer) (buffers′ : ℕ → List ℕ)
-    → ((part : ℕ) → part < suc (n + b)
+    → ((part : ℕ) → part < partCount n b
     → (answers part ≡ ofPart (partOf table entries′ list n b k part (length (buffers part))))
     × (buffers′ part ≡ bufferAfter (textOf table entries′ list n b k part) (buffers part))
     × (length (textOf table entries′ list n b k part) ≤ mostBytes))
-    → ((part : ℕ) → part < suc (n + b) → mostBytes ≤ length (buffers part))
-    → upTo (λ part. take (answers part .value) (buffers′ part)) (suc (n + b)) ≡ listing table (roomFor (length entries))
+    → ((part : ℕ) → part < partCount n b → mostBytes ≤ length (buffers part))
+    → upTo (λ part. take (answers part .value) (buffers′ part)) (partCount n b) ≡ listing table (roomFor (length entries))
 host-joined table entries first second n b k entries′ first′ second′ reduced list either buffers answers buffers′ calls long =
-    upto-same _ _ (suc (n + b))
+    upto-same _ _ (partCount n b)
     (λ part h.
     ap (λ (j : ℕ). take j (buffers′ part))
     (ap (λ (a : Answer). a .value) (calls part h .0) ∙ value-part (partOf table entries′ list n b k part (length (buffers part)))))

@@ -3,7 +3,7 @@ ghost use mathlib.Core.Path.{_≡_};
 ghost use Rattle.terkwabu.specs.Version.{version};
 
 // The version in one number: a million times the first, a thousand times the second, and the third.
-const VERSION: u64 = 1001000;
+const VERSION: u64 = 1002000;
 
 // Gives the version of the library that is linked, TERKWABU_VERSION of its own header.
 #[no_mangle]

@@ -1,5 +1,5 @@
 -- "The library may make the listing in parts; joined they are the listing" (document 01): `joined`. After a partition call that
--- succeeded with n regions and b blocks the parts are those below `suc (n + b)` (`parts-some`, `parts-end`), and so the part calls
+-- succeeded with n regions and b blocks the parts are those below `partCount n b` (`parts-some`, `parts-end`), and so the part calls
 -- answer (`call-written`, `call-end`). After one that refused, but not with 16, the listing is the refusal's line (`refused-listing`,
 -- `refused-joined`). The program lends what it takes (`program-room`, `program-sixteen`).
 use Prim.Native.Nat.{ℕ, zero, suc, _+_, _-_, _*_, _≤_, _<_}
@@ -7,11 +7,11 @@ use native.Mathlib.Omega.{arith}
 use mathlib.Core.Logic.{_⊎_, inl, inr}
 use mathlib.Core.Path.{_≡_, refl, sym, _∙_, ap, ap₂, subst}
 use mathlib.Core.Bool.{Bool, true, false}
-use mathlib.Core.List.{List, [], _∷_, _++_, append-assoc, append-nil}
+use mathlib.Core.List.{List, [], _∷_, _++_, map}
 use lib.Dec.{ltb}
 use lib.ListN.{length, take, drop}
 use lib.Seq.{take-append-seam}
-use borrow.Author.Tests.{ne-eqb, lt-ltb, le-ltb, le-leb, ltb-true, ltb-false}
+use borrow.Author.Tests.{eq-eqb, ne-eqb, lt-ltb, le-ltb, le-leb, ltb-true, ltb-false}
 use Rattle.partition.specs.Passed.{Model, Region, Answer, rounds, lastBlocks, roomFor, maxEntries, entryBytes}
 use Rattle.partition.specs.Instances.{graph}
 use Rattle.partition.specs.Calls.{reduceOf}
@@ -19,36 +19,15 @@ use Rattle.partition.specs.Promises.{Reduced}
 use Rattle.partition.specs.Laws.Calls.{on-accepted}
 use Rattle.partition.specs.Laws.Left.{Left, reduced-first, reduced-second, reduced-refused, no-sixteen}
 use Rattle.partition.specs.declared.calls.Reduction.the-variants as B
-use Rattle.listing.specs.Text.{upTo, each}
+use Rattle.text.specs.Text.{upTo, each}
 use Rattle.listing.specs.Printed.{firstLine, regionLine, blockLines, regionRecord, blockRecord, printed, printedGraph, refusalLine, listing}
-use Rattle.listing.specs.Parts.{blockPart, linePart, partText, isBorne, textFrom, textOf, fitted, bytesIn, bufferAfter, partFrom, partOf, mostBytes, Parted}
-use Rattle.listing.specs.Laws.Texts.{each-append}
+use Rattle.listing.specs.Printed.{regionRecords, blockRecords, totalsText}
+use Rattle.listing.specs.Parts.{partCount, blockPart, linePart, partText, isBorne, textFrom, textOf, fitted, bytesIn, bufferAfter, partFrom, partOf, mostBytes, Parted}
+use Rattle.text.specs.Laws.Texts.{upto-same, upto-add, each-upto}
+use Rattle.totals.specs.Laws.Counts.{totals-some}
 use Rattle.listing.specs.Laws.Buffers.{fitted-written}
 use Rattle.listing.specs.declared.parts.Part.{Part}
 use Rattle.listing.specs.declared.parts.Part.the-variants as P
-
--- ---- Texts one after the other
-
-pub upto-same : {A : Type 0} (f g : ℕ → List A) (n : ℕ) → ((i : ℕ) → i < n → f i ≡ g i) → upTo f n ≡ upTo g n
-upto-same f g zero same = refl
-upto-same f g (suc n) same =
-    ap₂ (λ (l k : List _). l ++ k) (upto-same f g n (λ i h. same i (omega (arith, h)))) (same n (omega arith))
-
--- The first n, and then m more.
-pub upto-add : {A : Type 0} (f : ℕ → List A) (n m : ℕ) → upTo f (n + m) ≡ upTo f n ++ upTo (λ i. f (n + i)) m
-upto-add f n zero = let at : n + 0 ≡ n = omega arith in ap (upTo f) at ∙ sym (append-nil (upTo f n))
-upto-add f n (suc m) =
-    let at : n + suc m ≡ suc (n + m) = omega arith in
-    ap (upTo f) at
-    ∙ ap (λ (l : List _). l ++ f (n + m)) (upto-add f n m)
-    ∙ append-assoc (upTo f n) (upTo (λ i. f (n + i)) m) (f (n + m))
-
-pub each-upto : {A : Type 0} (f : A → List ℕ) (g : ℕ → A) (n : ℕ)
-    → each f (upTo (λ x. g x ∷ []) n) ≡ upTo (λ x. f (g x)) n
-each-upto f g zero = refl
-each-upto f g (suc n) =
-    each-append f (upTo (λ x. g x ∷ []) n) (g n ∷ [])
-    ∙ ap₂ (λ (l k : List ℕ). l ++ k) (each-upto f g n) (append-nil (f (g n)))
 
 some : (text : List ℕ) (c : ℕ) (more : List ℕ) → text ≡ c ∷ more → 0 < length text
 some text c more e = omega (arith, ap length e)
@@ -72,27 +51,33 @@ module _ (m : Model) (found : List Region) (list : List ℕ) (blocks rounds : �
   block-lines : (b : ℕ) → b < blocks → blockPart m found list blocks b ≡ blockLines (blockRecord (graph m found) list blocks b)
   block-lines b h = rw (lt-ltb b blocks h) refl
 
-  block-none : (b : ℕ) → blocks ≤ b → blockPart m found list blocks b ≡ []
-  block-none b h = rw (le-ltb b blocks h) refl
+  block-totals : (b : ℕ) → b ≡ blocks
+      → blockPart m found list blocks b ≡ totalsText (regionRecords m found list) (blockRecords m found list blocks)
+  block-totals b e = rw (le-ltb b blocks (omega (arith, e)), eq-eqb b blocks e) refl
+
+  block-none : (b : ℕ) → blocks < b → blockPart m found list blocks b ≡ []
+  block-none b h = rw (le-ltb b blocks (omega (arith, h)), ne-eqb b blocks (λ e. omega (arith, e, h))) refl
 
   -- All of them, joined, are the printed model.
-  text-joined : upTo (partText m found list blocks rounds) (suc (length found + blocks)) ≡ printed m found list blocks rounds
+  text-joined : upTo (partText m found list blocks rounds) (partCount (length found) blocks) ≡ printed m found list blocks rounds
   text-joined =
-      let whole : suc (length found + blocks) ≡ 1 + (length found + blocks) = omega arith in
+      let whole : partCount (length found) blocks ≡ 1 + (length found + suc blocks) = omega arith in
       ap (upTo (partText m found list blocks rounds)) whole
-      ∙ upto-add (partText m found list blocks rounds) 1 (length found + blocks)
+      ∙ upto-add (partText m found list blocks rounds) 1 (length found + suc blocks)
       ∙ ap (λ (t : List ℕ). firstLine (length found) blocks rounds ++ t)
-      (upto-same (λ x. partText m found list blocks rounds (1 + x)) (linePart m found list blocks) (length found + blocks)
+      (upto-same (λ x. partText m found list blocks rounds (1 + x)) (linePart m found list blocks) (length found + suc blocks)
       (λ x h. part-line x)
-      ∙ upto-add (linePart m found list blocks) (length found) blocks
+      ∙ upto-add (linePart m found list blocks) (length found) (suc blocks)
       ∙ ap₂ (λ (t u : List ℕ). t ++ u)
       (upto-same (linePart m found list blocks) (λ x. regionLine (regionRecord m found list x)) (length found) line-region
       ∙ sym (each-upto regionLine (regionRecord m found list) (length found)))
+      (ap₂ (λ (t u : List ℕ). t ++ u)
       (upto-same (λ b. linePart m found list blocks (length found + b))
       (λ b. blockLines (blockRecord (graph m found) list blocks b)) blocks (λ b h. line-block b ∙ block-lines b h)
-      ∙ sym (each-upto blockLines (blockRecord (graph m found) list blocks) blocks)))
+      ∙ sym (each-upto blockLines (blockRecord (graph m found) list blocks) blocks))
+      (line-block blocks ∙ block-totals blocks refl)))
 
-  text-end : (part : ℕ) → suc (length found + blocks) ≤ part → partText m found list blocks rounds part ≡ []
+  text-end : (part : ℕ) → partCount (length found) blocks ≤ part → partText m found list blocks rounds part ≡ []
   text-end part h =
       let at : part ≡ 1 + (length found + (part - 1 - length found)) = omega (arith, h) in
       ap (partText m found list blocks rounds) at
@@ -100,8 +85,17 @@ module _ (m : Model) (found : List Region) (list : List ℕ) (blocks rounds : �
       ∙ line-block (part - 1 - length found)
       ∙ block-none (part - 1 - length found) (omega (arith, h))
 
-  -- Every line begins with a letter.
-  line-some : (x : ℕ) → x < length found + blocks → 0 < length (linePart m found list blocks x)
+  -- The lines of a region and of a block begin with a letter, and the totals have a last line.
+  block-some : (b : ℕ) → b < suc blocks → 0 < length (blockPart m found list blocks b)
+  block-some b h = go (ltb b blocks) refl
+    where
+      go : (t : Bool) → ltb b blocks ≡ t → 0 < length (blockPart m found list blocks b)
+      go true e = some _ _ _ (block-lines b (ltb-true b blocks e))
+      go false e =
+          subst (λ (l : List ℕ). 0 < length l) (sym (block-totals b (omega (arith, h, ltb-false b blocks e))))
+          (totals-some (map (λ r. r .label) (regionRecords m found list)) (map (λ c. c .label) (blockRecords m found list blocks)))
+
+  line-some : (x : ℕ) → x < length found + suc blocks → 0 < length (linePart m found list blocks x)
   line-some x h = go (ltb x (length found)) refl
     where
       go : (t : Bool) → ltb x (length found) ≡ t → 0 < length (linePart m found list blocks x)
@@ -109,12 +103,10 @@ module _ (m : Model) (found : List Region) (list : List ℕ) (blocks rounds : �
       go false e =
           let past = ltb-false x (length found) e in
           let at : x ≡ length found + (x - length found) = omega (arith, past) in
-          some _ _ _
-          (ap (linePart m found list blocks) at
-          ∙ line-block (x - length found)
-          ∙ block-lines (x - length found) (omega (arith, h, past)))
+          subst (λ (l : List ℕ). 0 < length l) (sym (ap (linePart m found list blocks) at ∙ line-block (x - length found)))
+          (block-some (x - length found) (omega (arith, h, past)))
 
-  text-some : (part : ℕ) → part < suc (length found + blocks) → 0 < length (partText m found list blocks rounds part)
+  text-some : (part : ℕ) → part < partCount (length found) blocks → 0 < length (partText m found list blocks rounds part)
   text-some zero h = some (partText m found list blocks rounds 0) _ _ refl
   text-some (suc x) h =
       let at : suc x ≡ 1 + x = omega arith in
@@ -145,8 +137,8 @@ module _ (table : List ℕ) (cap n b k : ℕ) (entries list : List ℕ) (left : 
       ∙ rw borne
       (ap₂ (λ (f : List Region) (l : List ℕ). partText model f l b k part) (left .entries-hold) (left .list-holds))
 
-  count-is : suc (n + b) ≡ suc (length found + b)
-  count-is = ap (λ (x : ℕ). suc (x + b)) (left .regions-are)
+  count-is : partCount n b ≡ partCount (length found) b
+  count-is = ap (λ (x : ℕ). partCount x b) (left .regions-are)
 
   listing-is : listing table cap ≡ printed model found numbers b k
   unfolding listing
@@ -154,17 +146,17 @@ module _ (table : List ℕ) (cap n b k : ℕ) (entries list : List ℕ) (left : 
       on-accepted refusalLine printedGraph table cap (left .from)
       ∙ ap₂ (λ (x y : ℕ). printed model found numbers x y) (sym (left .blocks-are)) (sym (left .rounds-are))
 
-  left-joined : upTo (textOf table entries list n b k) (suc (n + b)) ≡ listing table cap
+  left-joined : upTo (textOf table entries list n b k) (partCount n b) ≡ listing table cap
   left-joined =
-      upto-same (textOf table entries list n b k) (partText model found numbers b k) (suc (n + b)) (λ part h. text-is part)
+      upto-same (textOf table entries list n b k) (partText model found numbers b k) (partCount n b) (λ part h. text-is part)
       ∙ ap (upTo (partText model found numbers b k)) count-is
       ∙ text-joined model found numbers b k
       ∙ sym listing-is
 
-  left-end : (part : ℕ) → suc (n + b) ≤ part → textOf table entries list n b k part ≡ []
+  left-end : (part : ℕ) → partCount n b ≤ part → textOf table entries list n b k part ≡ []
   left-end part h = text-is part ∙ text-end model found numbers b k part (omega (arith, count-is, h))
 
-  left-some : (part : ℕ) → part < suc (n + b) → 0 < length (textOf table entries list n b k part)
+  left-some : (part : ℕ) → part < partCount n b → 0 < length (textOf table entries list n b k part)
   left-some part h =
       subst (λ (l : List ℕ). 0 < length l) (sym (text-is part))
       (text-some model found numbers b k part (omega (arith, count-is, h)))
@@ -175,6 +167,11 @@ module _ (table : List ℕ) (cap n b k : ℕ) (entries list : List ℕ) (left : 
   unfolding partOf
   left-answer part room =
       ap (λ (a : Answer). partFrom a (textOf table entries list n b k part) room) (left .from .read)
+
+pub listing-left : {table : List ℕ} {cap n b k : ℕ} {entries list : List ℕ} (left : Left table cap n b k entries list)
+    → listing table cap
+    ≡ printed (left .from .model) (left .from .found) (lastBlocks (graph (left .from .model) (left .from .found))) b k
+listing-left {table} {cap} {n} {b} {k} {entries} {list} left = listing-is table cap n b k entries list left
 
 -- ---- A text in a buffer that has room for it
 
@@ -199,16 +196,16 @@ module _ (table entries first second : List ℕ) (n b k : ℕ) (entries′ first
           subst (λ (l : List ℕ). Left table (roomFor (length entries)) n b k entries′ l) (sym e)
           (reduced-second table entries first second n b k entries′ first′ second′ reduced)
 
-  -- The texts of the first `suc (n + b)` parts, joined, are the listing of the table with as much room as was lent.
-  pub parts-joined : upTo (textOf table entries′ list n b k) (suc (n + b)) ≡ listing table (roomFor (length entries))
+  -- The texts of the first `partCount n b` parts, joined, are the listing of the table with as much room as was lent.
+  pub parts-joined : upTo (textOf table entries′ list n b k) (partCount n b) ≡ listing table (roomFor (length entries))
   parts-joined = left-joined table (roomFor (length entries)) n b k entries′ list left-either
 
   -- There are no others.
-  pub parts-end : (part : ℕ) → suc (n + b) ≤ part → textOf table entries′ list n b k part ≡ []
+  pub parts-end : (part : ℕ) → partCount n b ≤ part → textOf table entries′ list n b k part ≡ []
   parts-end = left-end table (roomFor (length entries)) n b k entries′ list left-either
 
   -- None of these is empty.
-  pub parts-some : (part : ℕ) → part < suc (n + b) → 0 < length (textOf table entries′ list n b k part)
+  pub parts-some : (part : ℕ) → part < partCount n b → 0 < length (textOf table entries′ list n b k part)
   parts-some = left-some table (roomFor (length entries)) n b k entries′ list left-either
 
   -- One part call with what the partition call left.
@@ -220,10 +217,10 @@ module _ (table entries first second : List ℕ) (n b k : ℕ) (entries′ first
         ∙ left-answer table (roomFor (length entries)) n b k entries′ list left-either part (length buffer)
 
     -- Past the last part it says that there is none.
-    pub call-end : suc (n + b) ≤ part → answer ≡ P.End
+    pub call-end : partCount n b ≤ part → answer ≡ P.End
     call-end past = answer-fits ∙ ap (λ (t : List ℕ). fitted t (length buffer)) (parts-end part past)
 
-    module _ (below : part < suc (n + b)) (room : length (textOf table entries′ list n b k part) ≤ length buffer) where
+    module _ (below : part < partCount n b) (room : length (textOf table entries′ list n b k part) ≤ length buffer) where
       -- Else it writes, where the buffer has room for the part,
       pub call-written : answer ≡ P.Written (length (textOf table entries′ list n b k part))
       call-written =
@@ -235,26 +232,26 @@ module _ (table entries first second : List ℕ) (n b k : ℕ) (entries′ first
           ap₂ (λ (a : Part) (l : List ℕ). take (bytesIn a) l) call-written (call .buffer-is)
           ∙ fitted-front (textOf table entries′ list n b k part) buffer room
 
-  -- "Joined they are the listing." Part calls are made with what the partition call left, for each part below `suc (n + b)`, where call
+  -- "Joined they are the listing." Part calls are made with what the partition call left, for each part below `partCount n b`, where call
   -- `part` is lent `buffers part`, which has room for the part, and leaves `buffers′ part`. Of each buffer take the bytes at its
   -- front, as many as the answer says: these, joined in the order of the parts, are the listing of the table with as much room as
   -- was lent to the partition call. (Buffers may be one and the same, lent again and again.)
   pub joined : (buffers : ℕ → List ℕ) (answers : ℕ → Part) (buffers′ : ℕ → List ℕ)
-      → (calls : (part : ℕ) → part < suc (n + b)
+      → (calls : (part : ℕ) → part < partCount n b
       → Parted table entries′ list n b k part (buffers part) (answers part) (buffers′ part))
-      → (room : (part : ℕ) → part < suc (n + b) → length (textOf table entries′ list n b k part) ≤ length (buffers part))
-      → upTo (λ part. take (bytesIn (answers part)) (buffers′ part)) (suc (n + b)) ≡ listing table (roomFor (length entries))
+      → (room : (part : ℕ) → part < partCount n b → length (textOf table entries′ list n b k part) ≤ length (buffers part))
+      → upTo (λ part. take (bytesIn (answers part)) (buffers′ part)) (partCount n b) ≡ listing table (roomFor (length entries))
   joined buffers answers buffers′ calls room =
-      upto-same (λ part. take (bytesIn (answers part)) (buffers′ part)) (textOf table entries′ list n b k) (suc (n + b))
+      upto-same (λ part. take (bytesIn (answers part)) (buffers′ part)) (textOf table entries′ list n b k) (partCount n b)
       (λ part h. call-wrote part (buffers part) (answers part) (buffers′ part) (calls part h) h (room part h))
       ∙ parts-joined
 
   -- A buffer of 65,536 bytes is enough for each call.
   pub joined-most : (buffers : ℕ → List ℕ) (answers : ℕ → Part) (buffers′ : ℕ → List ℕ)
-      → (calls : (part : ℕ) → part < suc (n + b)
+      → (calls : (part : ℕ) → part < partCount n b
       → Parted table entries′ list n b k part (buffers part) (answers part) (buffers′ part))
-      → (room : (part : ℕ) → part < suc (n + b) → mostBytes ≤ length (buffers part))
-      → upTo (λ part. take (bytesIn (answers part)) (buffers′ part)) (suc (n + b)) ≡ listing table (roomFor (length entries))
+      → (room : (part : ℕ) → part < partCount n b → mostBytes ≤ length (buffers part))
+      → upTo (λ part. take (bytesIn (answers part)) (buffers′ part)) (partCount n b) ≡ listing table (roomFor (length entries))
   joined-most buffers answers buffers′ calls room =
       joined buffers answers buffers′ calls (λ part h. omega (arith, calls part h .enough, room part h))
 

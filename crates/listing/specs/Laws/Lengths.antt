@@ -1,85 +1,22 @@
 -- How long texts are: a local array of 128 bytes holds the first line and a refusal's, one of 256 a region's, and one of 65,536 the
 -- lines of a block. The bounds are generous: what counts is that they hold for whatever the code can be given.
-use Prim.Native.Nat.{ℕ, zero, suc, _+_, _*_, _/_, _%_, _^_, _≤_, _<_}
-use native.Mathlib.Nat.{div-lt-iff-lt-mul, pow-suc, mul-suc}
+use Prim.Native.Nat.{ℕ, zero, suc, _+_, _*_, _≤_, _<_}
 use native.Mathlib.Omega.{arith}
 use mathlib.Core.Path.{_≡_, refl, sym, _∙_, ap, subst}
 use mathlib.Core.Bool.{Bool, true, false, cond, not, _&&_, _||_}
 use mathlib.Core.List.{List, [], _∷_, _++_, map}
-use lib.Dec.{eqb, ltb}
+use lib.Dec.{eqb}
 use lib.ListN.{length, getD, length-append}
-use borrow.Author.Tests.{ltb-false, eqb-true, ne-eqb}
-use Rattle.listing.specs.Text.{lineFeed, blank, digitsBy, decimal, field, upTo, rising, each}
-use Rattle.listing.specs.Text.{plus, above, regionsWord, blocksWord, roundsWord, regionWord, blockWord, delayWord, stepWord, refusedWord, placeWord}
+use borrow.Author.Tests.{eqb-true, ne-eqb}
+use Rattle.text.specs.Text.{lineFeed, blank, decimal, field, upTo, rising, each}
+use Rattle.text.specs.Text.{plus, above, regionsWord, blocksWord, roundsWord, regionWord, blockWord, delayWord, stepWord, refusedWord, placeWord}
 use Rattle.listing.specs.Printed.{ShareRecord, StepRecord, firstLine, rankText, clockField, regionLine, blockLine, delayLineOf}
 use Rattle.listing.specs.Printed.{shareField, stepLine, refusalLine, isAmong, targetsOf, weightInto, otherBlocks, sharesOf}
 use Rattle.rounding.specs.Rounding.{tenThousandths}
 use Rattle.listing.specs.Slices.{rowRoom, branchesFrom, stepAt, stepTextAt}
-use Rattle.listing.specs.Laws.Texts.{each-append}
-use Rattle.listing.specs.Laws.Joined.{each-upto}
+use Rattle.text.specs.Laws.Texts.{each-append, each-map, each-upto, each-upto-list}
+use Rattle.text.specs.Laws.Lengths.{Fits, decimal-length, fits-word, fits-less, fits-then, fits-upto, long-field, half-field, block-field, byte-field}
 use Rattle.rounding.specs.Laws.Rounding.{rounded-most}
-
--- ---- Numbers
-
-digits-length : (fuel n k : ℕ) → 0 < k → n < 10 ^ k → length (digitsBy fuel n) ≤ k
-digits-length zero n k some h = omega arith
-digits-length (suc fuel) n zero some h = absurd (omega (arith, some))
-digits-length (suc fuel) n (suc k) some h = go (ltb n 10) refl (digits-length fuel (n / 10) k)
-  where
-    go : (t : Bool) → ltb n 10 ≡ t → (0 < k → n / 10 < 10 ^ k → length (digitsBy fuel (n / 10)) ≤ k)
-        → length (cond t ((48 + n) ∷ []) (digitsBy fuel (n / 10) ++ ((48 + n % 10) ∷ []))) ≤ suc k
-    go true e rest = omega arith
-    go false e rest =
-        let ten = ltb-false n 10 e in
-        let below : n < 10 ^ k * 10 = subst (λ (x : ℕ). n < x) (pow-suc 10 k) h in
-        let more : 0 < k = two k ten h in
-        let less : n / 10 < 10 ^ k = div-lt-iff-lt-mul {k = 10} (omega arith) .1 below in
-        omega (arith, length-append (digitsBy fuel (n / 10)) ((48 + n % 10) ∷ []), rest more less)
-      where
-        two : (j : ℕ) → 10 ≤ n → n < 10 ^ suc j → 0 < j
-        two zero ten h = absurd (omega (arith, ten, h))
-        two (suc j) ten h = omega arith
-
--- A number below 10 ^ k has at most k digits.
-pub decimal-length : (n k : ℕ) → 0 < k → n < 10 ^ k → length (decimal n) ≤ k
-unfolding decimal
-decimal-length n k some h = digits-length (suc n) n k some h
-
--- ---- Texts that have at most so many bytes
-
-record Fits (text : List ℕ) (most : ℕ) : Type 0 where
-  within : length text ≤ most
-
-fits-word : (text : List ℕ) → Fits text (length text)
-fits-word text = record { within = omega arith }
-
-fits-less : {text : List ℕ} {most more : ℕ} → Fits text most → most ≤ more → Fits text more
-fits-less f h = record { within = omega (arith, f .within, h) }
-
-fits-then : {one two : List ℕ} {most more : ℕ} → Fits one most → Fits two more → Fits (one ++ two) (most + more)
-fits-then {one} {two} f g = record { within = omega (arith, length-append one two, f .within, g .within) }
-
-fits-upto : (f : ℕ → List ℕ) (n most : ℕ) → ((i : ℕ) → i < n → Fits (f i) most) → Fits (upTo f n) (most * n)
-fits-upto f zero most each = record { within = omega arith }
-fits-upto f (suc n) most each =
-    subst (Fits (upTo f (suc n))) (sym (mul-suc most n))
-    (fits-then (fits-upto f n most (λ i h. each i (omega (arith, h)))) (each n (omega arith)))
-
-fits-field : (n k : ℕ) → 0 < k → n < 10 ^ k → Fits (field n) (1 + k)
-fits-field n k some h = record { within = omega (arith, decimal-length n k some h) }
-
--- A u64 has at most 20 digits, a u16 5, a number of a block 4 and a byte 3.
-long-field : (n : ℕ) → n < 18446744073709551616 → Fits (field n) 21
-long-field n h = fits-field n 20 (omega arith) (omega (arith, h))
-
-half-field : (n : ℕ) → n < 65536 → Fits (field n) 6
-half-field n h = fits-field n 5 (omega arith) (omega (arith, h))
-
-block-field : (n : ℕ) → n < 4096 → Fits (field n) 5
-block-field n h = fits-field n 4 (omega arith) (omega (arith, h))
-
-byte-field : (n : ℕ) → n < 256 → Fits (field n) 4
-byte-field n h = fits-field n 3 (omega arith) (omega (arith, h))
 
 -- ---- The lines of numbers, and a region's
 
@@ -114,15 +51,16 @@ clock-fits whole rank hw hr = go (eqb whole 16)
 pub region-fits : (number location block n : ℕ) (whole rank : List ℕ) → number < 18446744073709551616
     → location < 18446744073709551616 → block < 18446744073709551616 → n ≤ 4 → ((i : ℕ) → i < n → getD whole i 0 < 256)
     → ((i : ℕ) → i < n → getD rank i 0 < 256)
-    → length
+    → (label : ℕ) → length
     (regionLine (record {
       number = number;
       location = location;
+      label = label;
       block = block;
       clocks = upTo (λ i. record { whole = getD whole i 0; rank = getD rank i 0 } ∷ []) n;
     }))
     ≤ 256
-region-fits number location block n whole rank hn hl hb few wholes ranks =
+region-fits number location block n whole rank hn hl hb few wholes ranks label =
     let f =
     fits-then (fits-word regionWord) (fits-then (long-field number hn)
     (fits-then (long-field location hl) (fits-then (long-field block hb) (fits-then clocks (fits-word (lineFeed ∷ [])))))) in
@@ -136,16 +74,6 @@ region-fits number location block n whole rank hn hl hb few wholes ranks =
         (λ i h. clock-fits (getD whole i 0) (getD rank i 0) (wholes i h) (ranks i h)))
 
 -- ---- The lines of a block
-
--- Rising numbers, each with a text of its own.
-each-upto-list : {A : Type 0} (f : A → List ℕ) (g : ℕ → List A) (n : ℕ) → each f (upTo g n) ≡ upTo (λ i. each f (g i)) n
-each-upto-list f g zero = refl
-each-upto-list f g (suc n) =
-    each-append f (upTo g n) (g n) ∙ ap (λ (l : List ℕ). l ++ each f (g n)) (each-upto-list f g n)
-
-each-map : {A B : Type 0} (f : B → List ℕ) (g : A → B) (l : List A) → each f (map g l) ≡ each (λ x. f (g x)) l
-each-map f g [] = refl
-each-map f g (x ∷ l) = ap (λ (k : List ℕ). f (g x) ++ k) (each-map f g l)
 
 -- A delay line names each block at most once.
 delay-fits : (own count : ℕ) (p : ℕ → Bool) → own < count → count ≤ 4096

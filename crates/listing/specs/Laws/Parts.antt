@@ -8,7 +8,7 @@ use mathlib.Core.List.{List, [], _∷_, _++_, append-nil}
 use lib.Dec.{eqb, leb, ltb}
 use lib.ListN.{length, getD, take, drop, length-append, length-drop}
 use lib.Seq.{take-at}
-use borrow.Author.Tests.{eq-eqb, ne-eqb, lt-ltb, le-ltb, le-leb, lt-leb, leb-true}
+use borrow.Author.Tests.{eq-eqb, ne-eqb, lt-ltb, le-ltb, le-leb, lt-leb, leb-true, ltb-true}
 use Rattle.partition.specs.Passed.{Model, Region, Finite, Answer, refusal, accepted, readTable, entryBytes, maxEntries, listed}
 use Rattle.partition.specs.Instances.{regionOf, graph}
 use Rattle.partition.specs.View.{entryOf, Alone, isSeen, showingOf}
@@ -16,16 +16,17 @@ use Rattle.partition.specs.Laws.View.{listed-length, entry-listed, entry-small,
 use Rattle.partition.specs.declared.view.Showing.{Showing}
 use Rattle.partition.specs.declared.view.Showing.the-variants as S
 use Rattle.partition.specs.declared.view.Entry.{Entry}
-use Rattle.listing.specs.Text.{upTo, each}
+use Rattle.text.specs.Text.{upTo, each}
 use Rattle.listing.specs.Printed.{ClockRecord, RegionRecord, StepRecord, stepOf, stepLine, firstLine, regionLine, blockLine, delayLineOf}
 use Rattle.listing.specs.Printed.{otherBlocks, lowestOf, sizeBelow, regionRecord, blockRecord, blockLines}
+use Rattle.listing.specs.Printed.{regionRecords, blockRecords, totalsText}
 use Rattle.listing.specs.Slices.{stepAt, stepTextAt, rowRoom}
-use Rattle.listing.specs.Writing.{Adds}
+use Rattle.text.specs.Writing.{Adds}
 use Rattle.listing.specs.Parts.{linePart, partText, isBorne, textFrom, textOf, partFrom, partOf, fitted, bufferAfter, Within, mostBytes}
 use Rattle.listing.specs.Parts.{mostParts, Fits, Past, Gives, Parted}
 use Rattle.listing.specs.Laws.Lengths.{region-fits}
-use Rattle.listing.specs.Laws.Texts.{each-append}
-use Rattle.listing.specs.Laws.Writing.{adds-all}
+use Rattle.text.specs.Laws.Texts.{each-append}
+use Rattle.text.specs.Laws.Writing.{adds-all}
 use Rattle.listing.specs.declared.parts.Part.{Part}
 use Rattle.listing.specs.declared.parts.Part.the-variants as P
 
@@ -61,34 +62,36 @@ gives-end buffer = record { answer-is = refl; buffer-is = sym (whole (leb 0 (len
 -- ---- The line of a region
 
 -- As the code makes it, of an entry.
-abbrev pub entryRecord : (x block clocks : ℕ) → Entry → RegionRecord
-entryRecord x block clocks entry =
+abbrev pub entryRecord : (x label block clocks : ℕ) → Entry → RegionRecord
+entryRecord x label block clocks entry =
     record {
       number = x;
       location = entry .location;
+      label = label;
       block = block;
       clocks = upTo (λ i. record { whole = getD (entry .whole) i 0; rank = getD (entry .rank) i 0 } ∷ []) clocks;
     }
 
-pub region-room : (es : List ℕ) → ((k : ℕ) → getD es k 0 < 256) → (x block clocks : ℕ) (entry : Entry) → entry ≡ entryOf es x
+pub region-room : (es : List ℕ) → ((k : ℕ) → getD es k 0 < 256) → (x label block clocks : ℕ) (entry : Entry) → entry ≡ entryOf es x
     → x < 18446744073709551616 → block < 18446744073709551616 → clocks ≤ 4
-    → length (regionLine (entryRecord x block clocks entry)) ≤ 256
-region-room es small x block clocks entry e hx hb few =
+    → length (regionLine (entryRecord x label block clocks entry)) ≤ 256
+region-room es small x label block clocks entry e hx hb few =
     let bytes = entry-small es small x in
-    subst (λ (q : Entry). length (regionLine (entryRecord x block clocks q)) ≤ 256) (sym e)
+    subst (λ (q : Entry). length (regionLine (entryRecord x label block clocks q)) ≤ 256) (sym e)
     (region-fits x (entryOf es x .location) block clocks (entryOf es x .whole) (entryOf es x .rank) hx (omega (arith, bytes .0)) hb few
-    (λ i h. bytes .1 i) (λ i h. bytes .2 i))
+    (λ i h. bytes .1 i) (λ i h. bytes .2 i) label)
 
-pub region-text : (m : Model) (es list : List ℕ) (n x block clocks : ℕ) (entry : Entry) → entry ≡ entryOf es x → x < n
+pub region-text : (m : Model) (es list : List ℕ) (n x label block clocks : ℕ) (entry : Entry) → entry ≡ entryOf es x → x < n
     → n ≤ maxEntries → clocks ≡ m .clocks → block ≡ getD list x 0
-    → regionLine (entryRecord x block clocks entry) ≡ regionLine (regionRecord m (listed es n) list x)
-region-text m es list n x block clocks entry from h few same is =
+    → regionLine (entryRecord x label block clocks entry) ≡ regionLine (regionRecord m (listed es n) list x)
+region-text m es list n x label block clocks entry from h few same is =
     let q : Region = regionOf m (listed es n) x in
     let parts = entry-listed m es n x h few q refl in
     let clocksOf : List ℕ → List ℕ → ℕ → List ClockRecord =
     λ w r k. upTo (λ i. record { whole = getD w i 0; rank = getD r i 0 } ∷ []) k in
-    let made : ℕ → ℕ → List ClockRecord → RegionRecord = λ l b k. record { number = x; location = l; block = b; clocks = k } in
-    ap (λ (entry : Entry). regionLine (entryRecord x block clocks entry)) from
+    let made : ℕ → ℕ → List ClockRecord → RegionRecord =
+    λ l b k. record { number = x; location = l; label = label; block = b; clocks = k } in
+    ap (λ (entry : Entry). regionLine (entryRecord x label block clocks entry)) from
     ∙ ap regionLine
     (ap (λ (l : ℕ). made l block (clocksOf (entryOf es x .whole) (entryOf es x .rank) clocks)) (parts .0)
     ∙ ap (λ (b : ℕ). made (q .location) b (clocksOf (entryOf es x .whole) (entryOf es x .rank) clocks)) is
@@ -275,9 +278,22 @@ module _ (m : Model) (found : List Region) (list : List ℕ) (blocks : ℕ) wher
       ap (λ (k : ℕ). blockLines (blockRecord (graph m found) list blocks (x - k))) e
       ∙ rw (le-ltb x (length found) (omega (arith, e, h)), lt-ltb (x - length found) blocks (omega (arith, e, less))) refl
 
-  pub line-end : (n x : ℕ) → n ≡ length found → n ≤ x → blocks ≤ x - n → [] ≡ linePart m found list blocks x
+  pub line-totals : (n x : ℕ) → n ≡ length found → n ≤ x → x - n ≡ blocks
+      → totalsText (regionRecords m found list) (blockRecords m found list blocks) ≡ linePart m found list blocks x
+  line-totals n x e h same =
+      rw (
+        le-ltb x (length found) (omega (arith, e, h)),
+        le-ltb (x - length found) blocks (omega (arith, e, same)),
+        eq-eqb (x - length found) blocks (omega (arith, e, same)),
+      ) refl
+
+  pub line-end : (n x : ℕ) → n ≡ length found → n ≤ x → blocks < x - n → [] ≡ linePart m found list blocks x
   line-end n x e h past =
-      rw (le-ltb x (length found) (omega (arith, e, h)), le-ltb (x - length found) blocks (omega (arith, e, past))) refl
+      rw (
+        le-ltb x (length found) (omega (arith, e, h)),
+        le-ltb (x - length found) blocks (omega (arith, e, past)),
+        ne-eqb (x - length found) blocks (λ same. omega (arith, e, past, same)),
+      ) refl
 
   pub part-first : (n rounds part : ℕ) → n ≡ length found → part ≡ 0 → firstLine n blocks rounds ≡ partText m found list blocks rounds part
   part-first n rounds part e z =
@@ -324,13 +340,19 @@ module _ (regions blocks entries list : ℕ) where
   and-both false y e = absurd (false≢true e)
 
   pub borne-parts : isBorne regions blocks entries list ≡ true
-      → (regions ≤ maxEntries) × (entryBytes * regions ≤ entries) × (regions ≤ list) × (blocks ≤ regions)
+      → (regions ≤ maxEntries) × (entryBytes * regions ≤ entries) × (regions ≤ list) × (blocks ≤ regions) × (0 < blocks)
   borne-parts e =
       let (a, s) = and-both (leb regions maxEntries) _ e in
       let (b, t) = and-both (leb (entryBytes * regions) entries) _ s in
       let (c, u) = and-both (leb regions list) _ t in
       let (z, d) = and-both (ltb 0 blocks) _ u in
-      (leb-true regions maxEntries a, leb-true (entryBytes * regions) entries b, leb-true regions list c, leb-true blocks regions d)
+      (
+        leb-true regions maxEntries a,
+        leb-true (entryBytes * regions) entries b,
+        leb-true regions list c,
+        leb-true blocks regions d,
+        ltb-true 0 blocks z,
+      )
 
 -- ---- How long, and how many
 
@@ -353,7 +375,7 @@ past-text m entries list regions blocks rounds part h = go (isBorne regions bloc
     go : (b : Bool) → isBorne regions blocks (length entries) (length list) ≡ b
         → [] ≡ cond b (partText m (listed entries regions) (take regions list) blocks rounds part) []
     go true e =
-        let (few, _, _, fewer) = borne-parts regions blocks (length entries) (length list) e in
+        let (few, _, _, fewer, _) = borne-parts regions blocks (length entries) (length list) e in
         let n = listed-length entries regions in
         line-end m (listed entries regions) (take regions list) blocks regions (part - 1) (sym n) (omega (arith, few, h))
         (omega (arith, few, fewer, h))

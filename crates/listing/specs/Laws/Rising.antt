@@ -11,51 +11,24 @@ use lib.ListN.{length, getD, take, set}
 use lib.Seq.{length-take-le, take-all, take-suc-set}
 use borrow.Author.Tests.{eq-eqb, ne-eqb}
 use Rattle.partition.specs.Passed.{Branch}
-use Rattle.listing.specs.Text.{lineFeed, delayWord, field, upTo, rising, each}
+use Rattle.text.specs.Text.{lineFeed, delayWord, field, upTo, rising, each}
 use Rattle.listing.specs.Printed.{delayLineOf, isAmong, targetsOf, weightInto, shareField, sharesOf, stepLine}
 use Rattle.listing.specs.Slices.{Next, branchesFrom, stepAt, stepTextAt}
-use Rattle.listing.specs.Writing.{Adds}
-use Rattle.listing.specs.Laws.Writing.{adds-none, adds-then, adds-same}
+use Rattle.text.specs.Writing.{Adds}
+use Rattle.text.specs.Laws.Texts.{each-append, each-map, rising-hit, rising-skip}
+use Rattle.text.specs.Laws.Writing.{adds-none, adds-then, adds-same}
 
 add-one : (n : ℕ) → n + 1 ≡ suc n
 add-one n = omega arith
 
--- ---- Texts of lists
-
-each-two : {A : Type 0} (f : A → List ℕ) (l m : List A) → each f (l ++ m) ≡ each f l ++ each f m
-each-two f [] m = refl
-each-two f (x ∷ l) m = ap (λ (r : List ℕ). f x ++ r) (each-two f l m) ∙ sym (append-assoc (f x) (each f l) (each f m))
-
--- The text of a list of images.
-each-image : {A B : Type 0} (f : B → List ℕ) (g : A → B) (l : List A) → each (λ x. f (g x)) l ≡ each f (map g l)
-each-image f g [] = refl
-each-image f g (x ∷ l) = ap (λ (r : List ℕ). f (g x) ++ r) (each-image f g l)
-
 -- ---- The numbers that pass a test
 
 module _ (p : ℕ → Bool) where
-  rising-hit : (c : ℕ) → p c ≡ true → rising p (suc c) ≡ rising p c ++ (c ∷ [])
-  rising-hit c e = ap (λ (b : Bool). rising p c ++ cond b (c ∷ []) []) e
-
-  rising-miss : (c : ℕ) → p c ≡ false → rising p (suc c) ≡ rising p c
-  rising-miss c e = ap (λ (b : Bool). rising p c ++ cond b (c ∷ []) []) e ∙ append-nil (rising p c)
-
-  -- Where none passes in between.
-  rising-skip : (from c : ℕ) → from ≤ c → ((j : ℕ) → from ≤ j → j < c → p j ≡ false) → rising p c ≡ rising p from
-  rising-skip from zero h f = ap (λ (k : ℕ). rising p k) (let none : 0 ≡ from = omega arith in none)
-  rising-skip from (suc c) h f =
-      elim (eq-or-lt-of-le h) [
-        | inl e ↦ ap (λ (k : ℕ). rising p k) (sym e)
-        | inr l ↦
-            let before : from ≤ c = omega arith in
-            rising-miss c (f c before (omega arith)) ∙ rising-skip from c before (λ j a b. f j a (omega arith))
-      ]
-
   rising-next : (from count c : ℕ) → from ≤ count → Next p from count c → rising p c ≡ rising p from
   rising-next from count c h n =
       elim (eq-or-lt-of-le (n .most)) [
-        | inl e ↦ rising-skip from c (omega arith) (n .between)
-        | inr l ↦ rising-skip from c (n .passes l .0) (n .between)
+        | inl e ↦ rising-skip p from c (omega arith) (n .between)
+        | inr l ↦ rising-skip p from c (n .passes l .0) (n .between)
       ]
 
   -- The next is past the last.
@@ -99,8 +72,8 @@ module _ (p : ℕ → Bool) where
         same : each f (rising p d) ≡ each f (rising p c) ++ f c
         same =
             ap (λ (l : List ℕ). each f l)
-            (rising-next (c + 1) count d (omega arith) n ∙ ap (λ (k : ℕ). rising p k) (add-one c) ∙ rising-hit c e)
-            ∙ each-two f (rising p c) (c ∷ [])
+            (rising-next (c + 1) count d (omega arith) n ∙ ap (λ (k : ℕ). rising p k) (add-one c) ∙ rising-hit p c e)
+            ∙ each-append f (rising p c) (c ∷ [])
             ∙ ap (λ (l : List ℕ). each f (rising p c) ++ l) (append-nil (f c))
 
     pub found-all : {text₁ : List ℕ} {at₁ : ℕ} (c : ℕ) → c ≤ count → count ≤ c → Adds text at text₁ at₁ (each f (rising p c))
@@ -141,8 +114,8 @@ module _ (list : List ℕ) (denominator : ℕ) (branches : List (Branch ℕ)) wh
     share-all targets count e =
         adds-same
         (ap (λ (l : List ℕ). each shareText (rising (λ b. isAmong list b l) count)) e
-        ∙ each-image shareField (λ c. record { block = c; weight = weightInto list c branches; denominator = denominator })
-        (rising (λ b. isAmong list b (targetsOf branches)) count))
+        ∙ sym (each-map shareField (λ c. record { block = c; weight = weightInto list c branches; denominator = denominator })
+        (rising (λ b. isAmong list b (targetsOf branches)) count)))
 
 -- The weight into a block, from the last branch on.
 module _ (list rows : List ℕ) (c from k : ℕ) where

@@ -1,53 +1,25 @@
 -- The shares of a step in what a partition call left: exactly one number is each rounded to (`shares-rounded`), and it stands in the text
 -- (`shares-printed`); the blocks named are those landed in, however small their shares (`shares-landed`, `shares-only`).
-use Prim.Native.Nat.{ℕ, zero, suc, _<_}
-use native.Mathlib.Decide.{ℕ-discrete}
-use native.Mathlib.Omega.{arith}
+use Prim.Native.Nat.{ℕ, _<_}
 use mathlib.Core.Path.{_≡_, refl, sym, _∙_, ap, subst}
-use mathlib.Core.Bool.{Bool, true, false, cond, _||_, or-true, false≢true}
+use mathlib.Core.Bool.{Bool, true, false, _||_, or-true, false≢true}
 use mathlib.Core.Logic.{_↔_, _⊎_, inl, inr}
 use mathlib.Core.List.{List, [], _∷_, _++_, List·Memᴰ, List·Memᴰ·head, List·Memᴰ·tail, List·Memᴰ·not-nil, List·Memᴰ·cases-cons}
-use mathlib.Core.List.{Memᴰ·append-left, Memᴰ·append-right, List·Memᴰ·append-cases, Memᴰ·map, Memᴰ·of-map}
+use mathlib.Core.List.{Memᴰ·map, Memᴰ·of-map}
 use lib.Dec.{eqb}
 use lib.ListN.{getD, take}
 use borrow.Author.Tests.{eq-eqb, eqb-true}
 use Rattle.partition.specs.Passed.{Finite, Branch}
 use Rattle.partition.specs.Instances.{graph}
 use Rattle.partition.specs.Laws.Left.{Left}
-use Rattle.listing.specs.Text.{colon, decimal, field, rising}
+use Rattle.text.specs.Text.{colon, decimal, field, rising}
 use Rattle.rounding.specs.Rounding.{Rounded, tenThousandths}
 use Rattle.listing.specs.Printed.{ShareRecord, isAmong, targetsOf, weightInto, shareField, sharesOf}
 use Rattle.rounding.specs.Laws.Rounding.{rounded-iff}
+use Rattle.text.specs.Laws.Texts.{rising-there, rising-is}
 use Rattle.listing.specs.Laws.Sense.{block-below, targets-inside, wholes-some}
 
 -- ---- Items of lists
-
--- The numbers below n that pass a test are in the list of these, and no other is.
-rising-there : (p : ℕ → Bool) (n c : ℕ) → c < n → p c ≡ true → List·Memᴰ c (rising p n)
-rising-there p zero c h is = absurd (omega (arith, h))
-rising-there p (suc n) c h is = go (ℕ-discrete c n) (λ k. rising-there p n c k is)
-  where
-    go : Dec (c ≡ n) → (c < n → List·Memᴰ c (rising p n)) → List·Memᴰ c (rising p (suc n))
-    go (yes e) before =
-        Memᴰ·append-right (rising p n)
-        (subst (λ (t : Bool). List·Memᴰ c (cond t (n ∷ []) [])) (sym (subst (λ (k : ℕ). p k ≡ true) e is)) (List·Memᴰ·head e))
-    go (no other) before = Memᴰ·append-left (cond (p n) (n ∷ []) []) (before (omega (arith, h, other)))
-
-rising-passes : (p : ℕ → Bool) (n c : ℕ) → List·Memᴰ c (rising p n) → p c ≡ true
-rising-passes p zero c m = absurd (List·Memᴰ·not-nil m)
-rising-passes p (suc n) c m = go (List·Memᴰ·append-cases (rising p n) m) (rising-passes p n c)
-  where
-    last : (b : Bool) → p n ≡ b → List·Memᴰ c (cond b (n ∷ []) []) → p c ≡ true
-    last true is k = one (List·Memᴰ·cases-cons k)
-      where
-        one : (c ≡ n) ⊎ List·Memᴰ c [] → p c ≡ true
-        one (inl e) = ap p e ∙ is
-        one (inr none) = absurd (List·Memᴰ·not-nil none)
-    last false is k = absurd (List·Memᴰ·not-nil k)
-
-    go : List·Memᴰ c (rising p n) ⊎ List·Memᴰ c (cond (p n) (n ∷ []) []) → (List·Memᴰ c (rising p n) → p c ≡ true) → p c ≡ true
-    go (inl k) later = later k
-    go (inr k) later = last (p n) refl k
 
 -- A block is among those of the targets where a branch lands in it, and nowhere else.
 among-there : (list : List ℕ) (l : List (Branch ℕ)) (t : Branch ℕ) → List·Memᴰ t l
@@ -122,5 +94,5 @@ module _ {table : List ℕ} {cap n b k : ℕ} {entries list : List ℕ} (left : 
     shares-only s m =
         let (c, among, is) = share-of s m in
         let (t, there, lands) =
-        among-some L c (F .branches x e) (rising-passes (λ d. isAmong L d (targetsOf (F .branches x e))) b c among) in
+        among-some L c (F .branches x e) (rising-is (λ d. isAmong L d (targetsOf (F .branches x e))) b c among .1) in
         (t, there, lands ∙ ap (λ (r : ShareRecord). r .block) is)

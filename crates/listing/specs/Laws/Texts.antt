@@ -1,29 +1,12 @@
--- Texts one after the other.
-use Prim.Native.Nat.{ℕ, suc, _+_}
+-- The clocks of a region, one after the other.
+use Prim.Native.Nat.{ℕ, _+_}
 use native.Mathlib.Numerals.{add-one}
-use mathlib.Core.Path.{_≡_, refl, sym, _∙_, ap}
-use mathlib.Core.List.{List, [], _∷_, _++_, append-assoc, append-nil}
+use mathlib.Core.Path.{_≡_, sym, _∙_, ap}
+use mathlib.Core.List.{List, [], _∷_, _++_}
 use lib.ListN.{getD}
-use Rattle.listing.specs.Text.{upTo, each}
+use Rattle.text.specs.Text.{upTo, each}
+use Rattle.text.specs.Laws.Texts.{each-up}
 use Rattle.listing.specs.Printed.{ClockRecord, clockField}
-
--- The texts of two lists, one after the other.
-pub each-append : {A : Type 0} (f : A → List ℕ) (l m : List A) → each f (l ++ m) ≡ each f l ++ each f m
-each-append f [] m = refl
-each-append f (x ∷ l) m = ap (λ (r : List ℕ). f x ++ r) (each-append f l m) ∙ sym (append-assoc (f x) (each f l) (each f m))
-
--- The text of one item.
-pub each-one : {A : Type 0} (f : A → List ℕ) (x : A) → each f (x ∷ []) ≡ f x
-each-one f x = append-nil (f x)
-
--- The text of one item more.
-pub each-up : {A : Type 0} (f : A → List ℕ) (g : ℕ → A) (n : ℕ)
-    → each f (upTo (λ i. g i ∷ []) (suc n)) ≡ each f (upTo (λ i. g i ∷ []) n) ++ f (g n)
-each-up f g n =
-    each-append f (upTo (λ i. g i ∷ []) n) (g n ∷ [])
-    ∙ ap (λ (r : List ℕ). each f (upTo (λ i. g i ∷ []) n) ++ r) (each-one f (g n))
-
--- ---- The clocks of a region
 
 -- The first n clocks, of integer parts and ranks.
 abbrev pub clocksTo : (whole rank : List ℕ) → ℕ → List ClockRecord

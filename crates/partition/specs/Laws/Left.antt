@@ -1,6 +1,6 @@
 -- What a partition call that succeeded left, said for the layer above: what its three counts are, and what the lent entries and the two
--- lent block lists then hold (`reduced-first`, `reduced-second`); that the blocks so listed are all taken, and that the graph does not
--- lead out of its regions (`left-taken` to `left-wholes`). And what one that refused says of other calls (`reduced-refused`,
+-- lent block lists then hold (`reduced-first`, `reduced-second`); that the blocks so listed are all taken, that the graph does not
+-- lead out of its regions, and that a block has one label (`left-taken` to `left-labels`). And what one that refused says of other calls (`reduced-refused`,
 -- `no-sixteen`).
 use Prim.Native.Nat.{ℕ, _*_, _≤_, _<_}
 use native.Mathlib.Omega.{arith}
@@ -9,6 +9,7 @@ use mathlib.Core.Bool.{Bool, true, false, cond}
 use mathlib.Core.List.{List, _++_, List·Memᴰ}
 use lib.ListN.{length, getD, take, drop, length-append}
 use lib.Seq.{take-at}
+use borrow.Author.Tests.{eq-eqb}
 use Rattle.regions.specs.Passed.{Model, Answer, refusal, accepted, readTable, Region}
 use Rattle.regions.specs.Call.{Outcome, refused, cut, whole, fromAnswer, roomFor, outcomeOf, entriesAfter}
 use Rattle.regions.specs.Entries.{entryBytes, maxEntries}
@@ -18,7 +19,7 @@ use Rattle.regions.specs.Laws.Call.{whole-graph}
 use Rattle.regions.specs.Laws.Numbers.{refused-number}
 use Rattle.bisimulation.specs.Structures.{Branch, Closed}
 use Rattle.bisimulation.specs.Finite.{Finite, structure, related, blocks, rounds, lastBlocks, blockCount}
-use Rattle.bisimulation.specs.Laws.Blocks.{blocks-length, blocks-range, blocks-taken, count-some}
+use Rattle.bisimulation.specs.Laws.Blocks.{blocks-length, blocks-range, blocks-taken, count-some, last-bisimulation}
 use Rattle.bisimulation.specs.Laws.Leads.{leaders-most}
 use Rattle.partition.specs.Instances.{graph}
 use Rattle.partition.specs.Calls.{fromOutcome, afterGraph, isShort, blocksOf, reduceOf, listAfter}
@@ -162,6 +163,12 @@ module _ {table : List ℕ} {cap n b k : ℕ} {entries list : List ℕ} (left : 
   -- The denominator of an available edge is not 0.
   pub left-wholes : (x e : ℕ) → x < n → e < F .edges → F .available x e ≡ true → 0 < F .whole x e
   left-wholes x e h k can = closed .positive {x = x} {e = e} (omega (arith, h, left .regions-are)) (k, can)
+
+  -- Regions of one block bear one label.
+  pub left-labels : (x y : ℕ) → x < n → y < n → getD (take n list) x 0 ≡ getD (take n list) y 0 → F .label x ≡ F .label y
+  left-labels x y hx hy e =
+      last-bisimulation F closed .labels {x = x} {y = y} (omega (arith, hx, left .regions-are)) (omega (arith, hy, left .regions-are))
+      (eq-eqb (getD (lastBlocks F) x 0) (getD (lastBlocks F) y 0) (sym (number-is x) ∙ e ∙ number-is y))
 
 -- ---- A call that refused
 

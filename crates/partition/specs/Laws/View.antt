@@ -15,7 +15,7 @@ use Rattle.regions.specs.Entries.{entryBytes, maxEntries, regionAt}
 use Rattle.regions.specs.View.{labelOf, Way, wayOf}
 use Rattle.regions.specs.Sight as R
 use Rattle.regions.specs.Sight.{noRegion, entryIn, delayList, waysFrom, Stepping, isSeen, sightOf, Sighted}
-use Rattle.regions.specs.Laws.Sight.{seen-parts, seen-rest}
+use Rattle.regions.specs.Laws.Sight.{seen-parts, seen-rest, labels-at}
 use Rattle.regions.specs.Laws.Shown.{few-edges, few-branches}
 pub use Rattle.regions.specs.Laws.Shown.{few-clocks}
 use Rattle.regions.specs.declared.sight.Checked.{Checked as RegionsChecked}
@@ -25,7 +25,7 @@ use Rattle.regions.specs.declared.sight.Sight.the-variants as RS
 use Rattle.bisimulation.specs.Structures.{Branch}
 use Rattle.partition.specs.Instances.{regionOf, landsAt, graph}
 use Rattle.comparison.specs.Held.{rowRoom}
-use Rattle.partition.specs.View.{checkedOf, entryOf, branchesFrom, branchesAt, Alone, showingOf}
+use Rattle.partition.specs.View.{checkedOf, labelList, entryOf, branchesFrom, branchesAt, Alone, showingOf}
 use Rattle.partition.specs.declared.view.Checked.{Checked}
 use Rattle.partition.specs.declared.view.Checked.the-variants as C
 use Rattle.partition.specs.declared.view.Showing.{Showing}
@@ -133,6 +133,14 @@ entry-listed m es n x h few q e =
     let is : entryIn es x ≡ q =
     ap (λ (b : Bool). cond b (regionAt es x) noRegion) (lt-ltb x maxEntries (omega (arith, h, few))) ∙ sym (here m es n x h) ∙ sym e in
     (ap (λ (r : Region). r .location) is, ap (λ (r : Region). r .whole) is, ap (λ (r : Region). r .rank) is)
+
+-- The label of an item of the graph is that of its entry's location.
+pub label-listed : (m : Model) (es : List ℕ) (n x k : ℕ) → x < n → n ≤ maxEntries → entryOf es x .location < k
+    → getD (labelList m k) (entryOf es x .location) 0 ≡ graph m (listed es n) .label x
+unfolding labelOf
+label-listed m es n x k h few below =
+    labels-at m k (entryOf es x .location) below
+    ∙ ap (λ (l : ℕ). getD (m .labels) l 0) (entry-listed m es n x h few (regionOf m (listed es n) x) refl .0)
 
 four-small : (a b c d : ℕ) → a < 256 → b < 256 → c < 256 → d < 256 → (i : ℕ) → getD (a ∷ b ∷ c ∷ d ∷ []) i 0 < 256
 four-small a b c d ha hb hc hd zero = ha

@@ -17,7 +17,7 @@ abbrev Inv-loop : tie.InvT-loop
 Inv-loop table entries list regions blocks rounds buffer₀ part₀ buffer part = (length buffer ≡ length buffer₀) × (part ≤ mostParts)
 
 abbrev μ-loop : tie.MeasureT-loop
-μ-loop table entries list regions blocks rounds buffer₀ part₀ buffer part = 8194 - part
+μ-loop table entries list regions blocks rounds buffer₀ part₀ buffer part = 8195 - part
 
 -- src/main.rt:82:5
 loop-holds : tie.Need-loop-holds Inv-loop μ-loop

@@ -1,13 +1,14 @@
 -- Laws for the code that says what is known of one region: whether it is seen, the rows of its edges, and their branches.
 use Prim.Native.Nat.{ℕ, zero, suc, _+_, _*_, _%_, _≤_, _<_}
 use native.Mathlib.Omega.{arith}
+use native.Mathlib.Numerals.{add-one}
 use mathlib.Core.Path.{_≡_, refl, sym, _∙_, ap, ap₂, subst}
 use mathlib.Core.Bool.{Bool, true, false, cond, _&&_, false≢true}
 use mathlib.Core.List.{List, [], _∷_, _++_, map}
 use lib.Dec.{leb, ltb, eqb}
-use lib.ListN.{length, getD, set, drop, length-set, length-map}
-use lib.Seq.{getD-set-same, getD-set-other}
-use borrow.Author.Tests.{eqb-true, eqb-false, ltb-true, leb-true, lt-ltb, le-ltb, le-leb, lt-leb}
+use lib.ListN.{length, getD, take, set, drop, length-set, length-map, length-append, List·getD-append}
+use lib.Seq.{take-all, take-suc-set, getD-at, getD-set-same, getD-set-other}
+use borrow.Author.Tests.{eqb-true, eqb-false, ltb-true, ltb-false, leb-true, lt-ltb, le-ltb, le-leb, lt-leb}
 use Rattle.table.specs.Model.{Model}
 use Rattle.table.specs.Access.{noBranch}
 use Rattle.table.specs.Reading.{Answer, refusal, accepted}
@@ -19,7 +20,7 @@ use Rattle.regions.specs.Explore.{listed}
 use Rattle.regions.specs.View.{numberIn, labelOf, Way, wayOf}
 use Rattle.regions.specs.Shown.{branchOf}
 use Rattle.regions.specs.Filling.{Before, Fitting}
-use Rattle.regions.specs.Sight.{entryIn, delayList, waysFrom, Ways, Stepping, isSeen, sightOf, Sighted}
+use Rattle.regions.specs.Sight.{labelList, entryIn, delayList, waysFrom, Ways, Stepping, isSeen, sightOf, Sighted}
 use Rattle.regions.specs.Laws.Filling.{before-none, before-on}
 use Rattle.clocks.specs.declared.region.Region.{Region}
 use Rattle.regions.specs.declared.sight.Sight.the-variants as S
@@ -27,6 +28,38 @@ use Rattle.regions.specs.declared.sight.Sight.the-variants as S
 -- An entry with a number below 4,096 is looked at.
 pub entry-inside : (es : List ℕ) (j : ℕ) → j < maxEntries → entryIn es j ≡ regionAt es j
 entry-inside es j h = rw (lt-ltb j maxEntries h) refl
+
+-- ---- The labels of locations
+
+pub labels-on : (m : Model) (l : List ℕ) (i v : ℕ) → i < length l → v ≡ getD (m .labels) i 0 → take i l ≡ labelList m i
+    → take (i + 1) (set l i v) ≡ labelList m (i + 1)
+labels-on m l i v h is before =
+    ap (λ (k : ℕ). take k (set l i v)) (add-one i)
+    ∙ take-suc-set l i v h
+    ∙ ap₂ (λ (k : List ℕ) (y : ℕ). k ++ (y ∷ [])) before is
+    ∙ ap (labelList m) (sym (add-one i))
+
+pub labels-all : (m : Model) (l : List ℕ) (i n : ℕ) → length l ≡ n → n ≤ i → i ≤ n → take i l ≡ labelList m i → l ≡ labelList m n
+labels-all m l i n long past within is =
+    let all : i ≡ n = omega (arith, past, within) in
+    sym (take-all i l (omega (arith, long, past))) ∙ is ∙ ap (labelList m) all
+
+labels-length : (m : Model) (n : ℕ) → length (labelList m n) ≡ n
+labels-length m zero = refl
+labels-length m (suc n) = length-append (labelList m n) (getD (m .labels) n 0 ∷ []) ∙ omega (arith, labels-length m n)
+
+pub labels-at : (m : Model) (n i : ℕ) → i < n → getD (labelList m n) i 0 ≡ getD (m .labels) i 0
+labels-at m zero i h = absurd (omega (arith, h))
+labels-at m (suc n) i h = go (ltb i n) refl (labels-at m n i)
+  where
+    go : (b : Bool) → ltb i n ≡ b → (i < n → getD (labelList m n) i 0 ≡ getD (m .labels) i 0)
+        → getD (labelList m n ++ (getD (m .labels) n 0 ∷ [])) i 0 ≡ getD (m .labels) i 0
+    go true e rest =
+        List·getD-append (labelList m n) (getD (m .labels) n 0 ∷ []) 0 i (omega (arith, labels-length m n, ltb-true i n e))
+        ∙ rest (ltb-true i n e)
+    go false e rest =
+        let last : n ≡ i = omega (arith, h, ltb-false i n e) in
+        getD-at (labelList m n) (getD (m .labels) n 0) [] 0 i (labels-length m n ∙ last) ∙ ap (λ (k : ℕ). getD (m .labels) k 0) last
 
 -- ---- Whether a region is seen
 

@@ -11,7 +11,7 @@ abbrev Inv-loop : tie.InvT-loop
 Inv-loop bytes entries list regions blocks rounds buffer₀ text₀ part₀ buffer text part = length buffer ≡ length buffer₀
 
 abbrev μ-loop : tie.MeasureT-loop
-μ-loop bytes entries list regions blocks rounds buffer₀ text₀ part₀ buffer text part = 8194 - part
+μ-loop bytes entries list regions blocks rounds buffer₀ text₀ part₀ buffer text part = 8195 - part
 
 loop-holds : tie.Need-loop-holds Inv-loop μ-loop
 loop-holds c = search needs

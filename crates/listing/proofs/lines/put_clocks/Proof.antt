@@ -1,8 +1,8 @@
 -- `put_clocks` meets its contract. Assumes nothing.
-use Rattle.listing.specs.Text.{each}
+use Rattle.text.specs.Text.{each}
 use Rattle.listing.specs.Printed.{clockField}
-use Rattle.listing.specs.Writing.{Adds}
-use Rattle.listing.specs.Laws.Writing.{adds-none, adds-then, adds-same}
+use Rattle.text.specs.Writing.{Adds}
+use Rattle.text.specs.Laws.Writing.{adds-none, adds-then, adds-same}
 use Rattle.listing.specs.Laws.Texts.{clocksTo, clocks-on}
 use native.Mathlib.Omega.{arith}
 use mathlib.Core.Path.{_≡_, ap}

@@ -1,5 +1,5 @@
 -- `put_rank` meets its contract. Assumes nothing.
-use Rattle.listing.specs.Laws.Writing.{adds-none, adds-then, adds-same}
+use Rattle.text.specs.Laws.Writing.{adds-none, adds-then, adds-same}
 use Rattle.partition.specs.Passed.{cond-yes, cond-no}
 use mathlib.Core.Path.{sym}
 use lib.Dec.{eqb}

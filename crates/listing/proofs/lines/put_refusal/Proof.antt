@@ -1,5 +1,5 @@
 -- `put_refusal` meets its contract. Assumes nothing.
-use Rattle.listing.specs.Laws.Writing.{adds-then}
+use Rattle.text.specs.Laws.Writing.{adds-then}
 use borrow.Author.Needs.{needs}
 use Rattle.listing.proofs.lines.put_refusal.Statement.{statement}
 use Rattle.listing.proofs.lines.put_refusal.Tie as tie

@@ -1,5 +1,5 @@
 -- `put_region` meets its contract. Assumes nothing.
-use Rattle.listing.specs.Laws.Writing.{adds-then}
+use Rattle.text.specs.Laws.Writing.{adds-then}
 use borrow.Author.Needs.{needs}
 use Rattle.listing.proofs.lines.put_region.Statement.{statement}
 use Rattle.listing.proofs.lines.put_region.Tie as tie
@@ -32,7 +32,7 @@ returns c =
     let put-field2 = c .before .before .before .before .before .before .before .before .before .before .put-field2 in
     let put-clocks = c .before .before .before .before .before .before .put-clocks in
     let put = c .before .before .put in
-    adds-then put-named.ensures (adds-then put-field.ensures (adds-then put-field2.ensures (adds-then put-clocks.ensures
+    λ label. adds-then put-named.ensures (adds-then put-field.ensures (adds-then put-field2.ensures (adds-then put-clocks.ensures
     put.ensures)))
 
 pub put-region-spec : {M : Type 1} → statement M

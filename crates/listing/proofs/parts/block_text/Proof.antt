@@ -4,11 +4,11 @@ use native.Mathlib.Omega.{arith}
 use mathlib.Core.Path.{ap}
 use mathlib.Core.List.{[], _++_}
 use lib.ListN.{length-replicate}
-use Rattle.listing.specs.Text.{upTo}
+use Rattle.text.specs.Text.{upTo}
 use Rattle.listing.specs.Printed.{blockLine, delayLineOf, otherBlocks}
 use Rattle.listing.specs.Slices.{stepTextAt}
 use Rattle.listing.specs.Laws.Lengths.{block-fits}
-use Rattle.listing.specs.Laws.Writing.{adds-then}
+use Rattle.text.specs.Laws.Writing.{adds-then}
 use Rattle.listing.specs.Laws.Parts.{adds-within, gives-text, gives-same}
 use borrow.Author.Needs.{needs}
 use Rattle.listing.proofs.parts.block_text.Statement.{statement}

@@ -1,51 +1,71 @@
 -- `line_part` meets its contract. Assumes nothing.
 use mathlib.Core.Path.{sym}
+use native.Mathlib.Omega.{arith}
 use lib.ListN.{length}
 use Rattle.partition.specs.Passed.{listed}
 use Rattle.partition.specs.Laws.View.{listed-length}
-use Rattle.listing.specs.Laws.Parts.{gives-same, gives-end, line-region, line-block, line-end}
+use Rattle.listing.specs.Laws.Parts.{gives-same, gives-end, line-region, line-block, line-totals, line-end}
 use borrow.Author.Needs.{needs}
 use Rattle.listing.proofs.parts.line_part.Statement.{statement}
 use Rattle.listing.proofs.parts.line_part.Tie as tie
+use Rattle.listing.proofs.parts.line_part.Reads as reads
+use Rattle.listing.proofs.parts.line_part.Lts as lts
+use Rattle.listing.proofs.parts.block_part.Reads as block-part-reads
+use Rattle.listing.proofs.parts.region_part.Reads as region-part-reads
+use Rattle.listing.proofs.parts.totals_part.Reads as totals-part-reads
 
+-- src/parts.rt:234:9
 region-part-requires : tie.Need-region-part-requires
 region-part-requires c κs = search needs
 
+-- src/parts.rt:234:9
 same-length : tie.Need-same-length
 same-length c = search needs
 
+-- src/parts.rt:234:9
 returns : tie.Need-returns
-returns c =
-    let args = c .before .before .before .before .before .before .before .before .before .args in
-    let if1 = c .before .before .before .before .if1 in
-    let region-part = c .before .before .region-part in
+returns c = let args = (c .before .before .before .before .before .before .before .before .before .args) in
+    let if1 = (c .before .before .before .before .if1) in
+    let region-part = (c .before .before .region-part) in
     λ m read clocks. gives-same (args .buffer .now) _ _ (line-region m (listed (args .entries .now) (length (args .list .now)))
     (args .list .now) (args .blocks) (length (args .list .now)) (args .x) (sym (listed-length (args .entries .now) (length
     (args .list .now)))) (if1 .taken)) (region-part .ensures m clocks)
 
+-- src/parts.rt:238:9
 block-part-requires : tie.Need-block-part-requires
 block-part-requires c κs = search needs
 
+-- src/parts.rt:238:9
 same-length-2 : tie.Need-same-length-2
 same-length-2 c = search needs
 
+-- src/parts.rt:238:9
 returns-2 : tie.Need-returns-2
-returns-2 c =
-    let args = c .before .before .before .before .before .before .before .before .before .before .args in
-    let if1 = c .before .before .before .before .before .if1 in
-    let if2 = c .before .before .before .before .if2 in
-    let block-part = c .before .before .block-part in
+returns-2 c = let args = (c .before .before .before .before .before .before .before .before .before .before .args) in
+    let if1 = (c .before .before .before .before .before .if1) in
+    let if2 = (c .before .before .before .before .if2) in
+    let block-part = (c .before .before .block-part) in
     λ m read clocks. gives-same (args .buffer .now) _ _ (line-block m (listed (args .entries .now) (length (args .list .now)))
     (args .list .now) (args .blocks) (length (args .list .now)) (args .x) (sym (listed-length (args .entries .now) (length
     (args .list .now)))) (if1 .left) (if2 .taken)) (block-part .ensures m read)
 
+-- src/parts.rt:241:9
+totals-part-requires : tie.Need-totals-part-requires
+totals-part-requires c κs = ((c .before .before .before .before .before .before .before .before .pre) .4, (c .before .before .before .before .before .before .before .before .pre) .1, (c .before .before .before .before .before .before .before .before .pre) .2)
+
+-- src/parts.rt:241:9
+same-length-3 : tie.Need-same-length-3
+same-length-3 c = search needs
+
+-- src/parts.rt:241:9
 returns-3 : tie.Need-returns-3
-returns-3 c =
-    let args = c .before .before .before .before .before .before .args in
-    let if1 = c .before .if1 in
-    λ m read clocks. gives-same (args .buffer .now) _ _ (line-end m (listed (args .entries .now) (length (args .list .now)))
-    (args .list .now) (args .blocks) (length (args .list .now)) (args .x) (sym (listed-length (args .entries .now) (length
-    (args .list .now)))) (if1 .left) (c .if2 .left)) (gives-end (args .buffer .now))
+returns-3 c = λ m read clocks. gives-same ((c .before .before .before .before .before .before .before .before .before .before .before .args) .buffer .now) _ _ (line-totals m (listed ((c .before .before .before .before .before .before .before .before .before .before .before .args) .entries .now) (length ((c .before .before .before .before .before .before .before .before .before .before .before .args) .list .now))) ((c .before .before .before .before .before .before .before .before .before .before .before .args) .list .now) ((c .before .before .before .before .before .before .before .before .before .before .before .args) .blocks) (length ((c .before .before .before .before .before .before .before .before .before .before .before .args) .list .now)) ((c .before .before .before .before .before .before .before .before .before .before .before .args) .x)
+    (sym (listed-length ((c .before .before .before .before .before .before .before .before .before .before .before .args) .entries .now) (length ((c .before .before .before .before .before .before .before .before .before .before .before .args) .list .now)))) ((c .before .before .before .before .before .before .if1) .left) ((c .before .before .before .before .if3) .taken)) ((c .before .before .totals-part) .ensures m read)
+
+-- src/parts.rt:217:1
+returns-4 : tie.Need-returns-4
+returns-4 c = λ m read clocks. gives-same ((c .before .before .before .before .before .before .before .args) .buffer .now) _ _ (line-end m (listed ((c .before .before .before .before .before .before .before .args) .entries .now) (length ((c .before .before .before .before .before .before .before .args) .list .now))) ((c .before .before .before .before .before .before .before .args) .list .now) ((c .before .before .before .before .before .before .before .args) .blocks) (length ((c .before .before .before .before .before .before .before .args) .list .now)) ((c .before .before .before .before .before .before .before .args) .x)
+    (sym (listed-length ((c .before .before .before .before .before .before .before .args) .entries .now) (length ((c .before .before .before .before .before .before .before .args) .list .now)))) ((c .before .before .if1) .left) (omega (arith, (c .before .if2) .left, (c .if3) .left))) (gives-end ((c .before .before .before .before .before .before .before .args) .buffer .now))
 
 pub line-part-spec : {M : Type 1} → statement M
 line-part-spec =
@@ -57,4 +77,7 @@ line-part-spec =
     block-part-requires
     same-length-2
     returns-2
-    returns-3)
+    totals-part-requires
+    same-length-3
+    returns-3
+    returns-4)

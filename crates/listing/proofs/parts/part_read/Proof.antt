@@ -40,7 +40,7 @@ part-of-requires c κs =
     (is-borne .ensures) ∙ not-false _ (if1 .left)) in
     let long : length (take (args .regions) (args .list .now)) ≡ args .regions = length-take-le (args .regions) (args .list .now)
     (parts .2) in
-    (pre, omega (arith, long, parts .3), omega (arith, long, parts .0), omega (arith, long, parts .1))
+    (pre, omega (arith, long, parts .3), omega (arith, long, parts .0), omega (arith, long, parts .1), parts .4)
 
 same-length : tie.Need-same-length
 same-length c = search needs

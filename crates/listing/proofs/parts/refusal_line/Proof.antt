@@ -5,7 +5,7 @@ use mathlib.Core.Path.{_∙_, ap}
 use mathlib.Core.List.{List}
 use lib.ListN.{length, length-replicate}
 use Rattle.listing.specs.Parts.{fitted, bufferAfter}
-use Rattle.listing.specs.Laws.Writing.{adds-all}
+use Rattle.text.specs.Laws.Writing.{adds-all}
 use Rattle.listing.specs.Laws.Lengths.{refusal-fits}
 use borrow.Author.Needs.{needs}
 use Rattle.listing.proofs.parts.refusal_line.Statement.{statement}

@@ -32,9 +32,9 @@ deliver-requires c κs =
     let pre = c .before .before .before .before .before .before .before .before .before .before .before .before .pre in
     let put-region = c .before .before .before .put-region in
     let known = shared-slice-known in
-    let room = region-room (args .entries .now) (λ k. omega (arith, known .given k)) (args .x) (block-at .result) (args .clocks)
+    let room = region-room (args .entries .now) (λ k. omega (arith, known .given k)) (args .x) 0 (block-at .result) (args .clocks)
     (entry-at .result) (entry-at .ensures) (fits .x .fits) (block-at .ok) (pre .0) in
-    adds-within (put-region .ensures) (omega (arith, room, length-replicate {A = ℕ} 256 0))
+    adds-within (put-region .ensures 0) (omega (arith, room, length-replicate {A = ℕ} 256 0))
 
 same-length : tie.Need-same-length
 same-length c = search needs
@@ -50,11 +50,11 @@ returns c =
     let put-region = c .before .before .before .before .before .before .put-region in
     let deliver = c .before .before .deliver in
     let known = shared-slice-known in
-    let room = region-room (args .entries .now) (λ k. omega (arith, known .given k)) (args .x) (block-at .result) (args .clocks)
+    let room = region-room (args .entries .now) (λ k. omega (arith, known .given k)) (args .x) 0 (block-at .result) (args .clocks)
     (entry-at .result) (entry-at .ensures) (fits .x .fits) (block-at .ok) (pre .0) in
     λ m same. gives-same (args .buffer .now) _ _ (region-text m (args .entries .now) (args .list .now) (length (args .list .now))
-    (args .x) (block-at .result) (args .clocks) (entry-at .result) (entry-at .ensures) (pre .1) (pre .2) same (block-at .ensures))
-    (gives-text (put-region .ensures) (omega (arith, room, length-replicate {A = ℕ} 256 0)) (omega (arith, room)) (args .buffer .now)
+    (args .x) 0 (block-at .result) (args .clocks) (entry-at .result) (entry-at .ensures) (pre .1) (pre .2) same (block-at .ensures))
+    (gives-text (put-region .ensures 0) (omega (arith, room, length-replicate {A = ℕ} 256 0)) (omega (arith, room)) (args .buffer .now)
     _ _ (deliver .ensures .0) (deliver .ensures .1))
 
 pub region-part-spec : {M : Type 1} → statement M

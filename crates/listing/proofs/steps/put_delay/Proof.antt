@@ -2,7 +2,7 @@
 use mathlib.Core.Bool.{not, _&&_}
 use lib.Dec.{eqb}
 use Rattle.listing.specs.Printed.{isAmong}
-use Rattle.listing.specs.Laws.Writing.{adds-none, adds-then, adds-same}
+use Rattle.text.specs.Laws.Writing.{adds-none, adds-then, adds-same}
 use Rattle.listing.specs.Laws.Rising.{delay-none, delay-some}
 use borrow.Author.Needs.{needs}
 use Rattle.listing.proofs.steps.put_delay.Statement.{statement}

@@ -4,9 +4,9 @@ use native.Mathlib.Omega.{arith}
 use mathlib.Core.Path.{_≡_}
 use mathlib.Core.Bool.{true, not, _&&_}
 use lib.Dec.{eqb}
-use Rattle.listing.specs.Text.{field, each}
+use Rattle.text.specs.Text.{field, each}
 use Rattle.listing.specs.Printed.{isAmong, otherBlocks}
-use Rattle.listing.specs.Writing.{Adds}
+use Rattle.text.specs.Writing.{Adds}
 use Rattle.listing.specs.Laws.Rising.{next-past, found-none, found-one, found-all}
 use borrow.Author.Needs.{needs}
 use Rattle.listing.proofs.steps.put_others.Statement.{statement}

@@ -1,7 +1,7 @@
 -- `put_share` meets its contract. Assumes nothing.
 use mathlib.Core.Path.{ap}
-use Rattle.listing.specs.Text.{decimal}
-use Rattle.listing.specs.Laws.Writing.{adds-then, adds-same}
+use Rattle.text.specs.Text.{decimal}
+use Rattle.text.specs.Laws.Writing.{adds-then, adds-same}
 use borrow.Author.Needs.{needs}
 use Rattle.listing.proofs.steps.put_share.Statement.{statement}
 use Rattle.listing.proofs.steps.put_share.Tie as tie

@@ -4,10 +4,10 @@ use native.Mathlib.Omega.{arith}
 use mathlib.Core.Path.{_≡_}
 use mathlib.Core.Bool.{true}
 use lib.ListN.{length}
-use Rattle.listing.specs.Text.{rising, each}
+use Rattle.text.specs.Text.{rising, each}
 use Rattle.listing.specs.Printed.{isAmong}
 use Rattle.listing.specs.Slices.{branchesFrom}
-use Rattle.listing.specs.Writing.{Adds}
+use Rattle.text.specs.Writing.{Adds}
 use Rattle.listing.specs.Laws.Rising.{next-past, found-none, found-one, found-all, shareText, share-one, share-all}
 use borrow.Author.Needs.{needs}
 use Rattle.listing.proofs.steps.put_shares.Statement.{statement}

@@ -2,10 +2,10 @@
 use Prim.Native.Nat.{ℕ, _+_, _*_, _≤_}
 use native.Mathlib.Omega.{arith}
 use mathlib.Core.Path.{sym, _∙_, ap, ap₂}
-use Rattle.listing.specs.Text.{field, each}
+use Rattle.text.specs.Text.{field, each}
 use Rattle.listing.specs.Printed.{shareField, sharesOf, targetsOf}
 use Rattle.listing.specs.Slices.{branchesFrom}
-use Rattle.listing.specs.Laws.Writing.{adds-then, adds-same}
+use Rattle.text.specs.Laws.Writing.{adds-then, adds-same}
 use Rattle.listing.specs.Laws.Rising.{room-front}
 use borrow.Author.Needs.{needs}
 use Rattle.listing.proofs.steps.put_step.Statement.{statement}

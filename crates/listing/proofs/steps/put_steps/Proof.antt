@@ -3,10 +3,10 @@ use Prim.Native.Nat.{_-_, _≤_}
 use native.Mathlib.Omega.{arith}
 use mathlib.Core.Path.{_≡_, sym, _∙_, ap}
 use mathlib.Core.Logic.{⊎-elim}
-use Rattle.listing.specs.Text.{upTo}
+use Rattle.text.specs.Text.{upTo}
 use Rattle.listing.specs.Slices.{stepTextAt}
-use Rattle.listing.specs.Writing.{Adds}
-use Rattle.listing.specs.Laws.Writing.{adds-none, adds-same}
+use Rattle.text.specs.Writing.{Adds}
+use Rattle.text.specs.Laws.Writing.{adds-none, adds-same}
 use Rattle.listing.specs.Laws.Rising.{step-taken, step-left}
 use borrow.Author.Needs.{needs}
 use Rattle.listing.proofs.steps.put_steps.Statement.{statement}

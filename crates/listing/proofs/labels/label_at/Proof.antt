@@ -1,0 +1,23 @@
+-- `label_at` meets its contract: past the end of the slice the label is 0.
+use mathlib.Core.Path.{sym}
+use lib.ListN.{List·getD-eq-default}
+use borrow.Author.Needs.{needs}
+use Rattle.listing.proofs.labels.label_at.Statement.{statement}
+use Rattle.listing.proofs.labels.label_at.Tie as tie
+use Rattle.listing.proofs.labels.label_at.Reads as reads
+use Rattle.listing.proofs.labels.label_at.Lts as lts
+
+-- src/labels.rt:18:27
+shared-slice-read-result : tie.Need-shared-slice-read-result
+shared-slice-read-result c = search needs
+
+-- src/labels.rt:14:1
+returns : tie.Need-returns
+returns c = search needs
+
+-- src/labels.rt:14:1
+returns-2 : tie.Need-returns-2
+returns-2 c = sym (List·getD-eq-default ((c .before .args) .labels .now) 0 ((c .if1) .left))
+
+pub label-at-spec : {M : Type 1} → statement M
+label-at-spec = tie.close (tie.spec shared-slice-read-result returns returns-2)
