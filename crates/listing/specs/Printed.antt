@@ -1,7 +1,7 @@
 -- The printed model (document 01, "The printed model"): records of the regions and blocks of a model, each line over them, and the
 -- listing of a table, which closes with the totals (document 02, Job 1).
 use Prim.Native.Nat.{ℕ, zero, suc, _+_}
-use mathlib.Core.Bool.{Bool, true, false, cond, not, _&&_, _||_}
+use mathlib.Core.Bool.{Bool, false, cond, not, _&&_, _||_}
 use mathlib.Core.List.{List, [], _∷_, _++_, map}
 use lib.Dec.{eqb}
 use lib.ListN.{length, getD}

@@ -1,11 +1,11 @@
 // The labels of regions and of blocks, over which the totals are taken.
-ghost use Prim.Native.Nat.{ℕ, _≤_, _<_};
+ghost use Prim.Native.Nat.{_≤_, _<_};
 ghost use mathlib.Core.Path.{_≡_};
 ghost use mathlib.Core.List.{[], _∷_};
 ghost use lib.ListN.{length, getD, set};
 ghost use Rattle.partition.specs.Passed.{Model, readTable, accepted, maxEntries, listed};
 ghost use Rattle.partition.specs.Instances.{graph};
-ghost use Rattle.partition.specs.View.{labelList};
+ghost use Rattle.partition.specs.View.{locationLabels};
 ghost use Rattle.text.specs.Text.{upTo};
 ghost use Rattle.listing.specs.Labels.{labelsTo, blockLabels};
 use crate::blocks::block_at;
@@ -21,7 +21,7 @@ fn label_at(labels: &[u8], location: u8) -> u8
 // Stores the label of each of the first regions, as many as the slice is long, from the labels of all locations that a byte can name.
 fn store_labels(locations: &[u8], entries: &[u8], labels: &mut [u8])
     requires { ⌜ length (now labels) ≤ maxEntries ⌝ }
-    ensures { λ _. ⌜ ((m : Model) → now (locations .entry) ≡ labelList m 256
+    ensures { λ _. ⌜ ((m : Model) → now (locations .entry) ≡ locationLabels m 256
         → now (labels .exit) ≡ labelsTo (graph m (listed (now (entries .entry)) (length (now (labels .entry)))))
         (length (now (labels .entry)))) ⌝ }
 {
@@ -41,7 +41,7 @@ pub(crate) fn label_regions(bytes: &[u8], entries: &[u8], labels: &mut [u8])
         (length (now (labels .entry)))) ⌝ }
 {
     let mut locations = [0u8; 256];
-    partition::list_labels(bytes, &mut locations);
+    partition::label_locations(bytes, &mut locations);
     store_labels(&locations, entries, labels);
 }
 
@@ -66,7 +66,7 @@ fn store_label(b: u64, label: u8, labels: &mut [u8])
     }
 }
 
-// Stores the label of each of the first blocks, as many as the slice is long: that of its lowest region, which is met last.
+// Stores the label of each of the first blocks, as many as the slice is long: the label of its lowest region, which is met last.
 pub(crate) fn label_blocks(list: &[u64], regions: &[u8], labels: &mut [u8])
     requires { ⌜ (length (now regions) ≡ length (now list)) × (0 < length (now list)) ⌝ }
     ensures { λ _. ⌜ now (labels .exit) ≡ blockLabels (now (regions .entry)) (now (list .entry)) (length (now (labels .entry))) ⌝ }

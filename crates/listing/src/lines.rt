@@ -1,9 +1,9 @@
 // The lines of the listing that need no graph: the first line, a region's, a block's first, a refusal's.
 ghost use Prim.Native.Nat.{ℕ};
 ghost use mathlib.Core.Path.{_≡_};
-ghost use mathlib.Core.List.{List, [], _∷_, _++_};
+ghost use mathlib.Core.List.{List, [], _∷_};
 ghost use lib.ListN.{getD};
-ghost use Rattle.text.specs.Text.{field, each, upTo};
+ghost use Rattle.text.specs.Text.{each, upTo};
 ghost use Rattle.listing.specs.Printed.{StepRecord, rankText, clockField, firstLine, refusalLine, regionLine, blockLine};
 ghost use Rattle.text.specs.Writing.{Adds};
 use text::put;

@@ -1,7 +1,7 @@
 // The parts of the listing, and the line of a refusal.
 ghost use Prim.Native.Nat.{ℕ, _*_, _+_, _≤_, _<_};
 ghost use mathlib.Core.Path.{_≡_};
-ghost use mathlib.Core.List.{List, [], _∷_, _++_};
+ghost use mathlib.Core.List.{[], _++_};
 ghost use lib.ListN.{length, getD, take, drop};
 ghost use Rattle.partition.specs.Passed.{Model, readTable, accepted, entryBytes, maxEntries, listed};
 ghost use Rattle.partition.specs.Instances.{graph};
@@ -182,7 +182,7 @@ fn block_part(
     }
 }
 
-// The totals over the labels of all regions; the list has their blocks, of which there are `blocks`.
+// Puts the totals into a buffer, from the labels of all regions; the list has their blocks, of which there are `blocks`.
 fn totals_text(labels: &[u8], list: &[u64], blocks: u64, buffer: &mut [u8]) -> Part
     requires { ⌜ (length (now labels) ≡ length (now list)) × (0 < blocks) × (blocks ≤ length (now list))
         × (length (now list) ≤ maxEntries) ⌝ }
@@ -198,7 +198,7 @@ fn totals_text(labels: &[u8], list: &[u64], blocks: u64, buffer: &mut [u8]) -> P
     deliver(&text, k, buffer)
 }
 
-// The totals; the list has the blocks of all regions, of which there are `blocks`.
+// Puts the totals into a buffer; the list has the blocks of all regions, of which there are `blocks`.
 fn totals_part(bytes: &[u8], entries: &[u8], list: &[u64], blocks: u64, buffer: &mut [u8]) -> Part
     requires { ⌜ (0 < blocks) × (blocks ≤ length (now list)) × (length (now list) ≤ maxEntries) ⌝ }
     ensures { λ r. ⌜ ((m : Model) → readTable (now (bytes .entry)) ≡ accepted m
@@ -213,7 +213,7 @@ fn totals_part(bytes: &[u8], entries: &[u8], list: &[u64], blocks: u64, buffer: 
     totals_text(labels, list, blocks, buffer)
 }
 
-// The line of region x, past the regions the lines of a block, and past the blocks the totals.
+// Puts the line of region x into a buffer, past the regions the lines of a block, and past the blocks the totals.
 fn line_part(
     bytes: &[u8],
     clocks: u8,

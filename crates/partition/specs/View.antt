@@ -9,7 +9,7 @@ use lib.ListN.{length, getD, drop}
 use Rattle.regions.specs.Passed.{Answer, refusal, accepted}
 use Rattle.regions.specs.Explore.{listed}
 use Rattle.regions.specs.Sight.{entryIn}
-pub use Rattle.regions.specs.Sight.{isSeen, labelList, labelsAfter}
+pub use Rattle.regions.specs.Sight.{isSeen, locationLabels, labelsAfter}
 use Rattle.bisimulation.specs.Structures.{Branch}
 use Rattle.bisimulation.specs.Finite.{Finite}
 use Rattle.partition.specs.Instances.{graph}

@@ -14,5 +14,5 @@ pub use view::Entry;
 pub use view::Showing;
 pub use view::check_table;
 pub use view::entry_at;
-pub use view::list_labels;
+pub use view::label_locations;
 pub use view::show_item;

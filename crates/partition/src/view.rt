@@ -52,10 +52,10 @@ pub fn check_table(bytes: &[u8]) -> Checked
 }
 
 // Stores the labels of the first locations of a table, as many as the slice is long; the slice stays if the table is refused.
-pub fn list_labels(bytes: &[u8], labels: &mut [u8])
+pub fn label_locations(bytes: &[u8], labels: &mut [u8])
     ensures { λ _. ⌜ now (labels .exit) ≡ labelsAfter (readTable (now (bytes .entry))) (now (labels .entry)) ⌝ }
 {
-    regions::list_labels(bytes, labels);
+    regions::label_locations(bytes, labels);
 }
 
 // The region at an entry.

@@ -28,14 +28,14 @@ checkedOf (refusal number place) = C.Refused number place
 checkedOf (accepted m) = C.Read (m .clocks)
 
 -- The labels of the first n locations; 0 past the last (a choice of ours: no region of a graph is there).
-abbrev pub labelList : Model → ℕ → List ℕ
-labelList m zero = []
-labelList m (suc n) = labelList m n ++ (getD (m .labels) n 0 ∷ [])
+abbrev pub locationLabels : Model → ℕ → List ℕ
+locationLabels m zero = []
+locationLabels m (suc n) = locationLabels m n ++ (getD (m .labels) n 0 ∷ [])
 
 -- What a slice then holds: as many labels as it is long, or what it held if the table is refused.
 abbrev pub labelsAfter : Answer → (labels : List ℕ) → List ℕ
 labelsAfter (refusal number place) labels = labels
-labelsAfter (accepted m) labels = labelList m (length labels)
+labelsAfter (accepted m) labels = locationLabels m (length labels)
 
 -- An entry with a number of 4,096 or more is not looked at: zeros stand for it (a choice of ours). So they do for bytes past the end of
 -- the entries.

@@ -29,7 +29,7 @@ pub use sight::Checked;
 pub use sight::Sight;
 pub use sight::check_table;
 pub use sight::entry_at;
-pub use sight::list_labels;
+pub use sight::label_locations;
 pub use sight::show_region;
 pub use view::bounds_read;
 pub use view::edge_count;

@@ -14,7 +14,7 @@ ghost use Rattle.regions.specs.Entries.{entryBytes, maxEntries, regionAt
 ghost use Rattle.regions.specs.Index.{Index};
 ghost use Rattle.regions.specs.Explore.{listed};
 ghost use Rattle.regions.specs.Filling.{Before, Fitting};
-ghost use Rattle.regions.specs.Sight.{checkedOf, labelList, labelsAfter, entryIn, delayList, Ways, Stepping, isSeen, sightOf, Sighted};
+ghost use Rattle.regions.specs.Sight.{checkedOf, locationLabels, labelsAfter, entryIn, delayList, Ways, Stepping, isSeen, sightOf, Sighted};
 use crate::bounds::bounds_of;
 use crate::entry::ENTRY_BYTES;
 use crate::entry::read_entry;
@@ -74,9 +74,9 @@ pub fn check_table(bytes: &[u8]) -> Checked
 }
 
 // Stores the labels of the first locations of a table that was read, as many as the slice is long; 0 past the last location.
-fn store_labels(bytes: &[u8], shape: Shape, labels: &mut [u8])
+fn store_location_labels(bytes: &[u8], shape: Shape, labels: &mut [u8])
     ensures { λ _. ⌜ ((m : Model) → Reads (now (bytes .entry)) shape m
-        → now (labels .exit) ≡ labelList m (length (now (labels .entry)))) ⌝ }
+        → now (labels .exit) ≡ locationLabels m (length (now (labels .entry)))) ⌝ }
 {
     let mut i = 0;
     while i < labels.len() {
@@ -86,13 +86,16 @@ fn store_labels(bytes: &[u8], shape: Shape, labels: &mut [u8])
 }
 
 // Stores the labels of the first locations of a table, as many as the slice is long; the slice stays if the table is refused.
-pub fn list_labels(bytes: &[u8], labels: &mut [u8])
+pub fn label_locations(bytes: &[u8], labels: &mut [u8])
     ensures { λ _. ⌜ now (labels .exit) ≡ labelsAfter (readTable (now (bytes .entry))) (now (labels .entry)) ⌝ }
 {
     let reading = table::read(bytes);
     match reading {
-        Reading::Refused { number: _, place: _ } => {}
-        Reading::Accepted(shape) => store_labels(bytes, shape, labels),
+        Reading::Refused {
+            number: _,
+            place: _,
+        } => {}
+        Reading::Accepted(shape) => store_location_labels(bytes, shape, labels),
     }
 }
 

@@ -1,5 +1,5 @@
 -- How the code puts text together: bytes go one after the other to the front of a text, as many as it has room for.
-use Prim.Native.Nat.{ℕ, _≤_, min}
+use Prim.Native.Nat.{ℕ, min}
 use mathlib.Core.Path.{_≡_}
 use mathlib.Core.List.{List, _++_}
 use lib.ListN.{length, take}

@@ -1,5 +1,5 @@
 // The totals: counts of labels, and the lines over them.
-ghost use Prim.Native.Nat.{ℕ, _≤_, _<_};
+ghost use Prim.Native.Nat.{ℕ, _<_};
 ghost use mathlib.Core.Path.{_≡_};
 ghost use mathlib.Core.List.{List};
 ghost use lib.ListN.{length, replicate};
@@ -12,6 +12,7 @@ const LINE_FEED: u8 = 10;
 
 const LABELS: usize = 256;
 
+// Returns a byte as a number.
 fn wide(x: u8) -> usize
     ensures { λ r. ⌜ (r ≡ x) × (r < 256) ⌝ }
 {

@@ -19,7 +19,7 @@ use Rattle.partition.specs.Promises.{Reduced}
 use Rattle.partition.specs.Laws.Calls.{on-accepted}
 use Rattle.partition.specs.Laws.Left.{Left, reduced-first, reduced-second, reduced-refused, no-sixteen}
 use Rattle.partition.specs.declared.calls.Reduction.the-variants as B
-use Rattle.text.specs.Text.{upTo, each}
+use Rattle.text.specs.Text.{upTo}
 use Rattle.listing.specs.Printed.{firstLine, regionLine, blockLines, regionRecord, blockRecord, printed, printedGraph, refusalLine, listing}
 use Rattle.listing.specs.Printed.{regionRecords, blockRecords, totalsText}
 use Rattle.listing.specs.Parts.{partCount, blockPart, linePart, partText, isBorne, textFrom, textOf, fitted, bytesIn, bufferAfter, partFrom, partOf, mostBytes, Parted}

@@ -1,14 +1,14 @@
 -- For the code of the totals: a slice that is filled from the front, the labels of blocks as they are met from the last region down, and the
 -- text of the totals from both lists of labels.
-use Prim.Native.Nat.{ℕ, zero, suc, _+_, _-_, _*_, _≤_, _<_}
+use Prim.Native.Nat.{ℕ, _+_, _-_, _≤_, _<_}
 use native.Mathlib.Decide.{ℕ-discrete}
 use native.Mathlib.Numerals.{add-one}
 use native.Mathlib.Omega.{arith}
-use mathlib.Core.Path.{_≡_, refl, sym, _∙_, ap, ap₂, subst}
+use mathlib.Core.Path.{_≡_, sym, _∙_, ap, ap₂, subst}
 use mathlib.Core.List.{List, [], _∷_, _++_}
 use lib.ListN.{length, getD, take, set, length-set}
 use lib.Seq.{take-all, take-suc-set, getD-set-same, getD-set-other, ext-getD}
-use Rattle.partition.specs.Passed.{Model, Region, maxEntries, listed}
+use Rattle.partition.specs.Passed.{Model, maxEntries, listed}
 use Rattle.partition.specs.Instances.{graph}
 use Rattle.partition.specs.Laws.View.{listed-length}
 use Rattle.text.specs.Text.{upTo}

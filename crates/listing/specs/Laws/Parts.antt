@@ -5,8 +5,8 @@ use native.Mathlib.Omega.{arith}
 use mathlib.Core.Path.{_≡_, refl, sym, _∙_, ap, ap₂, subst}
 use mathlib.Core.Bool.{Bool, true, false, false≢true, cond, _&&_}
 use mathlib.Core.List.{List, [], _∷_, _++_, append-nil}
-use lib.Dec.{eqb, leb, ltb}
-use lib.ListN.{length, getD, take, drop, length-append, length-drop}
+use lib.Dec.{leb, ltb}
+use lib.ListN.{length, getD, take, drop, length-append}
 use lib.Seq.{take-at}
 use borrow.Author.Tests.{eq-eqb, ne-eqb, lt-ltb, le-ltb, le-leb, lt-leb, leb-true, ltb-true}
 use Rattle.partition.specs.Passed.{Model, Region, Finite, Answer, refusal, accepted, readTable, entryBytes, maxEntries, listed}
@@ -345,8 +345,7 @@ module _ (regions blocks entries list : ℕ) where
       let (a, s) = and-both (leb regions maxEntries) _ e in
       let (b, t) = and-both (leb (entryBytes * regions) entries) _ s in
       let (c, u) = and-both (leb regions list) _ t in
-      let (z, d) = and-both (ltb 0 blocks) _ u in
-      (
+      let (z, d) = and-both (ltb 0 blocks) _ u in (
         leb-true regions maxEntries a,
         leb-true (entryBytes * regions) entries b,
         leb-true regions list c,

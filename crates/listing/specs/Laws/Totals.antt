@@ -8,14 +8,13 @@ use mathlib.Core.Path.{_≡_, refl, sym, _∙_, ap, ap₂, subst}
 use mathlib.Core.Bool.{Bool, true, false, cond}
 use mathlib.Core.List.{List, [], _∷_, _++_, map, append-assoc, List·Memᴰ, Memᴰ·map, Memᴰ·of-map}
 use lib.Dec.{eqb}
-use lib.ListN.{length, getD, take, length-append, length-map, List·getD-append}
-use lib.Seq.{getD-at}
-use Rattle.partition.specs.Passed.{Model, Region, Finite, lastBlocks}
+use lib.ListN.{length, getD, take, length-map}
+use Rattle.partition.specs.Passed.{Model, Region}
 use Rattle.partition.specs.Instances.{graph}
 use Rattle.partition.specs.Laws.Left.{Left, left-length, left-below, left-labels}
-use Rattle.text.specs.Text.{upTo, each, Rises}
+use Rattle.text.specs.Text.{each, Rises}
 use Rattle.text.specs.Laws.Texts.{upto-same, upto-there, upto-only, upto-length, upto-map, upto-at}
-use Rattle.totals.specs.Totals.{count, TotalRecord, totalOf, totalsOf, sumOf, labelLine, allLine}
+use Rattle.totals.specs.Totals.{count, TotalRecord, totalOf, sumOf, labelLine, allLine}
 use Rattle.totals.specs.Laws.Totals as T
 use Rattle.listing.specs.Printed.{RegionRecord, BlockRecord, lowestFrom, lowestOf, regionRecord, blockRecord}
 use Rattle.listing.specs.Printed.{regionRecords, blockRecords, totalRecords, totalsText, firstLine, regionLine, blockLines, printed, listing}
@@ -67,12 +66,11 @@ module _ (m : Model) (found : List Region) (list : List ℕ) (blocks : ℕ) (som
 
   -- Every label that a region bears has a line.
   pub records-cover : (r : RegionRecord) → List·Memᴰ r rs → (t : TotalRecord) × List·Memᴰ t ts × (t .label ≡ r .label)
-  records-cover r there =
-      (
-        totalOf (map (λ r. r .label) rs) (map (λ c. c .label) bs) (r .label),
-        T.totals-cover (map (λ r. r .label) rs) (map (λ c. c .label) bs) (r .label) (Memᴰ·map (λ r. r .label) there),
-        refl,
-      )
+  records-cover r there = (
+    totalOf (map (λ r. r .label) rs) (map (λ c. c .label) bs) (r .label),
+    T.totals-cover (map (λ r. r .label) rs) (map (λ c. c .label) bs) (r .label) (Memᴰ·map (λ r. r .label) there),
+    refl,
+  )
 
   -- A line has a label that some region bears, and its numbers are counts over the records.
   pub records-only : (t : TotalRecord) → List·Memᴰ t ts

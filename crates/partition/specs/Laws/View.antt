@@ -25,7 +25,7 @@ use Rattle.regions.specs.declared.sight.Sight.the-variants as RS
 use Rattle.bisimulation.specs.Structures.{Branch}
 use Rattle.partition.specs.Instances.{regionOf, landsAt, graph}
 use Rattle.comparison.specs.Held.{rowRoom}
-use Rattle.partition.specs.View.{checkedOf, labelList, entryOf, branchesFrom, branchesAt, Alone, showingOf}
+use Rattle.partition.specs.View.{checkedOf, locationLabels, entryOf, branchesFrom, branchesAt, Alone, showingOf}
 use Rattle.partition.specs.declared.view.Checked.{Checked}
 use Rattle.partition.specs.declared.view.Checked.the-variants as C
 use Rattle.partition.specs.declared.view.Showing.{Showing}
@@ -136,7 +136,7 @@ entry-listed m es n x h few q e =
 
 -- The label of an item of the graph is that of its entry's location.
 pub label-listed : (m : Model) (es : List ℕ) (n x k : ℕ) → x < n → n ≤ maxEntries → entryOf es x .location < k
-    → getD (labelList m k) (entryOf es x .location) 0 ≡ graph m (listed es n) .label x
+    → getD (locationLabels m k) (entryOf es x .location) 0 ≡ graph m (listed es n) .label x
 unfolding labelOf
 label-listed m es n x k h few below =
     labels-at m k (entryOf es x .location) below

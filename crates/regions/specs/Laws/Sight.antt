@@ -20,7 +20,7 @@ use Rattle.regions.specs.Explore.{listed}
 use Rattle.regions.specs.View.{numberIn, labelOf, Way, wayOf}
 use Rattle.regions.specs.Shown.{branchOf}
 use Rattle.regions.specs.Filling.{Before, Fitting}
-use Rattle.regions.specs.Sight.{labelList, entryIn, delayList, waysFrom, Ways, Stepping, isSeen, sightOf, Sighted}
+use Rattle.regions.specs.Sight.{locationLabels, entryIn, delayList, waysFrom, Ways, Stepping, isSeen, sightOf, Sighted}
 use Rattle.regions.specs.Laws.Filling.{before-none, before-on}
 use Rattle.clocks.specs.declared.region.Region.{Region}
 use Rattle.regions.specs.declared.sight.Sight.the-variants as S
@@ -31,35 +31,35 @@ entry-inside es j h = rw (lt-ltb j maxEntries h) refl
 
 -- ---- The labels of locations
 
-pub labels-on : (m : Model) (l : List ℕ) (i v : ℕ) → i < length l → v ≡ getD (m .labels) i 0 → take i l ≡ labelList m i
-    → take (i + 1) (set l i v) ≡ labelList m (i + 1)
+pub labels-on : (m : Model) (l : List ℕ) (i v : ℕ) → i < length l → v ≡ getD (m .labels) i 0 → take i l ≡ locationLabels m i
+    → take (i + 1) (set l i v) ≡ locationLabels m (i + 1)
 labels-on m l i v h is before =
     ap (λ (k : ℕ). take k (set l i v)) (add-one i)
     ∙ take-suc-set l i v h
     ∙ ap₂ (λ (k : List ℕ) (y : ℕ). k ++ (y ∷ [])) before is
-    ∙ ap (labelList m) (sym (add-one i))
+    ∙ ap (locationLabels m) (sym (add-one i))
 
-pub labels-all : (m : Model) (l : List ℕ) (i n : ℕ) → length l ≡ n → n ≤ i → i ≤ n → take i l ≡ labelList m i → l ≡ labelList m n
+pub labels-all : (m : Model) (l : List ℕ) (i n : ℕ) → length l ≡ n → n ≤ i → i ≤ n → take i l ≡ locationLabels m i → l ≡ locationLabels m n
 labels-all m l i n long past within is =
     let all : i ≡ n = omega (arith, past, within) in
-    sym (take-all i l (omega (arith, long, past))) ∙ is ∙ ap (labelList m) all
+    sym (take-all i l (omega (arith, long, past))) ∙ is ∙ ap (locationLabels m) all
 
-labels-length : (m : Model) (n : ℕ) → length (labelList m n) ≡ n
+labels-length : (m : Model) (n : ℕ) → length (locationLabels m n) ≡ n
 labels-length m zero = refl
-labels-length m (suc n) = length-append (labelList m n) (getD (m .labels) n 0 ∷ []) ∙ omega (arith, labels-length m n)
+labels-length m (suc n) = length-append (locationLabels m n) (getD (m .labels) n 0 ∷ []) ∙ omega (arith, labels-length m n)
 
-pub labels-at : (m : Model) (n i : ℕ) → i < n → getD (labelList m n) i 0 ≡ getD (m .labels) i 0
+pub labels-at : (m : Model) (n i : ℕ) → i < n → getD (locationLabels m n) i 0 ≡ getD (m .labels) i 0
 labels-at m zero i h = absurd (omega (arith, h))
 labels-at m (suc n) i h = go (ltb i n) refl (labels-at m n i)
   where
-    go : (b : Bool) → ltb i n ≡ b → (i < n → getD (labelList m n) i 0 ≡ getD (m .labels) i 0)
-        → getD (labelList m n ++ (getD (m .labels) n 0 ∷ [])) i 0 ≡ getD (m .labels) i 0
+    go : (b : Bool) → ltb i n ≡ b → (i < n → getD (locationLabels m n) i 0 ≡ getD (m .labels) i 0)
+        → getD (locationLabels m n ++ (getD (m .labels) n 0 ∷ [])) i 0 ≡ getD (m .labels) i 0
     go true e rest =
-        List·getD-append (labelList m n) (getD (m .labels) n 0 ∷ []) 0 i (omega (arith, labels-length m n, ltb-true i n e))
+        List·getD-append (locationLabels m n) (getD (m .labels) n 0 ∷ []) 0 i (omega (arith, labels-length m n, ltb-true i n e))
         ∙ rest (ltb-true i n e)
     go false e rest =
         let last : n ≡ i = omega (arith, h, ltb-false i n e) in
-        getD-at (labelList m n) (getD (m .labels) n 0) [] 0 i (labels-length m n ∙ last) ∙ ap (λ (k : ℕ). getD (m .labels) k 0) last
+        getD-at (locationLabels m n) (getD (m .labels) n 0) [] 0 i (labels-length m n ∙ last) ∙ ap (λ (k : ℕ). getD (m .labels) k 0) last
 
 -- ---- Whether a region is seen
 

@@ -1,22 +1,22 @@
 -- For the code of the totals: counts one label at a time, lines one label at a time, and how long they are.
-use Prim.Native.Nat.{ℕ, zero, suc, _+_, _*_, _≤_, _<_}
+use Prim.Native.Nat.{ℕ, suc, _+_, _*_, _≤_, _<_}
 use native.Mathlib.Decide.{ℕ-discrete}
 use native.Mathlib.Numerals.{add-one}
 use native.Mathlib.Omega.{arith}
 use mathlib.Core.Logic.{_⊎_, inl, inr}
 use mathlib.Core.Path.{_≡_, refl, sym, _∙_, ap, ap₂, subst}
-use mathlib.Core.Bool.{Bool, true, false, cond, _||_, false≢true}
+use mathlib.Core.Bool.{Bool, true, false, cond, _||_}
 use mathlib.Core.List.{List, [], _∷_, _++_, map, List·Memᴰ, List·Memᴰ·head, List·Memᴰ·tail, List·Memᴰ·not-nil, List·Memᴰ·cases-cons}
 use lib.Dec.{eqb}
 use lib.ListN.{length, getD, take, set, replicate, length-append, length-set, length-replicate, getD-replicate}
 use lib.Seq.{take-suc, take-all, getD-set-same, getD-set-other}
-use borrow.Author.Tests.{eq-eqb, ne-eqb, eqb-true}
+use borrow.Author.Tests.{eq-eqb, ne-eqb}
 use Rattle.text.specs.Text.{lineFeed, blank, rising, each, regionsWord, blocksWord, labelWord, allWord}
 use Rattle.text.specs.Writing.{Adds}
 use Rattle.text.specs.Laws.Texts.{each-append, each-one, each-map, each-upto-list, rising-hit, rising-miss, rising-skip}
 use Rattle.text.specs.Laws.Writing.{adds-then, adds-same}
 use Rattle.text.specs.Laws.Lengths.{Fits, fits-word, fits-then, fits-upto, half-field, byte-field}
-use Rattle.totals.specs.Totals.{count, hasLabel, largest, labelsBorne, TotalRecord, totalOf, totalsOf, countsText, labelLine, allLine, totalLines}
+use Rattle.totals.specs.Totals.{count, hasLabel, largest, TotalRecord, totalOf, totalsOf, countsText, labelLine, allLine, totalLines}
 use Rattle.totals.specs.Counts.{LabelCounts, totalsBelow}
 use Rattle.totals.specs.Laws.Totals.{has-some, largest-most, one}
 

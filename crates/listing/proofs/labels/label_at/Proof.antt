@@ -4,18 +4,13 @@ use lib.ListN.{List·getD-eq-default}
 use borrow.Author.Needs.{needs}
 use Rattle.listing.proofs.labels.label_at.Statement.{statement}
 use Rattle.listing.proofs.labels.label_at.Tie as tie
-use Rattle.listing.proofs.labels.label_at.Reads as reads
-use Rattle.listing.proofs.labels.label_at.Lts as lts
 
--- src/labels.rt:18:27
 shared-slice-read-result : tie.Need-shared-slice-read-result
 shared-slice-read-result c = search needs
 
--- src/labels.rt:14:1
 returns : tie.Need-returns
 returns c = search needs
 
--- src/labels.rt:14:1
 returns-2 : tie.Need-returns-2
 returns-2 c = sym (List·getD-eq-default ((c .before .args) .labels .now) 0 ((c .if1) .left))
 

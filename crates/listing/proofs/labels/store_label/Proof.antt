@@ -4,22 +4,16 @@ use lib.Seq.{set-out}
 use borrow.Author.Needs.{needs}
 use Rattle.listing.proofs.labels.store_label.Statement.{statement}
 use Rattle.listing.proofs.labels.store_label.Tie as tie
-use Rattle.listing.proofs.labels.store_label.Reads as reads
-use Rattle.listing.proofs.labels.store_label.Lts as lts
 
--- src/labels.rt:65:9
 slice-write-labels : tie.Need-slice-write-labels
 slice-write-labels c = search needs
 
--- src/labels.rt:60:1
 same-length : tie.Need-same-length
 same-length c = search needs
 
--- src/labels.rt:60:1
 returns : tie.Need-returns
 returns c = search needs
 
--- src/labels.rt:60:1
 returns-2 : tie.Need-returns-2
 returns-2 c = sym (set-out ((c .before .args) .labels .now) ((c .before .args) .b) ((c .before .args) .label) ((c .if1) .left))
 

@@ -27,9 +27,10 @@ same-length c = search needs
 
 returns : tie.Need-returns
 returns c =
-    let put-named = c .before .before .before .before .before .before .before .before .before .before .before .before .before .before .before .before .before .before .put-named in
-    let put-field = c .before .before .before .before .before .before .before .before .before .before .before .before .before .before .put-field in
-    let put-field2 = c .before .before .before .before .before .before .before .before .before .before .put-field2 in
+    let back10 = c .before .before .before .before .before .before .before .before .before .before in
+    let put-named = back10 .before .before .before .before .before .before .before .before .put-named in
+    let put-field = back10 .before .before .before .before .put-field in
+    let put-field2 = back10 .put-field2 in
     let put-clocks = c .before .before .before .before .before .before .put-clocks in
     let put = c .before .before .put in
     λ label. adds-then put-named.ensures (adds-then put-field.ensures (adds-then put-field2.ensures (adds-then put-clocks.ensures

@@ -8,21 +8,13 @@ use Rattle.listing.specs.Laws.Parts.{gives-same, gives-end, line-region,
 use borrow.Author.Needs.{needs}
 use Rattle.listing.proofs.parts.line_part.Statement.{statement}
 use Rattle.listing.proofs.parts.line_part.Tie as tie
-use Rattle.listing.proofs.parts.line_part.Reads as reads
-use Rattle.listing.proofs.parts.line_part.Lts as lts
-use Rattle.listing.proofs.parts.block_part.Reads as block-part-reads
-use Rattle.listing.proofs.parts.region_part.Reads as region-part-reads
-use Rattle.listing.proofs.parts.totals_part.Reads as totals-part-reads
 
--- src/parts.rt:234:9
 region-part-requires : tie.Need-region-part-requires
 region-part-requires c κs = search needs
 
--- src/parts.rt:234:9
 same-length : tie.Need-same-length
 same-length c = search needs
 
--- src/parts.rt:234:9
 returns : tie.Need-returns
 returns c = let args = (c .before .before .before .before .before .before .before .before .before .args) in
     let if1 = (c .before .before .before .before .if1) in
@@ -31,15 +23,12 @@ returns c = let args = (c .before .before .before .before .before .before .befor
     (args .list .now) (args .blocks) (length (args .list .now)) (args .x) (sym (listed-length (args .entries .now) (length
     (args .list .now)))) (if1 .taken)) (region-part .ensures m clocks)
 
--- src/parts.rt:238:9
 block-part-requires : tie.Need-block-part-requires
 block-part-requires c κs = search needs
 
--- src/parts.rt:238:9
 same-length-2 : tie.Need-same-length-2
 same-length-2 c = search needs
 
--- src/parts.rt:238:9
 returns-2 : tie.Need-returns-2
 returns-2 c = let args = (c .before .before .before .before .before .before .before .before .before .before .args) in
     let if1 = (c .before .before .before .before .before .if1) in
@@ -49,23 +38,31 @@ returns-2 c = let args = (c .before .before .before .before .before .before .bef
     (args .list .now) (args .blocks) (length (args .list .now)) (args .x) (sym (listed-length (args .entries .now) (length
     (args .list .now)))) (if1 .left) (if2 .taken)) (block-part .ensures m read)
 
--- src/parts.rt:241:9
 totals-part-requires : tie.Need-totals-part-requires
-totals-part-requires c κs = ((c .before .before .before .before .before .before .before .before .pre) .4, (c .before .before .before .before .before .before .before .before .pre) .1, (c .before .before .before .before .before .before .before .before .pre) .2)
+totals-part-requires c κs =
+    let pre = c .before .before .before .before .before .before .before .before .pre in
+    (pre.4, pre.1, pre.2)
 
--- src/parts.rt:241:9
 same-length-3 : tie.Need-same-length-3
 same-length-3 c = search needs
 
--- src/parts.rt:241:9
 returns-3 : tie.Need-returns-3
-returns-3 c = λ m read clocks. gives-same ((c .before .before .before .before .before .before .before .before .before .before .before .args) .buffer .now) _ _ (line-totals m (listed ((c .before .before .before .before .before .before .before .before .before .before .before .args) .entries .now) (length ((c .before .before .before .before .before .before .before .before .before .before .before .args) .list .now))) ((c .before .before .before .before .before .before .before .before .before .before .before .args) .list .now) ((c .before .before .before .before .before .before .before .before .before .before .before .args) .blocks) (length ((c .before .before .before .before .before .before .before .before .before .before .before .args) .list .now)) ((c .before .before .before .before .before .before .before .before .before .before .before .args) .x)
-    (sym (listed-length ((c .before .before .before .before .before .before .before .before .before .before .before .args) .entries .now) (length ((c .before .before .before .before .before .before .before .before .before .before .before .args) .list .now)))) ((c .before .before .before .before .before .before .if1) .left) ((c .before .before .before .before .if3) .taken)) ((c .before .before .totals-part) .ensures m read)
+returns-3 c =
+    let args = c .before .before .before .before .before .before .before .before .before .before .before .args in
+    let if1 = c .before .before .before .before .before .before .if1 in
+    let if3 = c .before .before .before .before .if3 in
+    let totals-part = c .before .before .totals-part in
+    λ m read clocks. gives-same args.buffer.now _ _ (line-totals m (listed args.entries.now (length args.list.now)) args.list.now
+    args.blocks (length args.list.now) args.x (sym (listed-length args.entries.now (length args.list.now))) if1.left if3.taken)
+    (totals-part.ensures m read)
 
--- src/parts.rt:217:1
 returns-4 : tie.Need-returns-4
-returns-4 c = λ m read clocks. gives-same ((c .before .before .before .before .before .before .before .args) .buffer .now) _ _ (line-end m (listed ((c .before .before .before .before .before .before .before .args) .entries .now) (length ((c .before .before .before .before .before .before .before .args) .list .now))) ((c .before .before .before .before .before .before .before .args) .list .now) ((c .before .before .before .before .before .before .before .args) .blocks) (length ((c .before .before .before .before .before .before .before .args) .list .now)) ((c .before .before .before .before .before .before .before .args) .x)
-    (sym (listed-length ((c .before .before .before .before .before .before .before .args) .entries .now) (length ((c .before .before .before .before .before .before .before .args) .list .now)))) ((c .before .before .if1) .left) (omega (arith, (c .before .if2) .left, (c .if3) .left))) (gives-end ((c .before .before .before .before .before .before .before .args) .buffer .now))
+returns-4 c =
+    let args = c .before .before .before .before .before .before .before .args in
+    let if1 = c .before .before .if1 in
+    λ m read clocks. gives-same args.buffer.now _ _ (line-end m (listed args.entries.now (length args.list.now)) args.list.now args.blocks
+    (length args.list.now) args.x (sym (listed-length args.entries.now (length args.list.now))) if1.left
+    (omega (arith, (c .before .if2) .left, (c .if3) .left))) (gives-end args.buffer.now)
 
 pub line-part-spec : {M : Type 1} → statement M
 line-part-spec =

@@ -24,12 +24,13 @@ slice-aggregate-deliver c = search needs
 
 deliver-requires : tie.Need-deliver-requires
 deliver-requires c κs =
-    let shared-slice-known = c .before .before .before .before .before .before .before .before .before .before .before .shared-slice-known in
-    let args = c .before .before .before .before .before .before .before .before .before .before .before .before .args in
+    let back10 = c .before .before .before .before .before .before .before .before .before .before in
+    let shared-slice-known = back10 .before .shared-slice-known in
+    let args = back10 .before .before .args in
     let block-at = c .before .before .before .before .before .block-at in
     let entry-at = c .before .before .before .before .before .before .before .before .entry-at in
-    let fits = c .before .before .before .before .before .before .before .before .before .before .before .before .fits in
-    let pre = c .before .before .before .before .before .before .before .before .before .before .before .before .pre in
+    let fits = back10 .before .before .fits in
+    let pre = back10 .before .before .pre in
     let put-region = c .before .before .before .put-region in
     let known = shared-slice-known in
     let room = region-room (args .entries .now) (λ k. omega (arith, known .given k)) (args .x) 0 (block-at .result) (args .clocks)
@@ -41,12 +42,13 @@ same-length c = search needs
 
 returns : tie.Need-returns
 returns c =
-    let shared-slice-known = c .before .before .before .before .before .before .before .before .before .before .before .before .before .before .shared-slice-known in
-    let args = c .before .before .before .before .before .before .before .before .before .before .before .before .before .before .before .args in
+    let back10 = c .before .before .before .before .before .before .before .before .before .before in
+    let shared-slice-known = back10 .before .before .before .before .shared-slice-known in
+    let args = back10 .before .before .before .before .before .args in
     let block-at = c .before .before .before .before .before .before .before .before .block-at in
-    let entry-at = c .before .before .before .before .before .before .before .before .before .before .before .entry-at in
-    let fits = c .before .before .before .before .before .before .before .before .before .before .before .before .before .before .before .fits in
-    let pre = c .before .before .before .before .before .before .before .before .before .before .before .before .before .before .before .pre in
+    let entry-at = back10 .before .entry-at in
+    let fits = back10 .before .before .before .before .before .fits in
+    let pre = back10 .before .before .before .before .before .pre in
     let put-region = c .before .before .before .before .before .before .put-region in
     let deliver = c .before .before .deliver in
     let known = shared-slice-known in

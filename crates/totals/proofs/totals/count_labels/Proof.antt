@@ -2,7 +2,7 @@
 use Rattle.totals.specs.Counts.{LabelCounts}
 use Rattle.totals.specs.Laws.Counts.{counts-none, counts-on, counts-all, counts-most}
 use native.Mathlib.Omega.{arith}
-use mathlib.Core.Path.{_≡_, sym, subst}
+use mathlib.Core.Path.{sym, subst}
 use mathlib.Core.List.{List}
 use lib.ListN.{length, take, getD, set}
 use lib.Seq.{length-take-le}
@@ -10,9 +10,6 @@ use Prim.Native.Nat.{ℕ, _+_, _-_, _≤_, _<_}
 use borrow.Author.Needs.{needs}
 use Rattle.totals.proofs.totals.count_labels.Statement.{statement}
 use Rattle.totals.proofs.totals.count_labels.Tie as tie
-use Rattle.totals.proofs.totals.count_labels.Reads as reads
-use Rattle.totals.proofs.totals.count_labels.Lts as lts
-use Rattle.totals.proofs.totals.wide.Reads as wide-reads
 
 abbrev Inv-loop : tie.InvT-loop
 Inv-loop labels counts₀ i₀ counts i = LabelCounts (take i labels) counts × (i ≤ length labels)
@@ -20,59 +17,66 @@ Inv-loop labels counts₀ i₀ counts i = LabelCounts (take i labels) counts × 
 abbrev μ-loop : tie.MeasureT-loop
 μ-loop labels counts₀ i₀ counts i = length labels - i
 
--- src/totals.rt:27:5
 loop-holds : tie.Need-loop-holds Inv-loop μ-loop
-loop-holds c = (subst (λ (l : List ℕ). LabelCounts (take 0 ((c .before .before .args) .labels .now)) l) (sym (c .before .before .pre)) (counts-none ((c .before .before .args) .labels .now)), omega arith)
+loop-holds c =
+    let args = c .before .before .args in
+    let pre = c .before .before .pre in
+    (subst (λ (l : List ℕ). LabelCounts (take 0 args.labels.now) l) (sym pre) (counts-none args.labels.now), omega arith)
 
--- src/totals.rt:28:26
 shared-slice-read-wide : tie.Need-shared-slice-read-wide Inv-loop μ-loop
 shared-slice-read-wide c = search needs
 
--- src/totals.rt:28:13
 wide-requires : tie.Need-wide-requires Inv-loop μ-loop
 wide-requires c κs = search needs
 
--- src/totals.rt:29:25
 mul-counts : tie.Need-mul-counts Inv-loop μ-loop
 mul-counts c = omega (arith, (c .wide) .ensures .1)
 
--- src/totals.rt:29:25
 slice-read-counts : tie.Need-slice-read-counts Inv-loop μ-loop
 slice-read-counts c = omega (arith, (c .before .wide) .ensures .1, (c .before .before .before .before .loop) .inv .0 .long)
 
--- src/totals.rt:29:25
 add-counts : tie.Need-add-counts Inv-loop μ-loop
-add-counts c = omega (arith, counts-most (take ((c .before .before .before .before .loop) .i) ((c .before .before .before .before .before .before .before .args) .labels .now)) ((c .before .before .before .before .loop) .counts) ((c .before .wide) .result) ((c .before .wide) .ensures .1) ((c .before .before .before .before .loop) .inv .0), length-take-le ((c .before .before .before .before .loop) .i) ((c .before .before .before .before .before .before .before .args) .labels .now) ((c .before .before .before .before .loop) .inv .1), (c .before .before .before .loop-test) .taken)
+add-counts c =
+    let loop = c .before .before .before .before .loop in
+    let args = c .before .before .before .before .before .before .before .args in
+    let wide = c .before .wide in
+    let loop-test = c .before .before .before .loop-test in
+    omega (
+      arith,
+      counts-most (take loop.i args.labels.now) loop.counts wide.result wide.ensures.1 loop.inv.0,
+      length-take-le loop.i args.labels.now loop.inv.1,
+      loop-test.taken,
+    )
 
--- src/totals.rt:29:9
 mul-counts-2 : tie.Need-mul-counts-2 Inv-loop μ-loop
 mul-counts-2 c = omega (arith, (c .before .wide) .ensures .1)
 
--- src/totals.rt:29:9
 slice-write-counts : tie.Need-slice-write-counts Inv-loop μ-loop
 slice-write-counts c = omega (arith, (c .before .wide) .ensures .1, (c .before .before .before .before .loop) .inv .0 .long)
 
--- src/totals.rt:30:13
 add-i : tie.Need-add-i Inv-loop μ-loop
 add-i c = search needs
 
--- src/totals.rt:27:5
 loop-less : tie.Need-loop-less Inv-loop μ-loop
 loop-less c = search needs
 
--- src/totals.rt:27:5
 loop-again : tie.Need-loop-again Inv-loop μ-loop
-loop-again c = let x = (c .before .wide) .result in
-    let is = (c .before .wide) .ensures .0 in
-    let small = subst (λ (k : ℕ). k < 256) is ((c .before .wide) .ensures .1) in
-    (subst (λ (k : ℕ). LabelCounts (take ((c .before .before .before .before .loop) .i + 1) ((c .before .before .before .before .before .before .before .args) .labels .now)) (set ((c .before .before .before .before .loop) .counts) k (getD ((c .before .before .before .before .loop) .counts) k 0 + 1))) (sym is)
-    (counts-on ((c .before .before .before .before .before .before .before .args) .labels .now) ((c .before .before .before .before .loop) .counts) ((c .before .before .before .before .loop) .i) ((c .before .before .before .loop-test) .taken) small ((c .before .before .before .before .loop) .inv .0)), omega (arith, (c .before .before .before .loop-test) .taken))
+loop-again c =
+    let wide = c .before .wide in
+    let loop = c .before .before .before .before .loop in
+    let args = c .before .before .before .before .before .before .before .args in
+    let loop-test = c .before .before .before .loop-test in
+    let x = wide.result in
+    let is = wide.ensures.0 in
+    let small = subst (λ (k : ℕ). k < 256) is wide.ensures.1 in (
+      subst (λ (k : ℕ). LabelCounts (take (loop.i + 1) args.labels.now) (set loop.counts k (getD loop.counts k 0 + 1))) (sym is)
+          (counts-on args.labels.now loop.counts loop.i loop-test.taken small loop.inv.0),
+      omega (arith, loop-test.taken),
+    )
 
--- src/totals.rt:22:1
 same-length : tie.Need-same-length Inv-loop μ-loop
 same-length c = search needs
 
--- src/totals.rt:22:1
 returns : tie.Need-returns Inv-loop μ-loop
 returns c = counts-all ((c .before .before .before .before .args) .labels .now) _ _ ((c .loop-test) .left) ((c .before .loop) .inv .0)
 
