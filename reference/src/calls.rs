@@ -75,6 +75,11 @@ pub fn listing(table: &[u8], entries_len: usize) -> Vec<u8> {
     listing::printed(table, entries_len)
 }
 
+/// The same without the totals at the foot of a listing.
+pub fn listing_without_totals(table: &[u8], entries_len: usize) -> Vec<u8> {
+    listing::printed_without_totals(table, entries_len)
+}
+
 /// The line of a refusal.
 pub fn refusal_line(number: u64, place: u64) -> Vec<u8> {
     listing::refusal_line(number, place).into_bytes()

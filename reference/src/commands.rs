@@ -5,7 +5,8 @@
 //                                                 call; the tables in TABLES join those of the listing
 //   reference graphs IN OUT SEED                  writes graphs under names and what the next round relates in them
 //   reference read FILE                           reads one table and prints the answer
-//   reference list FILE [ENTRIES]                 prints the listing of one table
+//   reference list [--without-totals] FILE [ENTRIES]
+//                                                 prints the listing of one table
 //   reference mix SEED COUNT                      says what the first asks of a seed meet
 //   reference speed [TABLES]                      times the partition call on heavy models and the tables in TABLES
 //
@@ -16,7 +17,8 @@ use std::fs;
 use std::io::{self, Read, Write};
 
 const USAGE: &str = "usage: reference vectors DIR | cases DIR IN OUT [CALLS [TABLES]] | \
-                     graphs IN OUT SEED | read FILE | list FILE [ENTRIES] | mix SEED COUNT | speed [TABLES]";
+                     graphs IN OUT SEED | read FILE | list [--without-totals] FILE [ENTRIES] | \
+                     mix SEED COUNT | speed [TABLES]";
 
 /// Carries out a command: whether all agreed, or what stood in the way.
 pub fn run(arguments: &[&str]) -> Result<bool, String> {
@@ -31,10 +33,8 @@ pub fn run(arguments: &[&str]) -> Result<bool, String> {
             number(seed, "SEED").and_then(|seed| graphs::write(input, output, seed)).map(|()| true)
         }
         ["read", file] => read(file).map(|()| true),
-        ["list", file] => list(file, listing::ENTRIES_OF_PROGRAM).map(|()| true),
-        ["list", file, entries] => {
-            number(entries, "ENTRIES").and_then(|entries| list(file, entries as usize)).map(|()| true)
-        }
+        ["list", "--without-totals", ref of @ ..] => list(listing::printed_without_totals, of).map(|()| true),
+        ["list", ref of @ ..] => list(listing::printed, of).map(|()| true),
         ["mix", seed, count] => mix_of(seed, count).map(|()| true),
         ["speed"] => print_speed(None).map(|()| true),
         ["speed", tables] => print_speed(Some(tables)).map(|()| true),
@@ -96,9 +96,18 @@ fn read(file: &str) -> Result<(), String> {
     Ok(())
 }
 
-/// Prints the listing of one table with so many entries lent, or its refusal's line.
-fn list(file: &str, entries: usize) -> Result<(), String> {
-    let text = listing::printed(&bytes_of(file)?, entries.saturating_mul(region::ENTRY));
+/// What is printed for a table with so many bytes lent.
+type Print = fn(&[u8], usize) -> Vec<u8>;
+
+/// Prints the listing of one table, or its refusal's line. Given are the file and, if not as many as by the program,
+/// how many entries are lent.
+fn list(print: Print, of: &[&str]) -> Result<(), String> {
+    let (file, entries) = match *of {
+        [file] => (file, listing::ENTRIES_OF_PROGRAM),
+        [file, entries] => (file, number(entries, "ENTRIES")? as usize),
+        _ => return Err(USAGE.to_string()),
+    };
+    let text = print(&bytes_of(file)?, entries.saturating_mul(region::ENTRY));
     let mut out = io::stdout().lock();
     out.write_all(&text).and_then(|()| out.flush()).map_err(|error| format!("standard output: {error}"))
 }

@@ -1,5 +1,5 @@
 // The listing: the text that the program prints for a table. A refusal prints its line. Shares are rounded as
-// document 02 asks in Job 7; all else is as in document 01.
+// document 02 asks in Job 7, and at the foot stand the totals that it asks for in Job 1; all else is as in document 01.
 
 use crate::explore::{self, MOST_REGIONS};
 use crate::links::{Graph, Step};
@@ -20,6 +20,11 @@ pub fn printed(table: &[u8], lent: usize) -> Vec<u8> {
     listing(table, lent).unwrap_or_else(refused).into_bytes()
 }
 
+/// The same without the totals: a refusal's line is the same, and a listing ends with its last block.
+pub fn printed_without_totals(table: &[u8], lent: usize) -> Vec<u8> {
+    without_totals(table, lent).unwrap_or_else(refused).into_bytes()
+}
+
 /// The line of a refusal that a call gave.
 pub fn refused(refusal: Refusal) -> String {
     refusal_line(refusal.number.into(), refusal.place as u64)
@@ -32,25 +37,47 @@ pub fn refusal_line(number: u64, place: u64) -> String {
 
 /// The listing of a table with so many bytes lent for entries, or a refusal of 1 to 15.
 pub fn listing(table: &[u8], lent: usize) -> Result<String, Refusal> {
-    let model = table::read(table)?;
-    let mut entries = vec![0; lent.min(MOST_REGIONS * ENTRY)];
-    let net = explore::net(&model, &mut entries)?;
-    let graph = Graph::of(&model, &net.regions);
-    let rounds = refine::run(&net);
-    Ok(text(&net.regions, model.clocks.into(), &graph, &rounds))
+    let subject = Subject::of(table, lent)?;
+    Ok(subject.text() + &totals(&subject.graph.labels, &subject.rounds.last))
 }
 
-/// The whole listing: the first line, the regions, the blocks.
-fn text(regions: &[Region], clocks: usize, graph: &Graph, rounds: &Rounds) -> String {
-    let members = members(&rounds.last);
-    let mut text = format!("regions {} blocks {} rounds {}\n", regions.len(), members.len(), rounds.count);
-    for (number, region) in regions.iter().enumerate() {
-        text.push_str(&region_line(number, *region, rounds.last[number], clocks));
+/// The same without the totals.
+pub fn without_totals(table: &[u8], lent: usize) -> Result<String, Refusal> {
+    Subject::of(table, lent).map(|subject| subject.text())
+}
+
+/// What a listing is about.
+struct Subject {
+    regions: Vec<Region>,
+    clocks: usize,
+    graph: Graph,
+    rounds: Rounds,
+}
+
+impl Subject {
+    fn of(table: &[u8], lent: usize) -> Result<Subject, Refusal> {
+        let model = table::read(table)?;
+        let mut entries = vec![0; lent.min(MOST_REGIONS * ENTRY)];
+        let net = explore::net(&model, &mut entries)?;
+        let graph = Graph::of(&model, &net.regions);
+        let rounds = refine::run(&net);
+        Ok(Subject { regions: net.regions, clocks: model.clocks.into(), graph, rounds })
     }
-    for (block, members) in members.iter().enumerate() {
-        text.push_str(&block_lines(block as u32, members, graph, &rounds.last));
+
+    /// All of the listing but the totals: the first line, the regions, the blocks.
+    fn text(&self) -> String {
+        let blocks = &self.rounds.last;
+        let members = members(blocks);
+        let count = self.regions.len();
+        let mut text = format!("regions {count} blocks {} rounds {}\n", members.len(), self.rounds.count);
+        for (number, region) in self.regions.iter().enumerate() {
+            text.push_str(&region_line(number, *region, blocks[number], self.clocks));
+        }
+        for (block, members) in members.iter().enumerate() {
+            text.push_str(&block_lines(block as u32, members, &self.graph, blocks));
+        }
+        text
     }
-    text
 }
 
 /// The regions of each block, rising.
@@ -129,4 +156,25 @@ fn parts(weight: u64, denominator: u64) -> u64 {
         Ordering::Equal => below + below % 2,
         Ordering::Greater => below + 1,
     }
+}
+
+/// The totals (document 02, Job 1), from the label and the block of each region: for each label that a region bears,
+/// labels rising, how many regions bear it and how many blocks these are in, and then the sums of both.
+fn totals(labels: &[u8], blocks: &[u32]) -> String {
+    let mut borne: BTreeMap<u8, (usize, BTreeSet<u32>)> = BTreeMap::new();
+    for (&label, &block) in labels.iter().zip(blocks) {
+        let (regions, within) = borne.entry(label).or_default();
+        *regions += 1;
+        within.insert(block);
+    }
+    let (mut text, mut all) = (String::new(), (0, 0));
+    for (label, (regions, within)) in borne {
+        text.push_str(&total_line(&format!("label {label}"), regions, within.len()));
+        all = (all.0 + regions, all.1 + within.len());
+    }
+    text + &total_line("all", all.0, all.1)
+}
+
+fn total_line(whose: &str, regions: usize, blocks: usize) -> String {
+    line(&[format!("{whose} regions {regions} blocks {blocks}")])
 }

@@ -12,6 +12,7 @@ use crate::graph_models::{
 use crate::listing_cases::{ListingCases, LENT_OF_PROGRAM, MOST_LENT};
 use crate::listing_models::{denominator, entered_late};
 use crate::listing_parse::check_strictness;
+use crate::listing_totals::{foot, Total};
 use crate::records::{with_places, Records};
 use crate::region::ENTRY;
 use crate::rng::Rng;
@@ -53,6 +54,9 @@ delay 0 1
 block 1 5 1
 step 1 3 0:6667 2:3333
 block 2 9 2
+label 5 regions 3 blocks 2
+label 9 regions 2 blocks 1
+all regions 5 blocks 3
 ";
 
 /// The document's model with five entries, with four, and with other numbers of bytes.
@@ -72,14 +76,14 @@ fn no_clocks(cases: &mut ListingCases) {
     for label in [0, 7, 10, 99, 100, 255] {
         let table = written(&labelled(0, &[label], Vec::new(), Vec::new()));
         let text = format!("regions 1 blocks 1 rounds 0\nregion 0 0 0\nblock 0 {label} 1\n");
-        cases.foretold(&table, LENT_OF_PROGRAM, &text);
+        cases.foretold(&table, LENT_OF_PROGRAM, &(text + &foot(&[(label, 1, 1)])));
     }
     for action in [0, 9, 10, 99, 100, 255] {
         let edges = vec![step(0, action, &[], &[(1, 0, 0)]), step(0, 255 - action, &[], &[(60_000, 0, 0)])];
         let table = written(&labelled(0, &[1], Vec::new(), edges));
         let mut text = "regions 1 blocks 1 rounds 0\nregion 0 0 0\nblock 0 1 1\n".to_string();
         text.push_str(&format!("step 0 {action} 0:10000\nstep 0 {} 0:10000\n", 255 - action));
-        cases.foretold(&table, LENT_OF_PROGRAM, &text);
+        cases.foretold(&table, LENT_OF_PROGRAM, &(text + &foot(&[(1, 1, 1)])));
     }
 }
 
@@ -113,6 +117,8 @@ fn star(others: u8, steps: &[StarStep]) -> (Model, String) {
     for location in 1..=others {
         text.push_str(&format!("block {location} {} 1\n", labels[usize::from(location)]));
     }
+    let totals: Vec<Total> = labels.iter().map(|&label| (label, 1, 1)).collect();
+    text.push_str(&foot(&totals));
     (labelled(0, &labels, Vec::new(), edges), text)
 }
 
@@ -317,12 +323,12 @@ fn no_delay(cases: &mut ListingCases) {
         let zeros = " 0".repeat(clocks.into());
         let still = labelled(clocks, &[6], vec![invariant(0, clocks - 1, AT_MOST, 0)], Vec::new());
         let text = format!("regions 1 blocks 1 rounds 0\nregion 0 0 0{zeros}\nblock 0 6 1\n");
-        cases.foretold(&written(&still), LENT_OF_PROGRAM, &text);
+        cases.foretold(&written(&still), LENT_OF_PROGRAM, &(text + &foot(&[(6, 1, 1)])));
         let over = " >".repeat(clocks.into());
         let stays = labelled(clocks, &[6], Vec::new(), Vec::new());
         let text =
             format!("regions 2 blocks 1 rounds 0\nregion 0 0 0{zeros}\nregion 1 0 0{over}\nblock 0 6 2\n");
-        cases.foretold(&written(&stays), LENT_OF_PROGRAM, &text);
+        cases.foretold(&written(&stays), LENT_OF_PROGRAM, &(text + &foot(&[(6, 2, 1)])));
     }
     // An edge that comes at 0, at 1 and at 2 and goes between: how often it still comes parts all regions.
     let back = |constant: u8| step(0, 4, &[guard(0, EQUAL, constant)], &[(1, 0, 1)]);
@@ -471,6 +477,7 @@ fn lines_of_one_clock(cases: &mut ListingCases) {
                 text.push_str(&format!("region {number} 0 0{}\n", format!(" {value}").repeat(clocks)));
             }
             text.push_str(&format!("block 0 255 {count}\n"));
+            text.push_str(&foot(&[(255, count, 1)]));
             cases.foretold(&written(&model), LENT_OF_PROGRAM, &text);
         }
     }
@@ -489,6 +496,7 @@ fn many_rounds(cases: &mut ListingCases) {
             text.push_str(&format!("block {location} 0 1\nstep {location} 1 {}:10000\n", location + 1));
         }
         text.push_str(&format!("block {} {label} 1\n", locations - 1));
+        text.push_str(&foot(&[(0, usize::from(locations) - 1, usize::from(locations) - 1), (label, 1, 1)]));
         cases.foretold(&table, LENT_OF_PROGRAM, &text);
     }
     for model in [retrying(2), retrying(40), retrying(64), ticking(1, 3), ticking(5, 15), ticking(10, 15)] {

@@ -12,8 +12,10 @@ use crate::graph_models::by_chance;
 use crate::listing::{self, ENTRIES_OF_PROGRAM};
 use crate::listing_borders;
 use crate::listing_check::{self, Findings, Halves};
+use crate::listing_foot::{self, Totals};
 use crate::listing_halves;
 use crate::listing_models::{branching, coloured, halved, many_edges, renamed, wide};
+use crate::listing_totals;
 use crate::region::ENTRY;
 use crate::rng::Rng;
 use crate::table::{self, Model, Refusal};
@@ -30,7 +32,7 @@ pub const MOST_LENT: usize = 37_000;
 /// The bytes that the program lends.
 pub const LENT_OF_PROGRAM: usize = ENTRIES_OF_PROGRAM * ENTRY;
 /// What the cases made here may take: bytes of input, bytes of listings, regions explored.
-const INPUT_BUDGET: usize = 600_000;
+const INPUT_BUDGET: usize = 700_000;
 const TEXT_BUDGET: usize = 8_000_000;
 const REGION_BUDGET: usize = 400_000;
 /// The fewest cases.
@@ -141,6 +143,7 @@ impl ListingCases {
     fn note(&mut self, table: &[u8], lent: usize, answer: &Result<String, Refusal>, length: usize) {
         self.count += 1;
         self.text += length;
+        listing_foot::check_printed(table, lent);
         match answer {
             Ok(text) => {
                 let before = self.findings.regions;
@@ -202,6 +205,7 @@ impl ListingCases {
             ("listings with 15", found.fifteen, 40),
         ];
         demands.extend(demands_on_halves(&found.halves));
+        demands.extend(demands_on_totals(&found.totals));
         demands.extend(BY_CLOCKS.iter().zip(found.clocks).map(|(&name, times)| (name, times, 80)));
         demands.extend(BY_DIGITS.iter().zip(found.digits).map(|(&name, times)| (name, times, 25)));
         demands
@@ -238,6 +242,27 @@ fn demands_on_halves(halves: &Halves) -> [(&'static str, usize, usize); 10] {
     ]
 }
 
+/// How often what the totals are about must occur.
+fn demands_on_totals(totals: &Totals) -> [(&'static str, usize, usize); 15] {
+    [
+        ("label lines", totals.all_lines(), 3_000),
+        ("label lines of each label", totals.fewest_lines(), 3),
+        ("listings of one label", totals.of_one, 400),
+        ("listings of 64 labels", totals.of_most, 8),
+        ("listings with labels put in order", totals.in_order, 300),
+        ("listings with labels met falling", totals.falling, 50),
+        ("listings whose first label is the largest", totals.first_is_last, 200),
+        ("labels that no region bears", totals.left_out, 300),
+        ("locations never reached of a label that is borne", totals.unreached, 300),
+        ("labels of several locations", totals.of_locations, 500),
+        ("labels of many blocks", totals.of_many_blocks, 150),
+        ("labels of one block of many regions", totals.of_one_block, 250),
+        ("labels of several blocks, fewer than regions", totals.between, 500),
+        ("labels whose blocks are apart", totals.apart, 300),
+        ("labels of 1,000 regions or more", totals.of_thousands, 20),
+    ]
+}
+
 /// Makes all cases of the listing. The tables of a folder, if one is given, come last.
 pub fn make(vectors: &Vectors, tables: Option<&str>) -> Result<ListingCases, String> {
     let mut cases = ListingCases::new();
@@ -249,6 +274,7 @@ pub fn make(vectors: &Vectors, tables: Option<&str>) -> Result<ListingCases, Str
     add_many_edges(&mut cases);
     add_large_tables(&mut cases);
     add_damaged(&mut cases);
+    listing_totals::add_cases(&mut cases);
     add_vectors(&mut cases, vectors)?;
     cases.check();
     if let Some(folder) = tables {

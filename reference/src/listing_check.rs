@@ -1,9 +1,11 @@
 // What must hold of each listing, and what was found in it. The text is read back and compared with the
 // partition call and with the model: the regions with the entries, the blocks with the block lists, delay and
 // steps with what the model's lowest region of each block does, each share by the two borders between which
-// it is rounded to what is printed, and which belong to even numbers alone.
+// it is rounded to what is printed, and which belong to even numbers alone. The totals are checked in
+// listing_foot.rs.
 
 use crate::explore::Layout;
+use crate::listing_foot::{self, Totals};
 use crate::listing_parse::{parse, BlockLines, Listing, RegionLine, StepLine};
 use crate::partition::{self, Question};
 use crate::region::{Region, CLOCKS, ENTRY};
@@ -31,6 +33,7 @@ pub struct Findings {
     pub zeros: usize,
     pub nearly_whole: usize,
     pub halves: Halves,
+    pub totals: Totals,
     /// Blocks of which another region has other edges, or the same ones otherwise.
     pub otherwise: usize,
     /// Listings by the number of clocks, and by the digits of the last region's number.
@@ -79,6 +82,7 @@ pub fn check(table: &[u8], lent: usize, text: &str, findings: &mut Findings) {
     for (block, regions) in members.iter().enumerate() {
         subject.check_block(block as u32, regions[0], findings);
     }
+    listing_foot::check(&model, &listing, &mut findings.totals);
     subject.note(&members, findings);
 }
 

@@ -28,12 +28,21 @@ pub struct BlockLines {
     pub steps: Vec<StepLine>,
 }
 
-/// A whole listing.
+/// What a line of the totals counts.
+#[derive(Clone, Copy, PartialEq, Eq, Debug)]
+pub struct Counts {
+    pub regions: usize,
+    pub blocks: usize,
+}
+
+/// A whole listing. The totals are those of each label that has a line, line by line, and those of all.
 #[derive(Debug)]
 pub struct Listing {
     pub rounds: usize,
     pub regions: Vec<RegionLine>,
     pub blocks: Vec<BlockLines>,
+    pub labels: Vec<(u8, Counts)>,
+    pub all: Counts,
 }
 
 /// The lines that are left to read, each as its fields.
@@ -89,7 +98,20 @@ pub fn parse(text: &str) -> Option<Listing> {
     let blocks: Option<Vec<BlockLines>> =
         (0..number(blocks)?).map(|index| block_lines(index, &mut lines)).collect();
     let blocks = blocks?;
-    lines.left.is_empty().then_some(Listing { rounds, regions, blocks })
+    let mut labels = Vec::new();
+    while let Some(fields) = lines.next_of("label") {
+        labels.push((byte(fields.first()?)?, counts(&fields[1..])?));
+    }
+    let all = counts(&lines.next_of("all")?)?;
+    lines.left.is_empty().then_some(Listing { rounds, regions, blocks, labels, all })
+}
+
+/// The counts of a line of the totals.
+fn counts(fields: &[&str]) -> Option<Counts> {
+    let ["regions", regions, "blocks", blocks] = fields else {
+        return None;
+    };
+    Some(Counts { regions: number(regions)?, blocks: number(blocks)? })
 }
 
 fn region_line(index: usize, fields: &[&str]) -> Option<RegionLine> {
@@ -151,6 +173,7 @@ pub fn check_strictness(text: &str) {
     assert!(parse(text).is_some(), "a listing is read back");
     let lines: Vec<&str> = text.lines().collect();
     let mut others = vec![text.trim_end().to_string(), format!("{text}\n"), text.replace('\n', "\r\n")];
+    others.extend(with_another_end(&lines));
     for (index, line) in lines.iter().enumerate() {
         let fields: Vec<&str> = line.split(' ').collect();
         let longer = [format!("{line} "), format!(" {line}"), line.replacen(' ', "  ", 1)];
@@ -165,4 +188,14 @@ pub fn check_strictness(text: &str) {
     for other in others {
         assert!(parse(&other).is_none(), "{other:?} has not the form of a listing");
     }
+}
+
+/// The lines of a listing with an end that none has: without the last line, with it twice, with one more line of a
+/// label after it, and with it before the last line of a label.
+fn with_another_end(lines: &[&str]) -> Vec<String> {
+    let (all, before) = lines.split_last().expect("a listing has lines");
+    let (label, above) = before.split_last().expect("a label is borne");
+    let ends: [(&[&str], &[&str]); 4] =
+        [(before, &[]), (lines, &[all]), (lines, &[label]), (above, &[all, label])];
+    ends.iter().map(|(kept, more)| [*kept, *more].concat().join("\n") + "\n").collect()
 }

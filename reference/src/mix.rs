@@ -1,10 +1,11 @@
 // What a series of asks covers: how often each call succeeds or meets each refusal, how regions, blocks and rounds
-// are spread, and which shares the listings of the tables have.
+// are spread, and which shares and totals the listings of the tables have.
 
 use crate::asks::{self, Ask, What};
 use crate::calls::{self, Answer};
 use crate::listing;
 use crate::listing_check::{self, Findings};
+use crate::listing_foot;
 
 /// The names of the calls, in the order of `What`.
 const CALLS: [&str; 5] = ["graph", "state", "partition", "pair", "judging"];
@@ -67,9 +68,21 @@ impl Listed {
         let mut text = format!("listings: {}  step lines: {steps}\n", self.listings);
         text.push_str(&format!("listings with exact halves: {}", self.with_halves));
         text.push_str(&format!("  gone down: {down}  gone up: {up}  printed as 0: {}\n", halves.zeros));
-        text + &format!(
+        text.push_str(&format!(
             "exact halves made by sums alone  gone down: {down_together}  gone up: {up_together}\n"
-        )
+        ));
+        text + &self.totals_text()
+    }
+
+    fn totals_text(&self) -> String {
+        let totals = &self.findings.totals;
+        let (lines, labels) = (totals.all_lines(), totals.lines.len());
+        let mut text = format!("label lines: {lines}  different labels: {labels}");
+        text.push_str(&format!("  listings of one label: {}", totals.of_one));
+        text.push_str(&format!("  with labels put in order: {}\n", totals.in_order));
+        text.push_str(&format!("labels of several blocks, fewer than regions: {}", totals.between));
+        text.push_str(&format!("  of many blocks: {}", totals.of_many_blocks));
+        text + &format!("  borne by no region: {}\n", totals.left_out)
     }
 }
 
@@ -86,6 +99,7 @@ pub fn summary(seed: u64, count: u64) -> String {
         let answer = answered(&ask);
         met[answer.refusal as usize][ask.what.call()] += 1;
         let graph = calls::graph(&ask.table, &mut vec![0; ask.entries]);
+        listing_foot::check_printed(&ask.table, ask.entries);
         if graph.refusal == 0 {
             regions.note(graph.value);
             listed.note(&ask);

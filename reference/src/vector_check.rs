@@ -2,6 +2,7 @@
 
 use crate::explore;
 use crate::listing;
+use crate::listing_foot;
 use crate::partition::{self, Answer};
 use crate::place;
 use crate::table::Refusal;
@@ -57,11 +58,20 @@ fn difference(vector: &Vector) -> Option<String> {
         return Some(format!("asked for {}, found {}", in_words(&vector.answer), in_words(&answer)));
     }
     let mut contents = vector.contents.iter().zip(&found);
-    let (content, found) = contents.find(|(content, found)| !content.agrees(found))?;
-    Some(match vector.ask {
-        Ask::Listing => text_difference(content, found),
-        _ => format!("{}, but with other {}", in_words(&answer), content.name),
-    })
+    let differing = contents.find(|(content, found)| !content.agrees(found));
+    match (&vector.ask, differing) {
+        (Ask::Listing, Some((content, found))) => Some(text_difference(content, found)),
+        (Ask::Listing, None) => totals_difference(vector, &found[0]),
+        (_, Some((content, _))) => Some(format!("{}, but with other {}", in_words(&answer), content.name)),
+        (_, None) => None,
+    }
+}
+
+/// Describes how a listing differs from what is printed without totals, unless that is by their lines alone.
+fn totals_difference(vector: &Vector, found: &[u8]) -> Option<String> {
+    let short = listing_foot::without(&String::from_utf8_lossy(found));
+    let differs = listing::printed_without_totals(&vector.table, vector.lent) != short.as_bytes();
+    differs.then(|| "as asked for, but printed otherwise without totals".to_string())
 }
 
 /// Makes the call of a line. Returns its answer and the contents, in the order in which the line has them. The lists
