@@ -315,12 +315,13 @@ static uint64_t part_after(struct subject *s, uint64_t part, const char *word) {
     return part;
 }
 
-/* Tries the first and last parts of each sort, if there is a listing; and such as are not there. */
+/* Tries the first and last parts of each sort, and the totals, if there is a listing; and such as are not there. */
 static void try_parts(struct subject *s) {
     uint64_t n = s->graph.value, blocks = s->reduced.blocks, first_block = part_after(s, 0, "region");
-    uint64_t end = part_after(s, first_block, "block");
-    const uint64_t parts[] = {0, 1, first_block - 1, first_block, end - 1};
+    uint64_t totals = part_after(s, first_block, "block"), end = part_after(s, totals, "label");
+    const uint64_t parts[] = {0, 1, first_block - 1, first_block, totals - 1, totals};
     for (size_t i = 0; n > 0 && i < sizeof parts / sizeof parts[0]; i++) try_some_part(s, parts[i]);
+    want(s, "part", "the part after the totals", end, n > 0 ? totals + 1 : 0);
     want(s, "part", "the length past the end", try_part(s, n, blocks, end, 99), 0);
     want(s, "part", "the length past all", try_part(s, n, blocks, UINT64_MAX, 99), 0);
     want(s, "part", "the length with too many regions", try_part(s, n + 1, blocks, 0, 99), 0);

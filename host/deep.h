@@ -19,13 +19,23 @@
 #define REGIONS TERKWABU_MAX_REGIONS
 #define ENTRIES_LEN (REGIONS * TERKWABU_ENTRY_BYTES)
 
+/* Tells the sorts of parts that a listing has apart by how they begin. */
+enum sort { FIRST_LINE, REGION, BLOCK, TOTALS, SORTS };
+static const char *const beginnings[SORTS] = {"regions ", "region ", "block ", "label "};
+
+/* Names a part by its number; without bytes it is none. */
+struct part {
+    uint64_t number, bytes;
+};
+
 /* Holds what the calls work on. The table has room for one that is too long. `answer` is that of the last call, `reduced` that of the last
- * partition call. */
+ * partition call, and `longest` has the longest part of each sort. */
 struct work {
     uint8_t table[20000], entries[ENTRIES_LEN], buffer[TERKWABU_PART_BYTES];
     size_t table_len;
     uint64_t first[REGIONS], second[REGIONS];
     terkwabu_answer answer, reduced;
+    struct part longest[SORTS];
 };
 static struct work *work;
 
@@ -92,12 +102,33 @@ static void call_one_part(uint64_t part, size_t buffer_len) {
                                  buffer_len);
 }
 
-/* Goes through the parts up to the first that is not there. */
+/* Notes the part in the buffer if it is the longest of its sort so far. */
+static void note_part(uint64_t number) {
+    for (int sort = 0; sort < SORTS; sort++)
+        if (memcmp(work->buffer, beginnings[sort], strlen(beginnings[sort])) == 0 && work->answer.value > work->longest[sort].bytes)
+            work->longest[sort] = (struct part){number, work->answer.value};
+}
+
+/* Goes through the parts up to the first that is not there. If there is a listing, it must have parts of all sorts. */
 static void call_part(void) {
     uint64_t part = 0;
-    do call_one_part(part++, TERKWABU_PART_BYTES);
-    while (work->answer.value > 0);
+    memset(work->longest, 0, sizeof work->longest);
+    while (call_one_part(part, TERKWABU_PART_BYTES), work->answer.value > 0) note_part(part++);
+    for (int sort = 0; sort < SORTS; sort++)
+        if (work->reduced.refusal == 0 && work->longest[sort].bytes == 0) work->answer.refusal = UINT64_MAX;
 }
+
+/* Makes the longest part of a sort by itself, so that the loader may have to look for memcpy and memset there. */
+static void call_longest_part(enum sort sort) {
+    call_one_part(work->longest[sort].number, TERKWABU_PART_BYTES);
+    if (work->answer.value != work->longest[sort].bytes) work->answer.refusal = UINT64_MAX;
+}
+
+static void call_part_region(void) { call_longest_part(REGION); }
+
+static void call_part_block(void) { call_longest_part(BLOCK); }
+
+static void call_part_totals(void) { call_longest_part(TOTALS); }
 
 static void call_part_no_buffer(void) { call_one_part(0, 0); }
 
@@ -131,6 +162,9 @@ static const struct call calls[] = {
     {"terkwabu_judge of one number", TERKWABU_STACK_JUDGE, call_judge_one_number, 15, TERKWABU_PROPOSAL_LENGTH},
     {"terkwabu_judge of no bisimulation", TERKWABU_STACK_JUDGE, call_judge_wrong, 15, TERKWABU_NO_BISIMULATION},
     {"terkwabu_part", TERKWABU_STACK_PART, call_part, 13, TERKWABU_NO_REFUSAL},
+    {"terkwabu_part of a region", TERKWABU_STACK_PART, call_part_region, 13, TERKWABU_NO_REFUSAL},
+    {"terkwabu_part of a block", TERKWABU_STACK_PART, call_part_block, 13, TERKWABU_NO_REFUSAL},
+    {"terkwabu_part of the totals", TERKWABU_STACK_PART, call_part_totals, 13, TERKWABU_NO_REFUSAL},
     {"terkwabu_part with no buffer", TERKWABU_STACK_PART, call_part_no_buffer, 13, TERKWABU_NO_REFUSAL},
     {"terkwabu_refusal_line", TERKWABU_STACK_REFUSAL_LINE, call_refusal_line, 0, TERKWABU_NO_REFUSAL},
     {"terkwabu_refusal_line with no buffer", TERKWABU_STACK_REFUSAL_LINE, call_refusal_line_no_buffer, 0, TERKWABU_NO_REFUSAL},
@@ -226,6 +260,20 @@ static void make_four_clocks(void) {
     PUT(7);
 }
 
+/* Makes 64 locations with labels from 255 down, all but the first with one region. The 128 edges of the first have eight branches to the
+ * others, each of which is a block: its part and the totals have the most lines. */
+static void make_many_steps(void) {
+    work->table_len = 0;
+    PUT(1, 2, 64, 0);
+    for (int l = 0; l < 64; l++) PUT(2, 255 - l);
+    for (int l = 1; l < 64; l++) PUT(3, l, 0, 1, 0);
+    for (int e = 0; e < 128; e++) {
+        PUT(4, 0, 255 - e, 8, 0);
+        for (int b = 0; b < 8; b++) PUT(6, 1, 0, 1 + (8 * e + b) % 63, 3);
+    }
+    PUT(7);
+}
+
 static void make_empty(void) { work->table_len = 0; }
 
 struct deep_table {
@@ -243,6 +291,7 @@ static const struct deep_table tables[] = {
     {"the longest, region 0 breaks its invariant", make_no_region_0, TERKWABU_REGION_0},
     {"four clocks, 128 edges of eight branches", make_wide, TERKWABU_ENTRIES},
     {"four clocks compared with 1", make_four_clocks, TERKWABU_NO_REFUSAL},
+    {"128 edges of eight branches at one location", make_many_steps, TERKWABU_NO_REFUSAL},
     {"the empty table", make_empty, TERKWABU_NO_RECORD},
 };
 enum { TABLES = sizeof tables / sizeof tables[0] };

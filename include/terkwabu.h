@@ -52,7 +52,7 @@
  *
  *   terkwabu_graph, terkwabu_place                     24,232 bytes
  *   terkwabu_reduce, terkwabu_pair, terkwabu_judge     1,497,200 bytes
- *   terkwabu_part                                      96,232 bytes
+ *   terkwabu_part                                      96,280 bytes
  *   terkwabu_refusal_line, terkwabu_version            296 bytes
  *
  * Where a process uses memcpy, memset or a call of the shared library for the first time, the loader takes about 3 KB more. The constants
@@ -145,7 +145,7 @@ extern "C" {
  *
  * If one of the three rises, those after it start again from 0. */
 #define TERKWABU_VERSION_MAJOR 1
-#define TERKWABU_VERSION_MINOR 1
+#define TERKWABU_VERSION_MINOR 2
 #define TERKWABU_VERSION_PATCH 0
 #define TERKWABU_VERSION (TERKWABU_VERSION_MAJOR * 1000000 + TERKWABU_VERSION_MINOR * 1000 + TERKWABU_VERSION_PATCH)
 
@@ -249,8 +249,13 @@ terkwabu_answer terkwabu_judge(const uint8_t *TERKWABU_RESTRICT table, size_t ta
                                size_t entries_len, const uint64_t *TERKWABU_RESTRICT proposal, size_t proposal_len);
 
 /* Puts a part of the listing into the buffer. Go from part 0 on until there is no such part, as the example does: joined in the order of
- * their numbers, the parts are the listing. Part 0 is the first line, then comes a part for each region, its line, and then one for each
- * block, its lines. Each part ends with a line feed, and no zero byte is put behind it.
+ * their numbers, the parts are the listing. Part 0 is the first line, then comes a part for each region, its line, then one for each block,
+ * its lines, and last one with the totals. Each part ends with a line feed, and no zero byte is put behind it.
+ *
+ * The totals count regions and blocks by label. Each label that a region bears has a line, labels rising, such as
+ * "label 5 regions 3 blocks 2": three regions bear label 5, and two blocks are those whose regions bear it. No block has regions of two
+ * labels, and a label that only locations without a region bear has no line. The last line, such as "all regions 5 blocks 3", sums those
+ * above it: after terkwabu_reduce its numbers are N and the count of blocks.
  *
  * The shares in step lines are ten-thousandths, each rounded to the nearest by itself, an exact half to the even one: 1/20,000 is
  * printed as 0 and 3/20,000 as 2. A block that is landed in is named also where its share is printed as 0, and a line need not sum to
@@ -273,7 +278,7 @@ terkwabu_answer terkwabu_part(const uint8_t *TERKWABU_RESTRICT table, size_t tab
                               uint64_t blocks, uint64_t rounds, uint64_t part, uint8_t *TERKWABU_RESTRICT buffer, size_t buffer_len);
 
 /* Puts the line of a refusal, such as "refused 5 place 0" and a line feed, into the buffer. Where terkwabu_reduce refuses a table with 1 to
- * 15, this line is its listing. Any two numbers are taken.
+ * 15, this line is its whole listing: no totals follow. Any two numbers are taken.
  *
  * value: how many bytes were written at the buffer's front. Where it is 0 the buffer is too short (not with TERKWABU_LINE_BYTES), and
  * place is how many bytes the line takes. There are no refusals. */

@@ -1,6 +1,6 @@
 """Terkwabu for designers' scripts: the proved calls of the library, with Python's numbers, fractions and exceptions.
 
-    reduce(table)                     the regions, their blocks, and the listing
+    reduce(table)                     the regions, their blocks, the totals by label, and the listing
     pair(table, r, s)                 whether two regions share a block
     place(table, location, values)    the region of a state; exact, no floats
     judge(table, proposal)            whether a proposed partition is a bisimulation
@@ -19,7 +19,8 @@ mapping, by key.
 
 The library is the file that the environment variable TERKWABU_LIBRARY names, or else build/libterkwabu.so of this project. The first call
 has ./library make that, which takes a moment (gcc is needed), or look whether it is that of the sources, and loads it; where the sources
-were changed it is proved anew first, for many minutes. One of another version than this module is not used: LibraryMissing says which versions they are.
+were changed it is proved anew first, for many minutes. One of another version than this module is not used: LibraryMissing says which
+versions they are.
 
 Threads. A call keeps nothing and holds no lock of Python's while it runs, so calls run side by side. reduce, pair and judge want a thread
 with 2 MB of stack. Most systems give threads 8 MB; where less is set, call threading.stack_size(4 * 1024 * 1024) before
@@ -49,9 +50,9 @@ from pathlib import Path
 from typing import Any, Dict, List, Mapping, NamedTuple, Optional, Sequence, Tuple, Union
 
 __all__ = ["graph", "judge", "library_version", "listing", "pair", "place", "reduce"]
-__all__ += ["Block", "Clock", "LibraryMissing", "MAX_REGIONS", "OVER", "Over", "Reduced", "Refused", "Region", "Step"]
+__all__ += ["Block", "Clock", "LibraryMissing", "MAX_REGIONS", "OVER", "Over", "Reduced", "Refused", "Region", "Step", "Total"]
 
-__version__ = "1.1.0"
+__version__ = "1.2.0"
 """Names the version of this module, and of the library that it uses: TERKWABU_VERSION_MAJOR, _MINOR and _PATCH of the header."""
 
 MAX_REGIONS = 4096
@@ -193,6 +194,13 @@ class Block(NamedTuple):
     steps: Tuple[Step, ...]
 
 
+class Total(NamedTuple):
+    """The totals of a label: how many regions bear it, and how many blocks are those whose regions bear it."""
+
+    regions: int
+    blocks: int
+
+
 @dataclass(frozen=True, repr=False)
 class Reduced:
     """A reduced model, as reduce gives it."""
@@ -225,6 +233,17 @@ class Reduced:
             delays=tuple(int(word) for line in words if line[0] == "delay" for word in line[2:]),
             steps=tuple(_step(line) for line in words if line[0] == "step"),
         )
+
+    def totals(self) -> Dict[int, Total]:
+        """Returns the totals at the foot of the listing: the counts of each label that a region bears, labels rising.
+
+        They sum to len(regions) and blocks, which the listing's last line says.
+        """
+        # The part with the totals begins with "label"; its last line begins with "all".
+        lines = [line.split() for text in self._texts()[0] if text.startswith("label ") for line in text.splitlines()]
+        if not lines:
+            raise RuntimeError("the library wrote no totals, though a listing has some")
+        return {int(words[1]): _total(words) for words in lines if words[0] == "label"}
 
     def listing(self) -> str:
         """The printed model, as the program prints it."""
@@ -269,6 +288,11 @@ class Reduced:
 def _step(words: List[str]) -> Step:
     """Of the words of a step line: "step", the block, the action, then block:share."""
     return Step(int(words[2]), {int(block): int(share) for block, share in (word.split(":") for word in words[3:])})
+
+
+def _total(words: List[str]) -> Total:
+    """Reads the words of a label's line: "label", the label, "regions", their count, "blocks", their count."""
+    return Total(int(words[3]), int(words[5]))
 
 
 # The calls for scripts.
@@ -377,7 +401,7 @@ def _table(table: Table) -> bytes:
 
 
 # Names what can be read item by item, but gives other numbers than were meant: letters, bytes of a text, members without order, fields.
-_NO_LISTS = (str, bytes, bytearray, Set, Clock, Region, Step, Block)
+_NO_LISTS = (str, bytes, bytearray, Set, Clock, Region, Step, Block, Total)
 
 
 def _items(values: Any, what: str) -> List[Any]:
@@ -618,7 +642,7 @@ def _library() -> ctypes.CDLL:
 
 
 def library_version() -> str:
-    """Asks the library for its version, such as "1.1.0": also where it is not the module's, and the other functions do not use it."""
+    """Asks the library for its version, such as "1.2.0": also where it is not the module's, and the other functions do not use it."""
     return _version_of(*_opened())
 
 

@@ -41,7 +41,7 @@ HERE = Path(__file__).resolve().parent
 ROOT = HERE.parent
 HEADER = ROOT / "include" / "terkwabu.h"
 
-# Document 01's example, and what the document prints for it.
+# Document 01's example, and what the document prints for it, with the totals of document 02 (Job 1).
 EXAMPLE = bytes.fromhex("01010200 0205 0209 0300000101 0400030300 05000301 0601000100 0602000001 07")
 EXAMPLE_LISTING = """\
 regions 5 blocks 3 rounds 1
@@ -55,6 +55,9 @@ delay 0 1
 block 1 5 1
 step 1 3 0:6667 2:3333
 block 2 9 2
+label 5 regions 3 blocks 2
+label 9 regions 2 blocks 1
+all regions 5 blocks 3
 """
 
 # Each function for scripts, with what it takes beside a table.
@@ -118,6 +121,13 @@ def sample_models():
 def lines_of(listing, word):
     """The fields of the lines of a listing that begin with the word, the word left out."""
     return [line.split()[1:] for line in listing.splitlines() if line.split()[0] == word]
+
+
+def totals_of(listing):
+    """Reads the totals at the foot of a listing: of each label in turn, and of all."""
+    labels = [(int(label), (int(regions), int(blocks))) for label, _, regions, _, blocks in lines_of(listing, "label")]
+    [[_, regions, _, blocks]] = lines_of(listing, "all")
+    return labels, (int(regions), int(blocks))
 
 
 def clock_of(text):
@@ -326,11 +336,11 @@ class CallsAgainstVectors(unittest.TestCase):
         self.check("place", 480, self.one_place)
 
     def test_listing(self):
-        self.check("listing", 160, self.one_listing)
+        self.check("listing", 410, self.one_listing)
 
     def parts(self, table, entries, blocks, left, buffer):
         """The parts of a listing by the loop that the header gives: until refusal, value and place are 0."""
-        for part in range(2 * 4096 + 2):
+        for part in range(2 * 4096 + 3):  # the first line, regions, blocks, the totals, and the end
             counts = left.value, left.blocks, left.rounds
             got = terkwabu._call("terkwabu_part", table, entries.as_bytes(entries.count), blocks, *counts, part, buffer)
             self.assertEqual((got.refusal, got.place, got.blocks, got.rounds), (0, 0, 0, 0))
@@ -472,6 +482,77 @@ class Shares(unittest.TestCase):
         """Takes 1/20,000 and 3/20,000 of two edges, and what is left of each."""
         steps = terkwabu.reduce(self.HALVES).block(0).steps
         self.assertEqual(steps, (terkwabu.Step(4, {0: 10000, 1: 0}), terkwabu.Step(5, {0: 9998, 1: 2})))
+
+
+class Totals(unittest.TestCase):
+    """Regions and blocks by label, as document 02 (Job 1) has them at the foot of the listing."""
+
+    # Has locations with the labels 255, 0, 7 and 255, of which edges lead from the first to the second, and on to the last.
+    BYTES = bytes.fromhex("01000400 02ff 0200 0207 02ff 0400010100 0601000100 0401010100 0601000300 07")
+
+    # Has 64 locations, each with one region and another label, from 255 down: edges lead from one to the next.
+    FALLING = bytes([1, 0, 64, 0]) + b"".join(bytes([2, 255 - 4 * at]) for at in range(64)) + b"".join(
+        bytes([4, at, 1, 1, 0, 6, 1, 0, at + 1, 0]) for at in range(63)
+    ) + b"\x07"
+
+    def expect(self, reduced, listing):
+        """Holds the totals to a listing: to its last lines, and to what its block lines sum to."""
+        labels, of_all = totals_of(listing)
+        found = reduced.totals()
+        self.assertEqual(list(found.items()), labels)
+        self.assertEqual(list(found), sorted(set(found)))
+        self.assertEqual({type(total) for total in found.values()}, {terkwabu.Total})
+        blocks = [(int(label), int(size)) for _, label, size in lines_of(listing, "block")]
+        for label, total in found.items():
+            sizes = [size for its, size in blocks if its == label]
+            self.assertEqual((total.regions, total.blocks), (sum(sizes), len(sizes)))
+        sums = sum(total.regions for total in found.values()), sum(total.blocks for total in found.values())
+        self.assertEqual([sums, (len(reduced.regions), reduced.blocks)], [of_all, of_all])
+        self.assertEqual(reduced.listing().splitlines()[-1], "all regions {} blocks {}".format(*of_all))
+
+    def test_vectors(self):
+        """Takes all listings of the vectors that are given in full; the least and the largest label are among theirs."""
+        looked, labels = 0, set()
+        for vector in vectors("listing"):
+            text = vector.answer.get("text", "refused")
+            if text.startswith("refused"):
+                continue
+            with self.subTest(where=vector.where):
+                reduced = terkwabu.reduce(vector.table, entries=vector.ask["lent"])
+                self.expect(reduced, text)
+                labels.update(reduced.totals())
+            looked += 1
+        self.assertGreater(looked, 330)
+        self.assertLessEqual({0, 255}, labels)
+
+    def test_sample_models(self):
+        for name, table, expected in sample_models():
+            with self.subTest(model=name):
+                self.expect(terkwabu.reduce(table), expected)
+
+    def test_example(self):
+        self.assertEqual(terkwabu.reduce(EXAMPLE).totals(), {5: terkwabu.Total(3, 2), 9: terkwabu.Total(2, 1)})
+
+    def test_bytes(self):
+        """Takes the least and the largest label, and one that only a location bears that is not reached."""
+        reduced = terkwabu.reduce(self.BYTES)
+        self.assertEqual(reduced.totals(), {0: terkwabu.Total(1, 1), 255: terkwabu.Total(2, 2)})
+        last = ["label 0 regions 1 blocks 1", "label 255 regions 2 blocks 2", "all regions 3 blocks 3"]
+        self.assertEqual(reduced.listing().splitlines()[-4:], ["block 2 255 1", *last])
+
+    def test_rising(self):
+        """Takes as many labels as a model can have, met from the largest down."""
+        expected = [(label, terkwabu.Total(1, 1)) for label in range(3, 256, 4)]
+        self.assertEqual(list(terkwabu.reduce(self.FALLING).totals().items()), expected)
+
+    def test_refused(self):
+        """Gives no totals for a table that is refused, and no line after the refusal's."""
+        refused = [(b"", 5, "refused 2 place 0\n"), (EXAMPLE + b"\0", 5, "refused 13 place 33\n"), (EXAMPLE, 4, "refused 15 place 0\n")]
+        for table, entries, line in refused:
+            with self.subTest(line=line):
+                with self.assertRaises(terkwabu.Refused) as caught:
+                    terkwabu.reduce(table, entries=entries).totals()
+                self.assertEqual(caught.exception.line(), line)
 
 
 class SampleModels(unittest.TestCase):
@@ -632,6 +713,7 @@ class DocumentExample(unittest.TestCase):
         self.assertEqual(copy, reduced)
         self.assertEqual(pickle.dumps(copy), before)
         self.assertEqual(copy.listing(), EXAMPLE_LISTING)
+        self.assertEqual(copy.totals(), reduced.totals())
         self.assertIs(copy.regions[4].clocks[0], terkwabu.OVER)
         self.assertNotEqual(reduced, terkwabu.reduce(EXAMPLE[:5] + b"\x09" + EXAMPLE[6:]))
 
@@ -651,8 +733,8 @@ class PartsAndLines(unittest.TestCase):
 
     def setUp(self):
         lines = EXAMPLE_LISTING.splitlines(keepends=True)
-        # The first line, five regions, and the blocks: block 0 has a delay line, block 1 a step line.
-        self.parts = [*lines[:6], "".join(lines[6:8]), "".join(lines[8:10]), lines[10]]
+        # The first line, five regions, the blocks (block 0 has a delay line, block 1 a step line), and the totals.
+        self.parts = [*lines[:6], "".join(lines[6:8]), "".join(lines[8:10]), lines[10], "".join(lines[11:])]
         self.entries = terkwabu._Lent(ctypes.c_uint8, 45)
         self.first, second = (terkwabu._Lent(ctypes.c_uint64, 5) for _ in range(2))
         terkwabu._call("terkwabu_reduce", EXAMPLE, self.entries, self.first, second)
@@ -674,7 +756,8 @@ class PartsAndLines(unittest.TestCase):
                 self.assertEqual(short.as_bytes(len(text)), len(text) * b"\xa5")
 
     def test_no_part(self):
-        asked = [(9, (5, 3, 1)), (2**64 - 1, (5, 3, 1)), (0, (6, 3, 1)), (0, (4097, 3, 1)), (0, (5, 0, 1)), (0, (5, 6, 1))]
+        asked = [(10, (5, 3, 1)), (2**64 - 1, (5, 3, 1)), (0, (6, 3, 1)), (0, (4097, 3, 1)), (0, (5, 0, 1)), (0, (5, 6, 1))]
+        asked += [(10, (6, 3, 1)), (4101, (4097, 3, 1)), (6, (5, 0, 1)), (12, (5, 6, 1))]  # where such counts would have their totals
         for number, counts in asked:
             with self.subTest(part=number, counts=counts):
                 buffer = terkwabu._Lent(ctypes.c_uint8, 65536, 0xA5)
@@ -718,6 +801,29 @@ class PartsAndLines(unittest.TestCase):
                 self.assertEqual([reduced.block(number) for number in (2, 0, 1)], [expected[number] for number in (2, 0, 1)])
             self.assertEqual(asked, [("terkwabu_part", part) for part in range(len(told) + 1)])
 
+    def test_totals_by_what_their_part_says(self):
+        """The totals are read off their part, wherever it stands, and not counted anew; the parts are asked for once."""
+        example = {5: terkwabu.Total(3, 2), 9: terkwabu.Total(2, 1)}
+        other = ["label 7 regions 70 blocks 4\nlabel 8 regions 1 blocks 90\nall regions 71 blocks 94\n"]
+        for told, expected in (
+            (self.parts, example),
+            ([*self.parts, "more\n"], example),
+            (self.parts[::-1], example),
+            (self.parts[:-1] + other, {7: terkwabu.Total(70, 4), 8: terkwabu.Total(1, 90)}),
+            (self.parts[:-1], None),
+            ([*self.parts[:-1], "all regions 5 blocks 3\n"], None),
+        ):
+            reduced = terkwabu.reduce(EXAMPLE)
+            part_call, asked = self.telling(told)
+            with self.subTest(told=told), mock.patch.object(terkwabu, "_call", part_call):
+                if expected is None:
+                    with self.assertRaisesRegex(RuntimeError, "no totals"):
+                        reduced.totals()
+                else:
+                    self.assertEqual(reduced.totals(), expected)
+                self.assertEqual(reduced.listing(), "".join(told))
+            self.assertEqual(asked, [("terkwabu_part", part) for part in range(len(told) + 1)])
+
     def test_listings_side_by_side(self):
         """Threads that print different models do not wait for each other: each comes to its first part while the other is at it."""
         at_part = threading.Barrier(2, timeout=20)
@@ -741,8 +847,10 @@ class PartsAndLines(unittest.TestCase):
 
     def test_part_of_a_refused_table(self):
         buffer = terkwabu._Lent(ctypes.c_uint8, 100, 0xA5)
-        self.assertEqual(self.part(0, buffer, table=b"\x07"), (5, 0, 0))
-        self.assertEqual(buffer.as_bytes(101), 101 * b"\xa5")
+        for number in (0, len(self.parts) - 1):
+            with self.subTest(part=number):
+                self.assertEqual(self.part(number, buffer, table=b"\x07"), (5, 0, 0))
+                self.assertEqual(buffer.as_bytes(101), 101 * b"\xa5")
 
     def test_refusal_line(self):
         for number, place in ((5, 0), (12, 13), (0, 0), (2**64 - 1, 2**64 - 1)):
@@ -933,6 +1041,7 @@ class WhatACallCannotTake(unittest.TestCase):
         yield memoryview((ctypes.c_uint64 * 5)(*blocks))  # has items that Python cannot read: their format says an order of bytes
         yield from (None, 5, 0.5, Fraction(1, 2), object(), list, dict, terkwabu.OVER, Whole(1))
         yield from (terkwabu.Clock(0, 1), terkwabu.Region(0, ()), terkwabu.Step(0, {}), terkwabu.Block(0, 5, (0, 1), (1,), ()))
+        yield terkwabu.Total(0, 0)
         yield ctypes.pointer(ctypes.c_uint64(0))  # gives items by number, and has no end
 
     def test_no_lists(self):

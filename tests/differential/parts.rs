@@ -40,13 +40,16 @@ fn hold_parts(room: &Room, reduced: Answer, number: u64, buffer: &mut Lent<u8>) 
         check(answer, Answer::default(), &[], buffer, &format!("part {part}, past the last one"))?;
     }
     for counts in impossible(reduced, list.len()) {
-        let answer = call(counts, 0, buffer.slice_mut());
-        check(answer, Answer::default(), &[], buffer, &format!("part 0 with the counts of {counts:?}"))?;
+        for part in [0, counts.value + counts.blocks + 1] {
+            let answer = call(counts, part, buffer.slice_mut());
+            check(answer, Answer::default(), &[], buffer, &format!("part {part} with the counts of {counts:?}"))?;
+        }
     }
     Ok(count)
 }
 
-/// Counts that cannot be those of what is lent: too many regions, more than the list holds, no block, more blocks than regions.
+/// Counts that cannot be those of what is lent: too many regions, more than the list holds, no block, more blocks than regions. Neither a
+/// first line nor totals may come of them.
 fn impossible(reduced: Answer, list: usize) -> [Answer; 4] {
     [
         Answer { value: 4097, ..reduced },
@@ -65,19 +68,25 @@ fn hold_refusal(room: &Room, reduced: Answer, buffer: &mut Lent<u8>) -> Result<(
     hold_text("the refusal's line", &line, PART_BYTES, buffer, call)?;
     if refusal <= 13 {
         let counts = Answer { value: 1, blocks: 1, ..Answer::default() };
-        let answer = library::part(room.table.slice(), room.entries.slice(), &[0], counts, 0, buffer.slice_mut());
-        check(answer, reduced, &[], buffer, "a part of a refused table")?;
+        for part in [0, counts.value + counts.blocks + 1] {
+            let answer = library::part(room.table.slice(), room.entries.slice(), &[0], counts, part, buffer.slice_mut());
+            check(answer, reduced, &[], buffer, &format!("part {part} of a refused table"))?;
+        }
     }
     Ok(())
 }
 
-/// A listing cut into parts: its first line, the line of each region, the lines of each block.
+/// A listing cut into parts: its first line, the line of each region, the lines of each block, the totals.
 fn cut(listing: &[u8]) -> Vec<&[u8]> {
-    let begins_part = |line: &[u8]| !line.starts_with(b"delay ") && !line.starts_with(b"step ");
+    let goes_on = |part: &[u8], line: &[u8]| {
+        let of_block = line.starts_with(b"delay ") || line.starts_with(b"step ");
+        let of_totals = line.starts_with(b"label ") || line.starts_with(b"all ");
+        of_block || of_totals && part.starts_with(b"label ")
+    };
     let mut parts = Vec::new();
     let (mut start, mut end) = (0, 0);
     for line in listing.split_inclusive(|&byte| byte == b'\n') {
-        if begins_part(line) && end > start {
+        if end > start && !goes_on(&listing[start..end], line) {
             parts.push(&listing[start..end]);
             start = end;
         }

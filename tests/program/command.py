@@ -82,12 +82,49 @@ block 0 1 1
 step 0 4 0:10000 1:0
 step 0 5 0:9998 1:2
 block 1 2 1
+label 1 regions 1 blocks 1
+label 2 regions 1 blocks 1
+all regions 2 blocks 2
 """
 
 
 def hold_halves():
     """Hands over a model text whose shares are exact halves of a ten-thousandth."""
     hold("exact halves", reduce("-m", given=HALVES.encode()), Did(0, HALVES_LISTING.encode(), ""))
+
+
+# Locations with the least label, the largest one, and one that is not reached, and what document 02 (Job 1) has printed for them.
+LABELS = """
+location idle label 255
+location busy label 0
+location spare label 7
+location done label 255
+initial idle
+edge idle action 1
+  branch 1 -> busy
+  branch 1 -> done
+edge busy action 1
+  branch 1 -> done
+"""
+LABELS_LISTING = """\
+regions 3 blocks 3 rounds 1
+region 0 0 0
+region 1 1 1
+region 2 3 2
+block 0 255 1
+step 0 1 1:5000 2:5000
+block 1 0 1
+step 1 1 2:10000
+block 2 255 1
+label 0 regions 1 blocks 1
+label 255 regions 2 blocks 2
+all regions 3 blocks 3
+"""
+
+
+def hold_totals():
+    """Hands over a model text whose labels are met from the largest down."""
+    hold("totals", reduce("-m", given=LABELS.encode()), Did(0, LABELS_LISTING.encode(), ""))
 
 
 def refused(case, name):
@@ -296,9 +333,9 @@ def hold_signal():
 def hold_command():
     """Does all of this; returns how often the command was called."""
     hold_version()
-    for step in hold_models, hold_halves, hold_refusals, hold_calls, hold_names, hold_without_rt, hold_hex, hold_slips, hold_pipes, hold_files:
+    for step in hold_models, hold_halves, hold_totals, hold_refusals, hold_calls, hold_names, hold_without_rt, hold_hex, hold_slips:
         step()
-    for step in hold_inputs, hold_outputs, hold_temporary, hold_signal:
+    for step in hold_pipes, hold_files, hold_inputs, hold_outputs, hold_temporary, hold_signal:
         step()
     hold("temporary files that are left", os.listdir(os.environ["TMPDIR"]), [])
     return sum(COMMAND in words for words in CALLS)

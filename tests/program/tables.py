@@ -57,14 +57,17 @@ def long_part():
 
 
 def borders():
-    """Lists tables on both sides of the program's limits, each with how its listing must begin."""
+    """Lists tables on both sides of the program's limits, each with the form of its listing: a refusal's line and nothing after it, or a
+    first line, and totals at the end that say the same. The tables that are accepted have one label, or 64 with equal counts."""
+    one_label = "regions {0} blocks (\\d+) rounds .*\nlabel 0 regions {0} blocks \\1\nall regions {0} blocks \\1\n"
+    each_label = "".join(f"label {label} regions 32 blocks 32\n" for label in range(64))
     return [
-        ("no byte", b"", b"refused 2 place 0\n"),
-        ("16,384 bytes", EXAMPLE + bytes(16384 - len(EXAMPLE)), b"refused 13 place 33\n"),
-        ("16,385 bytes", EXAMPLE + bytes(16385 - len(EXAMPLE)), b"refused 1 place 0\n"),
-        ("100,000 bytes", EXAMPLE + bytes(100000 - len(EXAMPLE)), b"refused 1 place 0\n"),
-        ("2,047 regions", chain(64, bounded=True), b"regions 2047 "),
-        ("2,048 regions", chain(64), b"regions 2048 "),
-        ("2,048 blocks", all_apart(), b"regions 2048 blocks 2048 "),
-        ("more than 2,048 regions", chain(64, clocks=2, mask=2), b"refused 15 "),
+        ("no byte", b"", "refused 2 place 0\n"),
+        ("16,384 bytes", EXAMPLE + bytes(16384 - len(EXAMPLE)), "refused 13 place 33\n"),
+        ("16,385 bytes", EXAMPLE + bytes(16385 - len(EXAMPLE)), "refused 1 place 0\n"),
+        ("100,000 bytes", EXAMPLE + bytes(100000 - len(EXAMPLE)), "refused 1 place 0\n"),
+        ("2,047 regions", chain(64, bounded=True), one_label.format(2047)),
+        ("2,048 regions", chain(64), one_label.format(2048)),
+        ("2,048 blocks", all_apart(), f"regions 2048 blocks 2048 rounds .*\n{each_label}all regions 2048 blocks 2048\n"),
+        ("more than 2,048 regions", chain(64, clocks=2, mask=2), "refused 15 place 0\n"),
     ]
