@@ -7,7 +7,7 @@ use crate::print;
 use listing::Part;
 use partition::Reduction;
 
-// As many parts as the longest listing has: its first line, 4,096 regions and as many blocks, and the end.
+// As many parts as the longest listing has: its first line, 4,096 regions, as many blocks and the totals, and the end.
 const PARTS: u64 = 8195;
 
 // How many bytes there were, their digest, and whether there were more.

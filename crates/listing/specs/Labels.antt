@@ -10,6 +10,6 @@ use Rattle.listing.specs.Printed.{lowestOf}
 abbrev pub labelsTo : Finite → ℕ → List ℕ
 labelsTo F n = upTo (λ x. F .label x ∷ []) n
 
--- The labels of the first n blocks: each that of its lowest region, among the labels of regions.
+-- The labels of the first n blocks: block b has the label of its lowest region, found in the labels of all regions.
 abbrev pub blockLabels : (regions list : List ℕ) → ℕ → List ℕ
 blockLabels regions list n = upTo (λ b. getD regions (lowestOf list b) 0 ∷ []) n

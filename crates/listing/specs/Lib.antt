@@ -3,7 +3,7 @@
 --   Parts    the listing in parts: the text of a part, and the part call
 --   Slices   one item of a graph in slices, as the code of a block's lines goes by it
 --   Labels   the labels of the records, as the code lists them
---   Points   the points that document 01 marks ★, of all layers, one of them as document 02 changes it
+--   Points   the points that document 01 marks ★, of all layers, as document 02 changes them
 -- Laws on these stand in Laws.
 pub mod Printed
 pub mod Slices

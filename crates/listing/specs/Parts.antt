@@ -1,7 +1,7 @@
 -- The listing in parts (document 01: "The library may make the listing in parts; joined they are the listing."). The cut is a choice of
 -- ours: part 0 is the first line, then comes a part for each region, its line, then one for each block, its lines, and then one with
--- the totals. What every cut has in common is said by `joined` of Laws.Joined. The parts are numbered from 0. Past the last there is no part; its text is then
--- empty, which no part's text is.
+-- the totals. What every cut has in common is said by `joined` of Laws.Joined. The parts are numbered from 0. Past the last there is no
+-- part; its text is then empty, which no part's text is.
 use Prim.Native.Nat.{ℕ, suc, _+_, _-_, _*_, _≤_}
 use mathlib.Core.Path.{_≡_}
 use mathlib.Core.Bool.{Bool, cond, _&&_}
@@ -17,7 +17,7 @@ use Rattle.listing.specs.declared.parts.Part.the-variants as P
 
 -- ---- The text of a part
 
--- Of a model with its regions, their blocks and both counts.
+-- Of a model with its regions, their blocks and both counts: past the blocks the totals, once.
 abbrev pub totalsPart : Model → List Region → List ℕ → (blocks b : ℕ) → List ℕ
 totalsPart m found list blocks b =
     cond (eqb b blocks) (totalsText (regionRecords m found list) (blockRecords m found list blocks)) []

@@ -1,5 +1,5 @@
--- The points that document 01 marks ★, as document 02, Jobs 7 and 1, changes them: each row is a question to a definition that the
--- contracts cite, and its answer, and `points-met` proves all rows. The example of "The printed model" is among them, from its bytes to
+-- The points that document 01 marks ★, one of them as document 02, Job 7, changes it, and the printed model with the totals of Job 1: each
+-- row is a question to a definition that the contracts cite, and its answer, and `points-met` proves all rows. The example of "The printed model" is among them, from its bytes to
 -- its text, so that what is proved of accepted tables is proved of something; and a row for each refusal from 3 to 13, most of them at a
 -- record that meets a higher number too, so that their numbers, places and order stand here without any stage or count. The rows of two
 -- small graphs show how regions are numbered. The bytes of the example, `printed`, and its model stand in Example of the region layer.
@@ -225,6 +225,25 @@ labelledText =
     -- `all regions 3 blocks 3`
     ∷ 97 ∷ 108 ∷ 108 ∷ 32 ∷ 114 ∷ 101 ∷ 103 ∷ 105 ∷ 111 ∷ 110 ∷ 115 ∷ 32 ∷ 51 ∷ 32 ∷ 98 ∷ 108 ∷ 111 ∷ 99 ∷ 107 ∷ 115 ∷ 32 ∷ 51 ∷ 10 ∷ []
 
+-- One location with label 255, no clock and no edge; and what is printed for it: `all` is there for one label too.
+abbrev alone : List ℕ
+alone = 1 ∷ 0 ∷ 1 ∷ 0 ∷ 2 ∷ 255 ∷ 7 ∷ []
+
+abbrev aloneText : List ℕ
+aloneText =
+    -- `regions 1 blocks 1 rounds 0`
+    114 ∷ 101 ∷ 103 ∷ 105 ∷ 111 ∷ 110 ∷ 115 ∷ 32 ∷ 49 ∷ 32 ∷ 98 ∷ 108 ∷ 111 ∷ 99 ∷ 107 ∷ 115 ∷ 32 ∷ 49 ∷ 32 ∷ 114 ∷ 111 ∷ 117 ∷ 110
+    ∷ 100 ∷ 115 ∷ 32 ∷ 48 ∷ 10
+    -- `region 0 0 0`
+    ∷ 114 ∷ 101 ∷ 103 ∷ 105 ∷ 111 ∷ 110 ∷ 32 ∷ 48 ∷ 32 ∷ 48 ∷ 32 ∷ 48 ∷ 10
+    -- `block 0 255 1`
+    ∷ 98 ∷ 108 ∷ 111 ∷ 99 ∷ 107 ∷ 32 ∷ 48 ∷ 32 ∷ 50 ∷ 53 ∷ 53 ∷ 32 ∷ 49 ∷ 10
+    -- `label 255 regions 1 blocks 1`
+    ∷ 108 ∷ 97 ∷ 98 ∷ 101 ∷ 108 ∷ 32 ∷ 50 ∷ 53 ∷ 53 ∷ 32 ∷ 114 ∷ 101 ∷ 103 ∷ 105 ∷ 111 ∷ 110 ∷ 115 ∷ 32 ∷ 49 ∷ 32 ∷ 98 ∷ 108 ∷ 111 ∷ 99
+    ∷ 107 ∷ 115 ∷ 32 ∷ 49 ∷ 10
+    -- `all regions 1 blocks 1`
+    ∷ 97 ∷ 108 ∷ 108 ∷ 32 ∷ 114 ∷ 101 ∷ 103 ∷ 105 ∷ 111 ∷ 110 ∷ 115 ∷ 32 ∷ 49 ∷ 32 ∷ 98 ∷ 108 ∷ 111 ∷ 99 ∷ 107 ∷ 115 ∷ 32 ∷ 49 ∷ 10 ∷ []
+
 -- A location, and clock 0 with an integer part and rank 0; with rank 1.
 abbrev region : (location part : ℕ) → Region
 region location part = record { location = location; whole = part ∷ 0 ∷ 0 ∷ 0 ∷ []; rank = 0 ∷ 0 ∷ 0 ∷ 0 ∷ [] }
@@ -354,6 +373,7 @@ points =
     ∷ prints printed 2048 printedText
     -- "For each label that a reached region bears, labels rising" (document 02, Job 1).
     ∷ prints labelled 2048 labelledText
+    ∷ prints alone 2048 aloneText
     -- "A refusal prints `refused 5 place 0`": so of the one byte 07, and the empty table is refused with 2.
     ∷ prints (7 ∷ []) 2048 (refusedText 53)
     ∷ prints [] 2048 (refusedText 50)
@@ -376,4 +396,4 @@ points-met =
     (also refl (also refl (also refl (also refl (also refl (also refl
     (also refl (also refl (also refl (also refl (also refl (also refl
     (also refl (also refl (also refl (also refl (also refl (also refl
-    (also refl (also refl none)))))))))))))))))))))))))))))))))))))))))))))))))
+    (also refl (also refl (also refl none))))))))))))))))))))))))))))))))))))))))))))))))))

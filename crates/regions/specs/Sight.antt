@@ -1,5 +1,5 @@
 -- One region by itself, as the layer above asks for it: its label, what it reaches by delay, and its edges. It stands among the first
--- n of any lent entries; those that a graph call left are such.
+-- n of any lent entries; those that a graph call left are such. And a table by itself: its clocks, and the labels of its locations.
 use Prim.Native.Nat.{ℕ, zero, suc, _+_, _*_, _<_}
 use mathlib.Core.Path.{_≡_}
 use mathlib.Core.Bool.{Bool, true, cond, _&&_}
@@ -32,7 +32,7 @@ abbrev pub locationLabels : Model → ℕ → List ℕ
 locationLabels m zero = []
 locationLabels m (suc n) = locationLabels m n ++ (getD (m .labels) n 0 ∷ [])
 
--- What a slice then holds: as many labels as it is long, or what it held if the table is refused.
+-- What `label_locations` leaves in a slice: as many labels as it is long, or what it held if the table is refused.
 abbrev pub labelsAfter : Answer → (labels : List ℕ) → List ℕ
 labelsAfter (refusal number place) labels = labels
 labelsAfter (accepted m) labels = locationLabels m (length labels)

@@ -34,7 +34,8 @@ use Rattle.text.specs.Laws.Texts.{upto-same}
 use Rattle.listing.specs.Printed.{listing}
 use Rattle.listing.specs.Parts.{partCount, textOf, partOf, fitted, bytesIn, bufferAfter, mostBytes}
 use Rattle.listing.specs.Laws.Parts.{parted}
-use Rattle.listing.specs.Laws.Joined.{joined-most}
+use Rattle.listing.specs.Laws.Buffers.{fitted-written}
+use Rattle.listing.specs.Laws.Joined.{joined-most, parts-answer, parts-end, parts-some}
 use Rattle.listing.specs.declared.parts.Part.{Part}
 use Rattle.listing.specs.declared.parts.Part.the-variants as T
 use Rattle.terkwabu.specs.Answers.{ofGraph, ofPlacing, ofReduction, oneIf, ofPairing, ofJudgement, ofPart}
@@ -241,3 +242,27 @@ host-joined table entries first second n b k entries′ first′ second′ reduc
     ∙ joined-most table entries first second n b k entries′ first′ second′ reduced list either buffers
     (λ part. partOf table entries′ list n b k part (length (buffers part))) buffers′
     (λ part h. parted table entries′ list n b k part (buffers part) _ (buffers′ part) refl (calls part h .1) (calls part h .2)) long
+
+-- How a host sees the end, with what a partition call left and a buffer of so much room: past the last part, the totals, refusal, value and
+-- place are 0; and for every part before that, where there is room for it, the value is above 0.
+module _ (table entries first second : List ℕ) (n b k : ℕ) (entries′ first′ second′ : List ℕ)
+    (reduced : Reduced table entries first second (B.Blocks n b k) entries′ first′ second′) (list : List ℕ)
+    (either : (list ≡ first′) ⊎ (list ≡ second′)) (part room : ℕ) where
+  pub host-end : partCount n b ≤ part → (parting table entries′ list n b k part room .refusal ≡ 0)
+      × (parting table entries′ list n b k part room .value ≡ 0) × (parting table entries′ list n b k part room .place ≡ 0)
+  host-end past =
+      let end : partOf table entries′ list n b k part room ≡ T.End =
+      parts-answer table entries first second n b k entries′ first′ second′ reduced list either part room
+      ∙ ap (λ (t : List ℕ). fitted t room)
+      (parts-end table entries first second n b k entries′ first′ second′ reduced list either part past) in
+      (ap (λ o. ofPart o .refusal) end, ap (λ o. ofPart o .value) end, ap (λ o. ofPart o .place) end)
+
+  pub host-some : part < partCount n b → length (textOf table entries′ list n b k part) ≤ room
+      → 0 < parting table entries′ list n b k part room .value
+  host-some below fits =
+      let some = parts-some table entries first second n b k entries′ first′ second′ reduced list either part below in
+      let written : parting table entries′ list n b k part room .value ≡ length (textOf table entries′ list n b k part) =
+      ap (λ o. ofPart o .value)
+      (parts-answer table entries first second n b k entries′ first′ second′ reduced list either part room
+      ∙ fitted-written (textOf table entries′ list n b k part) room some fits) in
+      omega (arith, some, written)

@@ -24,7 +24,7 @@ colon = 58
 abbrev pub above : ℕ
 above = 62
 
--- `regions`, ` blocks`, ` rounds`: the words of the first line.
+-- `regions`, ` blocks`, ` rounds`: the words of the first line, and of the totals.
 abbrev pub regionsWord : List ℕ
 regionsWord = 114 ∷ 101 ∷ 103 ∷ 105 ∷ 111 ∷ 110 ∷ 115 ∷ []
 

@@ -5,7 +5,7 @@ ghost use Rattle.text.specs.Writing.{Adds};
 
 const BLANK: u8 = 32;
 
-// Puts a byte at a place of the text, where there is room, and answers the place after it.
+// Puts a byte at a place of the text, and returns the place after it, or the same place if there is no room.
 pub fn put(byte: u8, at: usize, text: &mut [u8]) -> usize
     ensures { λ r. ⌜ Adds (now (text .entry)) at (now (text .exit)) r (byte ∷ []) ⌝ }
 {

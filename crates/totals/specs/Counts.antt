@@ -1,4 +1,4 @@
--- What the code's slices of counts hold, and the totals of the labels below one, as the code's loops go.
+-- What the code's slices of counts hold, and the totals of the labels below a bound, as the code's loops go.
 use Prim.Native.Nat.{ℕ, _<_}
 use mathlib.Core.Path.{_≡_}
 use mathlib.Core.List.{List, map}
@@ -12,6 +12,6 @@ pub record LabelCounts (labels counts : List ℕ) : Type 0 where
   pub long : length counts ≡ 256
   pub holds : (label : ℕ) → label < 256 → getD counts label 0 ≡ count (λ x. eqb x label) labels
 
--- The totals of the labels below one.
+-- The totals of the labels below a bound.
 abbrev pub totalsBelow : (regions blocks : List ℕ) (end : ℕ) → List TotalRecord
 totalsBelow regions blocks end = map (totalOf regions blocks) (rising (hasLabel regions) end)

@@ -14,7 +14,7 @@ abbrev pub count : {A : Type 0} → (A → Bool) → List A → ℕ
 count p [] = 0
 count p (x ∷ l) = cond (p x) (suc (count p l)) (count p l)
 
--- One of some labels is this one.
+-- A label is among some labels.
 abbrev pub hasLabel : List ℕ → ℕ → Bool
 hasLabel [] label = false
 hasLabel (x ∷ l) label = eqb x label || hasLabel l label
@@ -25,8 +25,8 @@ largest [] = 0
 largest (x ∷ l) = max x (largest l)
 
 -- "Each label that a reached region bears, labels rising".
-abbrev pub labelsBorne : (regions : List ℕ) → List ℕ
-labelsBorne regions = rising (hasLabel regions) (suc (largest regions))
+abbrev pub distinctLabels : List ℕ → List ℕ
+distinctLabels labels = rising (hasLabel labels) (suc (largest labels))
 
 -- A label, and how many regions and how many blocks bear it.
 pub record TotalRecord : Type 0 where
@@ -34,14 +34,16 @@ pub record TotalRecord : Type 0 where
   pub regions : ℕ
   pub blocks : ℕ
 
-abbrev pub totalOf : (regions blocks : List ℕ) (label : ℕ) → TotalRecord
-totalOf regions blocks label =
-    record { label = label; regions = count (λ x. eqb x label) regions; blocks = count (λ x. eqb x label) blocks }
+-- The total of a label: how often it is among the labels of regions, and among those of blocks.
+abbrev pub totalOf : (ofRegions ofBlocks : List ℕ) (label : ℕ) → TotalRecord
+totalOf ofRegions ofBlocks label =
+    record { label = label; regions = count (λ x. eqb x label) ofRegions; blocks = count (λ x. eqb x label) ofBlocks }
 
-abbrev pub totalsOf : (regions blocks : List ℕ) → List TotalRecord
-totalsOf regions blocks = map (totalOf regions blocks) (labelsBorne regions)
+-- One for each label that a region bears.
+abbrev pub totalsOf : (ofRegions ofBlocks : List ℕ) → List TotalRecord
+totalsOf ofRegions ofBlocks = map (totalOf ofRegions ofBlocks) (distinctLabels ofRegions)
 
--- The sum of one column of the totals.
+-- The sum of a number over the items of a list, such as a column over the totals.
 abbrev pub sumOf : {A : Type 0} → (A → ℕ) → List A → ℕ
 sumOf f [] = 0
 sumOf f (x ∷ l) = f x + sumOf f l
@@ -57,10 +59,13 @@ countsText regions blocks =
 abbrev pub labelLine : TotalRecord → List ℕ
 labelLine t = labelWord ++ (field (t .label) ++ countsText (t .regions) (t .blocks))
 
--- "`all regions a blocks b`": of all records. (They are the sums of those above, by `all-regions` and `all-blocks` of Laws.)
+-- "`all regions a blocks b`".
 abbrev pub allLine : (regions blocks : ℕ) → List ℕ
 allLine regions blocks = allWord ++ countsText regions blocks
 
--- "For each label that a reached region bears, labels rising, `label L regions a blocks b`, then `all regions a blocks b`."
-abbrev pub totalLines : (regions blocks : List ℕ) → List ℕ
-totalLines regions blocks = each labelLine (totalsOf regions blocks) ++ allLine (length regions) (length blocks)
+-- "For each label that a reached region bears, labels rising, `label L regions a blocks b`, then `all regions a blocks b`": of all regions and
+-- all blocks, which are the sums of the lines above (`all-regions`, `all-blocks` of Laws). A label that blocks alone bear has no line (a
+-- choice of ours: there is none in a listing, by `records-blocks` of `crates/listing`).
+abbrev pub totalLines : (ofRegions ofBlocks : List ℕ) → List ℕ
+totalLines ofRegions ofBlocks =
+    each labelLine (totalsOf ofRegions ofBlocks) ++ allLine (length ofRegions) (length ofBlocks)

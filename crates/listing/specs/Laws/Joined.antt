@@ -1,7 +1,7 @@
 -- "The library may make the listing in parts; joined they are the listing" (document 01): `joined`. After a partition call that
 -- succeeded with n regions and b blocks the parts are those below `partCount n b` (`parts-some`, `parts-end`), and so the part calls
 -- answer (`call-written`, `call-end`). After one that refused, but not with 16, the listing is the refusal's line (`refused-listing`,
--- `refused-joined`). The program lends what it takes (`program-room`, `program-sixteen`).
+-- `refused-joined`), and there is no part (`refused-parts`). The program lends what it takes (`program-room`, `program-sixteen`).
 use Prim.Native.Nat.{ℕ, zero, suc, _+_, _-_, _*_, _≤_, _<_}
 use native.Mathlib.Omega.{arith}
 use mathlib.Core.Logic.{_⊎_, inl, inr}
@@ -12,7 +12,7 @@ use lib.Dec.{ltb}
 use lib.ListN.{length, take, drop}
 use lib.Seq.{take-append-seam}
 use borrow.Author.Tests.{eq-eqb, ne-eqb, lt-ltb, le-ltb, le-leb, ltb-true, ltb-false}
-use Rattle.partition.specs.Passed.{Model, Region, Answer, rounds, lastBlocks, roomFor, maxEntries, entryBytes}
+use Rattle.partition.specs.Passed.{Model, Region, Answer, refusal, accepted, readTable, rounds, lastBlocks, roomFor, maxEntries, entryBytes}
 use Rattle.partition.specs.Instances.{graph}
 use Rattle.partition.specs.Calls.{reduceOf}
 use Rattle.partition.specs.Promises.{Reduced}
@@ -26,6 +26,7 @@ use Rattle.listing.specs.Parts.{partCount, blockPart, linePart, partText
 use Rattle.text.specs.Laws.Texts.{upto-same, upto-add, each-upto}
 use Rattle.totals.specs.Laws.Counts.{totals-some}
 use Rattle.listing.specs.Laws.Buffers.{fitted-written}
+use Rattle.listing.specs.Laws.Parts.{borne-none}
 use Rattle.listing.specs.declared.parts.Part.{Part}
 use Rattle.listing.specs.declared.parts.Part.the-variants as P
 
@@ -208,13 +209,16 @@ module _ (table entries first second : List ℕ) (n b k : ℕ) (entries′ first
   pub parts-some : (part : ℕ) → part < partCount n b → 0 < length (textOf table entries′ list n b k part)
   parts-some = left-some table (roomFor (length entries)) n b k entries′ list left-either
 
+  -- What a part call answers for a text.
+  pub parts-answer : (part room : ℕ) → partOf table entries′ list n b k part room ≡ fitted (textOf table entries′ list n b k part) room
+  parts-answer = left-answer table (roomFor (length entries)) n b k entries′ list left-either
+
   -- One part call with what the partition call left.
   module _ (part : ℕ) (buffer : List ℕ) (answer : Part) (buffer′ : List ℕ)
       (call : Parted table entries′ list n b k part buffer answer buffer′) where
     answer-fits : answer ≡ fitted (textOf table entries′ list n b k part) (length buffer)
     answer-fits =
-        call .answer-is
-        ∙ left-answer table (roomFor (length entries)) n b k entries′ list left-either part (length buffer)
+        call .answer-is ∙ parts-answer part (length buffer)
 
     -- Past the last part it says that there is none.
     pub call-end : partCount n b ≤ part → answer ≡ P.End
@@ -276,6 +280,18 @@ refused-joined table entries first second number place entries′ first′ secon
     ap₂ (λ (a : Part) (l : List ℕ). take (bytesIn a) l) (e ∙ fitted-written line (length buffer) (some line _ _ refl) room) f
     ∙ fitted-front line buffer room
     ∙ sym (refused-listing table entries first second number place entries′ first′ second′ reduced other)
+
+-- A host that goes on with the zeros of an answer that refuses gets no part: nothing comes after the refusal's line.
+pub refused-parts : (table entries list : List ℕ) (part : ℕ) → textOf table entries list 0 0 0 part ≡ []
+unfolding textOf
+refused-parts table entries list part = by-answer (readTable table)
+  where
+    none : isBorne 0 0 (length entries) (length list) ≡ false
+    none = sym (borne-none 0 0 (length entries) (length list) (omega arith) (omega arith) (omega arith) (omega arith))
+
+    by-answer : (a : Answer) → textFrom a entries list 0 0 0 part ≡ []
+    by-answer (refusal number place) = refl
+    by-answer (accepted m) = rw none refl
 
 -- ---- What the program lends
 

@@ -93,8 +93,8 @@ module _ (regions list : List ℕ) where
       ∙ ap (λ (y : ℕ). getD regions y 0) (sym (lowest-start list b (length list)))
       ∙ sym (upto-at (λ b. getD regions (lowestOf list b) 0) n b 0 (omega (arith, h, long))))
 
-  pub labels-length : (n : ℕ) → length (blockLabels regions list n) ≡ n
-  labels-length n = upto-length (λ b. getD regions (lowestOf list b) 0) n
+  pub block-labels-length : (n : ℕ) → length (blockLabels regions list n) ≡ n
+  block-labels-length n = upto-length (λ b. getD regions (lowestOf list b) 0) n
 
 -- ---- The text
 
@@ -103,7 +103,7 @@ pub totals-room : (regions list : List ℕ) (blocks : ℕ) → ((i : ℕ) → ge
     → blocks ≤ length list → length list ≤ maxEntries → length (totalLines regions (blockLabels regions list blocks)) ≤ 9503
 totals-room regions list blocks small long few most =
     totals-fit regions (blockLabels regions list blocks) (bytes-small regions small) (omega (arith, long, most))
-    (omega (arith, labels-length regions list blocks, few, most))
+    (omega (arith, block-labels-length regions list blocks, few, most))
 
 -- Over the labels of all regions and blocks they are those of the records.
 pub totals-same : (m : Model) (es list labels : List ℕ) (blocks : ℕ) → 0 < length list

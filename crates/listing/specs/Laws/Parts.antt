@@ -61,7 +61,7 @@ gives-end buffer = record { answer-is = refl; buffer-is = sym (whole (leb 0 (len
 
 -- ---- The line of a region
 
--- As the code makes it, of an entry.
+-- As the code makes it, of an entry. The label is any, since the line does not print it.
 abbrev pub entryRecord : (x label block clocks : ℕ) → Entry → RegionRecord
 entryRecord x label block clocks entry =
     record {

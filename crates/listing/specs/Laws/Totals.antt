@@ -1,5 +1,5 @@
--- The totals of what is printed (document 02, Job 1), over the region and block records: for any list of block numbers (`records-..`), and in
--- what a partition call left, with its N and its count of blocks (`totals-..`). The listing is what it was before, and then the totals
+-- The totals of what is printed (document 02, Job 1), over the region and block records: for whatever is lent (`records-..`), and in what
+-- a partition call left, with its N and its count of blocks (`totals-..`). The listing is what it was before, and then the totals
 -- (`totals-close`). Every label that a region bears has a line, no other has, and both numbers of a line are counts over the records; labels
 -- rise; the last line has N and the count of blocks, which are the sums of the lines above. A block bears the label of its regions.
 use Prim.Native.Nat.{ℕ, zero, suc, _+_, _≤_, _<_}
@@ -54,7 +54,7 @@ module _ (m : Model) (found : List Region) (list : List ℕ) where
 
 -- ---- The totals over the records
 
-module _ (m : Model) (found : List Region) (list : List ℕ) (blocks : ℕ) (some : 0 < length list) (long : length list ≡ length found) where
+module _ (m : Model) (found : List Region) (list : List ℕ) (blocks : ℕ) where
   abbrev rs : List RegionRecord
   rs = regionRecords m found list
 
@@ -68,7 +68,7 @@ module _ (m : Model) (found : List Region) (list : List ℕ) (blocks : ℕ) (som
   pub records-cover : (r : RegionRecord) → List·Memᴰ r rs → (t : TotalRecord) × List·Memᴰ t ts × (t .label ≡ r .label)
   records-cover r there = (
     totalOf (map (λ r. r .label) rs) (map (λ c. c .label) bs) (r .label),
-    T.totals-cover (map (λ r. r .label) rs) (map (λ c. c .label) bs) (r .label) (Memᴰ·map (λ r. r .label) there),
+    T.labels-cover (map (λ r. r .label) rs) (map (λ c. c .label) bs) (r .label) (Memᴰ·map (λ r. r .label) there),
     refl,
   )
 
@@ -78,7 +78,7 @@ module _ (m : Model) (found : List Region) (list : List ℕ) (blocks : ℕ) (som
       × (t .regions ≡ count (λ r. eqb (r .label) (t .label)) rs)
       × (t .blocks ≡ count (λ c. eqb (c .label) (t .label)) bs)
   records-only t there =
-      let (borne, regions, of-blocks) = T.totals-only (map (λ r. r .label) rs) (map (λ c. c .label) bs) t there in (
+      let (borne, regions, of-blocks) = T.labels-only (map (λ r. r .label) rs) (map (λ c. c .label) bs) t there in (
         Memᴰ·of-map (λ r. r .label) rs borne,
         regions ∙ T.count-map (λ r. r .label) (t .label) rs,
         of-blocks ∙ T.count-map (λ c. c .label) (t .label) bs,
@@ -86,7 +86,7 @@ module _ (m : Model) (found : List Region) (list : List ℕ) (blocks : ℕ) (som
 
   -- Labels rise, so that none has two lines.
   pub records-rise : Rises (map (λ t. t .label) ts)
-  records-rise = T.totals-rise (map (λ r. r .label) rs) (map (λ c. c .label) bs)
+  records-rise = T.labels-rise (map (λ r. r .label) rs) (map (λ c. c .label) bs)
 
   length-regions : length (map (λ r. r .label) rs) ≡ length found
   length-regions = length-map rs (λ r. r .label) ∙ upto-length (regionRecord m found list) (length found)
@@ -95,8 +95,9 @@ module _ (m : Model) (found : List Region) (list : List ℕ) (blocks : ℕ) (som
   length-blocks = length-map bs (λ c. c .label) ∙ upto-length (blockRecord (graph m found) list blocks) blocks
 
   -- Each block's label is one that a region bears.
-  block-borne : (x : ℕ) → List·Memᴰ x (map (λ c. c .label) bs) → List·Memᴰ x (map (λ r. r .label) rs)
-  block-borne x there =
+  block-label-there : 0 < length list → length list ≡ length found → (x : ℕ) → List·Memᴰ x (map (λ c. c .label) bs)
+      → List·Memᴰ x (map (λ r. r .label) rs)
+  block-label-there some long x there =
       let (c, among, is) = Memᴰ·of-map (λ c. c .label) bs there in
       let (b, below, made) = upto-only (blockRecord (graph m found) list blocks) blocks c among in
       subst (λ (k : ℕ). List·Memᴰ k (map (λ r. r .label) rs)) (ap (λ (q : BlockRecord). q .label) made ∙ is)
@@ -110,8 +111,10 @@ module _ (m : Model) (found : List Region) (list : List ℕ) (blocks : ℕ) (som
   pub records-regions : length found ≡ sumOf (λ t. t .regions) ts
   records-regions = sym length-regions ∙ T.all-regions (map (λ r. r .label) rs) (map (λ c. c .label) bs)
 
-  pub records-blocks : blocks ≡ sumOf (λ t. t .blocks) ts
-  records-blocks = sym length-blocks ∙ T.all-blocks (map (λ r. r .label) rs) (map (λ c. c .label) bs) block-borne
+  -- The blocks where the list has a number for each region, and there is a region.
+  pub records-blocks : 0 < length list → length list ≡ length found → blocks ≡ sumOf (λ t. t .blocks) ts
+  records-blocks some long =
+      sym length-blocks ∙ T.all-blocks (map (λ r. r .label) rs) (map (λ c. c .label) bs) (block-label-there some long)
 
 -- ---- The same in what a partition call left: N regions and b blocks
 
@@ -123,14 +126,14 @@ module _ {table : List ℕ} {cap n b k : ℕ} {entries list : List ℕ} (left : 
   found = left .from .found
 
   -- The records that are printed.
-  abbrev pub regionsOf : List RegionRecord
-  regionsOf = regionRecords model found (take n list)
+  abbrev pub printedRegions : List RegionRecord
+  printedRegions = regionRecords model found (take n list)
 
-  abbrev pub blocksOf : List BlockRecord
-  blocksOf = blockRecords model found (take n list) b
+  abbrev pub printedBlocks : List BlockRecord
+  printedBlocks = blockRecords model found (take n list) b
 
   abbrev pub totals : List TotalRecord
-  totals = totalRecords regionsOf blocksOf
+  totals = totalRecords printedRegions printedBlocks
 
   some-left : 0 < length (take n list)
   some-left = omega (arith, left-length left, left .some-blocks, left .few-blocks)
@@ -140,39 +143,39 @@ module _ {table : List ℕ} {cap n b k : ℕ} {entries list : List ℕ} (left : 
 
   -- "Print after the listing": the lines are those of before, and after them come the totals.
   pub totals-close : listing table cap
-      ≡ (firstLine n b k ++ (each regionLine regionsOf ++ each blockLines blocksOf)) ++ (each labelLine totals ++ allLine n b)
+      ≡ (firstLine n b k ++ (each regionLine printedRegions ++ each blockLines printedBlocks)) ++ (each labelLine totals ++ allLine n b)
   totals-close =
       listing-left left
       ∙ ap (λ (l : List ℕ). printed model found l b k) (sym (left .list-holds))
-      ∙ ap₂ (λ (x : ℕ) (t : List ℕ). firstLine x b k ++ (each regionLine regionsOf ++ (each blockLines blocksOf ++ t)))
+      ∙ ap₂ (λ (x : ℕ) (t : List ℕ). firstLine x b k ++ (each regionLine printedRegions ++ (each blockLines printedBlocks ++ t)))
       (sym (left .regions-are)) closing
       ∙ ap (λ (t : List ℕ). firstLine n b k ++ t)
-      (sym (append-assoc (each regionLine regionsOf) (each blockLines blocksOf) (each labelLine totals ++ allLine n b)))
-      ∙ sym (append-assoc (firstLine n b k) (each regionLine regionsOf ++ each blockLines blocksOf) (each labelLine totals ++ allLine n b))
+      (sym (append-assoc (each regionLine printedRegions) (each blockLines printedBlocks) (each labelLine totals ++ allLine n b)))
+      ∙ sym (append-assoc (firstLine n b k) (each regionLine printedRegions ++ each blockLines printedBlocks) (each labelLine totals ++ allLine n b))
     where
-      closing : totalsText regionsOf blocksOf ≡ each labelLine totals ++ allLine n b
+      closing : totalsText printedRegions printedBlocks ≡ each labelLine totals ++ allLine n b
       closing =
-          records-printed model found (take n list) b some-left long-left
+          records-printed model found (take n list) b
           ∙ ap (λ (x : ℕ). each labelLine totals ++ allLine x b) (sym (left .regions-are))
 
   -- "For each label that a reached region bears",
-  pub totals-cover : (r : RegionRecord) → List·Memᴰ r regionsOf → (t : TotalRecord) × List·Memᴰ t totals × (t .label ≡ r .label)
-  totals-cover = records-cover model found (take n list) b some-left long-left
+  pub totals-cover : (r : RegionRecord) → List·Memᴰ r printedRegions → (t : TotalRecord) × List·Memᴰ t totals × (t .label ≡ r .label)
+  totals-cover = records-cover model found (take n list) b
 
   -- and for no other; "each number is proved equal to a count over the region and block records";
   pub totals-only : (t : TotalRecord) → List·Memᴰ t totals
-      → ((r : RegionRecord) × List·Memᴰ r regionsOf × (r .label ≡ t .label))
-      × (t .regions ≡ count (λ r. eqb (r .label) (t .label)) regionsOf)
-      × (t .blocks ≡ count (λ c. eqb (c .label) (t .label)) blocksOf)
-  totals-only = records-only model found (take n list) b some-left long-left
+      → ((r : RegionRecord) × List·Memᴰ r printedRegions × (r .label ≡ t .label))
+      × (t .regions ≡ count (λ r. eqb (r .label) (t .label)) printedRegions)
+      × (t .blocks ≡ count (λ c. eqb (c .label) (t .label)) printedBlocks)
+  totals-only = records-only model found (take n list) b
 
   -- "labels rising";
   pub totals-rise : Rises (map (λ t. t .label) totals)
-  totals-rise = records-rise model found (take n list) b some-left long-left
+  totals-rise = records-rise model found (take n list) b
 
   -- "and the last line to the sum of those above", both columns.
   pub totals-regions : n ≡ sumOf (λ t. t .regions) totals
-  totals-regions = left .regions-are ∙ records-regions model found (take n list) b some-left long-left
+  totals-regions = left .regions-are ∙ records-regions model found (take n list) b
 
   pub totals-blocks : b ≡ sumOf (λ t. t .blocks) totals
   totals-blocks = records-blocks model found (take n list) b some-left long-left

@@ -1,7 +1,7 @@
 -- What a partition call that succeeded left, said for the layer above: what its three counts are, and what the lent entries and the two
 -- lent block lists then hold (`reduced-first`, `reduced-second`); that the blocks so listed are all taken, that the graph does not
--- lead out of its regions, and that a block has one label (`left-taken` to `left-labels`). And what one that refused says of other calls (`reduced-refused`,
--- `no-sixteen`).
+-- lead out of its regions, and that a block has one label (`left-taken` to `left-labels`). And what one that refused says of other calls
+-- (`reduced-refused`, `no-sixteen`).
 use Prim.Native.Nat.{ℕ, _*_, _≤_, _<_}
 use native.Mathlib.Omega.{arith}
 use mathlib.Core.Path.{_≡_, refl, sym, _∙_, ap, ap₂}

@@ -1,4 +1,5 @@
--- Laws for the code that says what is known of one region: whether it is seen, the rows of its edges, and their branches.
+-- Laws for the code that says what is known of one region: the labels of locations, whether the region is seen, the rows of its edges,
+-- and their branches.
 use Prim.Native.Nat.{ℕ, zero, suc, _+_, _*_, _%_, _≤_, _<_}
 use native.Mathlib.Omega.{arith}
 use native.Mathlib.Numerals.{add-one}

@@ -1,4 +1,4 @@
--- Texts one after the other: of a list's items (`each`), and of the numbers below one (`upTo`). And the numbers that pass a test
+-- Texts one after the other: of a list's items (`each`), and of the numbers below a bound (`upTo`). And the numbers that pass a test
 -- (`rising`): just these are in the list, and they rise.
 use Prim.Native.Nat.{ℕ, zero, suc, _+_, _≤_, _<_}
 use native.Mathlib.Decide.{ℕ-discrete}
@@ -37,7 +37,7 @@ each-up f g n =
     each-append f (upTo (λ i. g i ∷ []) n) (g n ∷ [])
     ∙ ap (λ (r : List ℕ). each f (upTo (λ i. g i ∷ []) n) ++ r) (each-one f (g n))
 
--- ---- The numbers below one
+-- ---- The numbers below a bound
 
 pub upto-same : {A : Type 0} (f g : ℕ → List A) (n : ℕ) → ((i : ℕ) → i < n → f i ≡ g i) → upTo f n ≡ upTo g n
 upto-same f g zero same = refl

@@ -45,12 +45,12 @@ count-last label (y ∷ l) x = go (eqb y label) (count-last label l x)
     go true rest = omega (arith, rest)
     go false rest = rest
 
--- No label is counted yet.
+-- Before the first label all counts are 0.
 pub counts-none : (labels : List ℕ) → LabelCounts (take 0 labels) (replicate 256 0)
 counts-none labels =
     record { long = length-replicate {A = ℕ} 256 0; holds = λ label h. getD-replicate 256 label 0 0 h }
 
--- One more is.
+-- One label more is counted.
 pub counts-on : (labels counts : List ℕ) (i : ℕ) → i < length labels → getD labels i 0 < 256 → LabelCounts (take i labels) counts
     → LabelCounts (take (i + 1) labels) (set counts (getD labels i 0) (getD counts (getD labels i 0) 0 + 1))
 counts-on labels counts i h small c =
@@ -83,7 +83,7 @@ counts-on labels counts i h small c =
         let kept = getD-set-other counts x label (getD counts x 0 + 1) 0 other in
         omega (arith, kept, c .holds label below, this, now label)
 
--- All are.
+-- All labels are counted.
 pub counts-all : (labels counts : List ℕ) (i : ℕ) → length labels ≤ i → LabelCounts (take i labels) counts → LabelCounts labels counts
 counts-all labels counts i h c = subst (λ (l : List ℕ). LabelCounts l counts) (take-all i labels h) c
 
@@ -142,7 +142,7 @@ module _ (regions blocks : List ℕ) (label : ℕ) where
         rw (to, from)
         (adds-same (sym (line-hit (count-some regions label (omega (arith, some, r .holds label h))))) (adds-then a (adds-same is l)))
 
-    -- and none of another.
+    -- and for a label that none bears nothing is put.
     pub label-left : text₂ ≡ text₁ → at₂ ≡ at₁ → getD of-regions label 0 ≤ 0
         → Adds text at text₁ at₁ (each labelLine (totalsBelow regions blocks label))
         → Adds text at text₂ at₂ (each labelLine (totalsBelow regions blocks (label + 1)))
@@ -166,8 +166,8 @@ module _ (regions blocks : List ℕ) (small : (x : ℕ) → List·Memᴰ x regio
       go true e = absurd (omega (arith, h, largest-most regions j (has-some regions j e)))
       go false e = refl
 
-  pub labels-all : totalsBelow regions blocks 256 ≡ totalsOf regions blocks
-  labels-all =
+  pub below-all : totalsBelow regions blocks 256 ≡ totalsOf regions blocks
+  below-all =
       ap (map (totalOf regions blocks))
       (rising-skip (hasLabel regions) (suc (largest regions)) 256 (omega (arith, few regions small)) (λ j h k. none-past j h))
 
@@ -186,7 +186,7 @@ pub totals-put : (regions blocks : List ℕ) → ((i : ℕ) → getD regions i 0
     → Adds text at text₁ at₁ (each labelLine (totalsBelow regions blocks 256))
     → Adds text₁ at₁ text₂ at₂ (allLine (length regions) (length blocks)) → Adds text at text₂ at₂ (totalLines regions blocks)
 totals-put regions blocks small a b =
-    adds-then (adds-same (ap (each labelLine) (labels-all regions blocks (bytes-small regions small))) a) b
+    adds-then (adds-same (ap (each labelLine) (below-all regions blocks (bytes-small regions small))) a) b
 
 -- ---- How long they are
 
@@ -223,6 +223,6 @@ module _ (regions blocks : List ℕ) (small : (x : ℕ) → List·Memᴰ x regio
   -- 256 lines of at most 37 bytes, and the last of at most 31.
   pub totals-fit : length (totalLines regions blocks) ≤ 9503
   totals-fit =
-      let lines = subst (λ (l : List TotalRecord). Fits (each labelLine l) (37 * 256)) (labels-all regions blocks small) lines-fit in
+      let lines = subst (λ (l : List TotalRecord). Fits (each labelLine l) (37 * 256)) (below-all regions blocks small) lines-fit in
       let all = fits-then (fits-word allWord) (counts-fit (length regions) (length blocks) hr hb) in
       omega (arith, fits-then lines all .within)

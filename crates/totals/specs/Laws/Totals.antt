@@ -1,5 +1,5 @@
--- What the lines of the totals say (document 02, Job 1). Every label that a region bears has a line (`totals-cover`), no other has, and both
--- numbers of a line are counts (`totals-only`); the labels rise (`totals-rise`). "The last line [is proved equal] to the sum of those above":
+-- What the lines of the totals say (document 02, Job 1). Every label that a region bears has a line (`labels-cover`), no other has, and both
+-- numbers of a line are counts (`labels-only`); the labels rise (`labels-rise`). "The last line [is proved equal] to the sum of those above":
 -- `all-regions`, and `all-blocks` where each block's label is one that a region bears.
 use Prim.Native.Nat.{ℕ, zero, suc, _+_, _≤_, _<_, max}
 use native.Mathlib.Decide.{decLt}
@@ -14,7 +14,7 @@ use lib.ListN.{length}
 use borrow.Author.Tests.{eq-eqb, ne-eqb, eqb-true}
 use Rattle.text.specs.Text.{rising, Rises}
 use Rattle.text.specs.Laws.Texts.{rising-there, rising-is, rising-rises}
-use Rattle.totals.specs.Totals.{count, hasLabel, largest, labelsBorne, TotalRecord, totalOf, totalsOf, sumOf}
+use Rattle.totals.specs.Totals.{count, hasLabel, largest, distinctLabels, TotalRecord, totalOf, totalsOf, sumOf}
 
 -- ---- Labels
 
@@ -43,13 +43,13 @@ largest-most (y ∷ l) x m = go (List·Memᴰ·cases-cons m) (largest-most l x)
     go (inl e) later = omega (arith, e)
     go (inr k) later = omega (arith, later k)
 
--- The labels borne are those of the list.
-pub borne-there : (regions : List ℕ) (label : ℕ) → List·Memᴰ label regions → List·Memᴰ label (labelsBorne regions)
-borne-there regions label m =
+-- The labels passes are those of the list.
+pub distinct-there : (regions : List ℕ) (label : ℕ) → List·Memᴰ label regions → List·Memᴰ label (distinctLabels regions)
+distinct-there regions label m =
     rising-there (hasLabel regions) (suc (largest regions)) label (omega (arith, largest-most regions label m)) (has-there regions label m)
 
-pub borne-only : (regions : List ℕ) (label : ℕ) → List·Memᴰ label (labelsBorne regions) → List·Memᴰ label regions
-borne-only regions label m =
+pub distinct-only : (regions : List ℕ) (label : ℕ) → List·Memᴰ label (distinctLabels regions) → List·Memᴰ label regions
+distinct-only regions label m =
     has-some regions label (rising-is (hasLabel regions) (suc (largest regions)) label m .1)
 
 -- ---- The lines of labels
@@ -60,29 +60,29 @@ map-label regions blocks (x ∷ l) = ap (λ (k : List ℕ). x ∷ k) (map-label 
 
 module _ (regions blocks : List ℕ) where
   -- Every label that a region bears has a line,
-  pub totals-cover : (label : ℕ) → List·Memᴰ label regions → List·Memᴰ (totalOf regions blocks label) (totalsOf regions blocks)
-  totals-cover label m = Memᴰ·map (totalOf regions blocks) (borne-there regions label m)
+  pub labels-cover : (label : ℕ) → List·Memᴰ label regions → List·Memᴰ (totalOf regions blocks label) (totalsOf regions blocks)
+  labels-cover label m = Memᴰ·map (totalOf regions blocks) (distinct-there regions label m)
 
   -- no other label has, and both numbers of a line are counts.
-  pub totals-only : (t : TotalRecord) → List·Memᴰ t (totalsOf regions blocks)
+  pub labels-only : (t : TotalRecord) → List·Memᴰ t (totalsOf regions blocks)
       → List·Memᴰ (t .label) regions
       × (t .regions ≡ count (λ x. eqb x (t .label)) regions)
       × (t .blocks ≡ count (λ x. eqb x (t .label)) blocks)
-  totals-only t m =
-      let (label, there, is) = Memᴰ·of-map (totalOf regions blocks) (labelsBorne regions) m in
+  labels-only t m =
+      let (label, there, is) = Memᴰ·of-map (totalOf regions blocks) (distinctLabels regions) m in
       subst (λ (u : TotalRecord). List·Memᴰ (u .label) regions
       × (u .regions ≡ count (λ x. eqb x (u .label)) regions)
       × (u .blocks ≡ count (λ x. eqb x (u .label)) blocks)) is
-      (borne-only regions label there, refl, refl)
+      (distinct-only regions label there, refl, refl)
 
   -- Labels rise, so that none has two lines.
-  pub totals-rise : Rises (map (λ t. t .label) (totalsOf regions blocks))
-  totals-rise =
-      subst Rises (sym (map-label regions blocks (labelsBorne regions))) (rising-rises (hasLabel regions) (suc (largest regions)))
+  pub labels-rise : Rises (map (λ t. t .label) (totalsOf regions blocks))
+  labels-rise =
+      subst Rises (sym (map-label regions blocks (distinctLabels regions))) (rising-rises (hasLabel regions) (suc (largest regions)))
 
 -- ---- Sums
 
--- One where a label is this one, and else none.
+-- 1 if x is the label, otherwise 0.
 abbrev pub one : (x label : ℕ) → ℕ
 one x label = cond (eqb x label) 1 0
 
@@ -152,21 +152,21 @@ sum-counts p n (x ∷ l) pass =
     omega (arith, sum-more x l (rising p n), sum-once p x n below is, rest)
 
 module _ (regions blocks : List ℕ) where
-  borne : (x : ℕ) → List·Memᴰ x regions → (x < suc (largest regions)) × (hasLabel regions x ≡ true)
-  borne x m = (omega (arith, largest-most regions x m), has-there regions x m)
+  passes : (x : ℕ) → List·Memᴰ x regions → (x < suc (largest regions)) × (hasLabel regions x ≡ true)
+  passes x m = (omega (arith, largest-most regions x m), has-there regions x m)
 
   -- The last line is the sum of those above: of regions,
   pub all-regions : length regions ≡ sumOf (λ t. t .regions) (totalsOf regions blocks)
   all-regions =
-      sym (sum-map (λ t. t .regions) (totalOf regions blocks) (labelsBorne regions)
-      ∙ sum-counts (hasLabel regions) (suc (largest regions)) regions borne)
+      sym (sum-map (λ t. t .regions) (totalOf regions blocks) (distinctLabels regions)
+      ∙ sum-counts (hasLabel regions) (suc (largest regions)) regions passes)
 
   -- and of blocks, where each bears a label that a region bears.
   pub all-blocks : ((x : ℕ) → List·Memᴰ x blocks → List·Memᴰ x regions)
       → length blocks ≡ sumOf (λ t. t .blocks) (totalsOf regions blocks)
   all-blocks within =
-      sym (sum-map (λ t. t .blocks) (totalOf regions blocks) (labelsBorne regions)
-      ∙ sum-counts (hasLabel regions) (suc (largest regions)) blocks (λ x m. borne x (within x m)))
+      sym (sum-map (λ t. t .blocks) (totalOf regions blocks) (distinctLabels regions)
+      ∙ sum-counts (hasLabel regions) (suc (largest regions)) blocks (λ x m. passes x (within x m)))
 
 -- ---- A count over the items that bear labels
 

@@ -1,4 +1,4 @@
--- `label_at` meets its contract: past the end of the slice the label is 0.
+-- Past the end of the slice the label is 0, as the default of `getD` is.
 use mathlib.Core.Path.{sym}
 use lib.ListN.{List·getD-eq-default}
 use borrow.Author.Needs.{needs}

@@ -1,4 +1,4 @@
--- `label_regions` meets its contract: the labels of locations, and by them those of regions.
+-- The labels of all locations that a byte can name are listed, and by them those of the regions.
 use mathlib.Core.Path.{_∙_, ap}
 use lib.ListN.{length-replicate}
 use Rattle.partition.specs.Passed.{Answer}

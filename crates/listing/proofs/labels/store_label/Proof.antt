@@ -1,4 +1,4 @@
--- `store_label` meets its contract: past the end of the slice nothing is stored.
+-- Past the end of the slice nothing is stored, as `set` does nothing there.
 use mathlib.Core.Path.{sym}
 use lib.Seq.{set-out}
 use borrow.Author.Needs.{needs}

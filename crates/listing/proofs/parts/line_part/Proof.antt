@@ -1,4 +1,4 @@
--- `line_part` meets its contract. Assumes nothing.
+-- Which part it is decides: a region's line, a block's lines, the totals, or none.
 use mathlib.Core.Path.{sym}
 use native.Mathlib.Omega.{arith}
 use lib.ListN.{length}

@@ -1,4 +1,4 @@
--- `totals_part` meets its contract: the labels of regions are listed, and the totals over them are those of the records.
+-- The labels of the regions are listed, and the totals over them are those of the records.
 use Prim.Native.Nat.{ℕ}
 use native.Mathlib.Omega.{arith}
 use mathlib.Core.Path.{sym, _∙_, ap}

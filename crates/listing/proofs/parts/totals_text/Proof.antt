@@ -1,4 +1,4 @@
--- `totals_text` meets its contract: the labels of blocks are listed, the totals are put together, and they fit.
+-- The labels of the blocks are listed, the totals are put together, and they fit.
 use Prim.Native.Nat.{ℕ, _≤_}
 use native.Mathlib.Omega.{arith}
 use mathlib.Core.Path.{sym, _∙_, ap}

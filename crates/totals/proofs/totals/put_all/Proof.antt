@@ -1,4 +1,4 @@
--- `put_all` meets its contract: the texts are put one after the other.
+-- The word is put, and then the counts.
 use Rattle.text.specs.Laws.Writing.{adds-then}
 use borrow.Author.Needs.{needs}
 use Rattle.totals.proofs.totals.put_all.Statement.{statement}

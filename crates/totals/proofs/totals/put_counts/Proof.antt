@@ -1,4 +1,4 @@
--- `put_counts` meets its contract: the texts are put one after the other.
+-- Two words with their counts are put, and then the line feed.
 use Rattle.text.specs.Laws.Writing.{adds-then}
 use borrow.Author.Needs.{needs}
 use Rattle.totals.proofs.totals.put_counts.Statement.{statement}
