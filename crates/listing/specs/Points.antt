@@ -1,8 +1,9 @@
 -- The points that document 01 marks ★, one of them as document 02, Job 7, changes it, and the printed model with the totals of Job 1: each
--- row is a question to a definition that the contracts cite, and its answer, and `points-met` proves all rows. The example of "The printed model" is among them, from its bytes to
--- its text, so that what is proved of accepted tables is proved of something; and a row for each refusal from 3 to 13, most of them at a
--- record that meets a higher number too, so that their numbers, places and order stand here without any stage or count. The rows of two
--- small graphs show how regions are numbered. The bytes of the example, `printed`, and its model stand in Example of the region layer.
+-- row is a question to a definition that the contracts cite, and its answer, and `points-met` proves all rows. The example of "The printed
+-- model" is among them, from its bytes to its text, so that what is proved of accepted tables is proved of something; and a row for each
+-- refusal from 3 to 13, most of them at a record that meets a higher number too, so that their numbers, places and order stand here without
+-- any stage or count. The rows of two small graphs show how regions are numbered. The bytes of the example, `printed`, and its model stand
+-- in Example of the region layer.
 use Prim.Native.Nat.{ℕ, zero, suc, _-_}
 use mathlib.Core.Path.{_≡_, refl}
 use mathlib.Core.Bool.{Bool, true, false}

@@ -66,7 +66,8 @@ fn store_label(b: u64, label: u8, labels: &mut [u8])
     }
 }
 
-// Stores the label of each of the first blocks, as many as the slice is long: the label of its lowest region, which is met last, and that of region 0 if it has none.
+// Stores the label of each of the first blocks, as many as the slice is long: the label of its lowest region, which is met last, and that
+// of region 0 if it has none.
 pub(crate) fn label_blocks(list: &[u64], regions: &[u8], labels: &mut [u8])
     requires { ⌜ (length (now regions) ≡ length (now list)) × (0 < length (now list)) ⌝ }
     ensures { λ _. ⌜ now (labels .exit) ≡ blockLabels (now (regions .entry)) (now (list .entry)) (length (now (labels .entry))) ⌝ }

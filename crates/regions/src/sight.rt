@@ -14,7 +14,8 @@ ghost use Rattle.regions.specs.Entries.{entryBytes, maxEntries, regionAt
 ghost use Rattle.regions.specs.Index.{Index};
 ghost use Rattle.regions.specs.Explore.{listed};
 ghost use Rattle.regions.specs.Filling.{Before, Fitting};
-ghost use Rattle.regions.specs.Sight.{checkedOf, locationLabels, labelsAfter, entryIn, delayList, Ways, Stepping, isSeen, sightOf, Sighted};
+ghost use Rattle.regions.specs.Sight.{checkedOf, locationLabels, labelsAfter, entryIn, delayList, Ways, Stepping, isSeen, sightOf};
+ghost use Rattle.regions.specs.Sight.{Sighted};
 use crate::bounds::bounds_of;
 use crate::entry::ENTRY_BYTES;
 use crate::entry::read_entry;

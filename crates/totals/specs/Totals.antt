@@ -63,9 +63,9 @@ labelLine t = labelWord ++ (field (t .label) ++ countsText (t .regions) (t .bloc
 abbrev pub allLine : (regions blocks : ℕ) → List ℕ
 allLine regions blocks = allWord ++ countsText regions blocks
 
--- "For each label that a reached region bears, labels rising, `label L regions a blocks b`, then `all regions a blocks b`": of all regions and
--- all blocks, which are the sums of the lines above (`all-regions`, `all-blocks` of Laws). A label that blocks alone bear has no line (a
--- choice of ours: there is none in a listing, by `records-blocks` of `crates/listing`).
+-- "For each label that a reached region bears, labels rising, `label L regions a blocks b`, then `all regions a blocks b`": of all regions
+-- and all blocks, which are the sums of the lines above (`all-regions`, `all-blocks` of Laws). A label that blocks alone bear has no line
+-- (a choice of ours: there is none in a listing, by `records-blocks` of `crates/listing`).
 abbrev pub totalLines : (ofRegions ofBlocks : List ℕ) → List ℕ
 totalLines ofRegions ofBlocks =
     each labelLine (totalsOf ofRegions ofBlocks) ++ allLine (length ofRegions) (length ofBlocks)

@@ -20,9 +20,11 @@ use Rattle.partition.specs.Laws.Calls.{on-accepted}
 use Rattle.partition.specs.Laws.Left.{Left, reduced-first, reduced-second, reduced-refused, no-sixteen}
 use Rattle.partition.specs.declared.calls.Reduction.the-variants as B
 use Rattle.text.specs.Text.{upTo}
-use Rattle.listing.specs.Printed.{firstLine, regionLine, blockLines, regionRecord, blockRecord, printed, printedGraph, refusalLine, listing}
+use Rattle.listing.specs.Printed.{firstLine, regionLine, blockLines, regionRecord, blockRecord, printed, printedGraph, refusalLine}
+use Rattle.listing.specs.Printed.{listing}
 use Rattle.listing.specs.Printed.{regionRecords, blockRecords, totalsText}
-use Rattle.listing.specs.Parts.{partCount, blockPart, linePart, partText, isBorne, textFrom, textOf, fitted, bytesIn, bufferAfter, partFrom, partOf, mostBytes, Parted}
+use Rattle.listing.specs.Parts.{partCount, blockPart, linePart, partText, isBorne, textFrom, textOf, fitted, bytesIn, bufferAfter}
+use Rattle.listing.specs.Parts.{partFrom, partOf, mostBytes, Parted}
 use Rattle.text.specs.Laws.Texts.{upto-same, upto-add, each-upto}
 use Rattle.totals.specs.Laws.Counts.{totals-some}
 use Rattle.listing.specs.Laws.Buffers.{fitted-written}

@@ -1,5 +1,5 @@
--- For the code of the totals: a slice that is filled from the front, the labels of blocks as they are met from the last region down, and the
--- text of the totals from both lists of labels.
+-- For the code of the totals: a slice that is filled from the front, the labels of blocks as they are met from the last region down, and
+-- the text of the totals from both lists of labels.
 use Prim.Native.Nat.{ℕ, _+_, _-_, _≤_, _<_}
 use native.Mathlib.Decide.{ℕ-discrete}
 use native.Mathlib.Numerals.{add-one}

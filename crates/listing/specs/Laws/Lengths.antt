@@ -9,13 +9,15 @@ use lib.Dec.{eqb}
 use lib.ListN.{length, getD, length-append}
 use borrow.Author.Tests.{eqb-true, ne-eqb}
 use Rattle.text.specs.Text.{lineFeed, blank, decimal, field, upTo, rising, each}
-use Rattle.text.specs.Text.{plus, above, regionsWord, blocksWord, roundsWord, regionWord, blockWord, delayWord, stepWord, refusedWord, placeWord}
+use Rattle.text.specs.Text.{plus, above, regionsWord, blocksWord, roundsWord, regionWord, blockWord, delayWord, stepWord, refusedWord}
+use Rattle.text.specs.Text.{placeWord}
 use Rattle.listing.specs.Printed.{ShareRecord, StepRecord, firstLine, rankText, clockField, regionLine, blockLine, delayLineOf}
 use Rattle.listing.specs.Printed.{shareField, stepLine, refusalLine, isAmong, targetsOf, weightInto, otherBlocks, sharesOf}
 use Rattle.rounding.specs.Rounding.{tenThousandths}
 use Rattle.listing.specs.Slices.{rowRoom, branchesFrom, stepAt, stepTextAt}
 use Rattle.text.specs.Laws.Texts.{each-append, each-map, each-upto, each-upto-list}
-use Rattle.text.specs.Laws.Lengths.{Fits, decimal-length, fits-word, fits-less, fits-then, fits-upto, long-field, half-field, block-field, byte-field}
+use Rattle.text.specs.Laws.Lengths.{Fits, decimal-length, fits-word, fits-less, fits-then, fits-upto, long-field, half-field, block-field}
+use Rattle.text.specs.Laws.Lengths.{byte-field}
 use Rattle.rounding.specs.Laws.Rounding.{rounded-most}
 
 -- ---- The lines of numbers, and a region's

@@ -1,7 +1,7 @@
--- The totals of what is printed (document 02, Job 1), over the region and block records: for whatever is lent (`records-..`), and in what
--- a partition call left, with its N and its count of blocks (`totals-..`). The listing is what it was before, and then the totals
--- (`totals-close`). Every label that a region bears has a line, no other has, and both numbers of a line are counts over the records; labels
--- rise; the last line has N and the count of blocks, which are the sums of the lines above. A block bears the label of its regions.
+-- The totals of what is printed (document 02, Job 1), over the region and block records: for whatever is lent (`records-..`), and in what a
+-- partition call left, with its N and its count of blocks (`totals-..`). The listing is what it was before, and then the totals
+-- (`totals-close`). Every label that a region bears has a line, no other has, and both numbers of a line are counts over the records;
+-- labels rise; the last line has N and the count of blocks, which are the sums of the lines above. A block bears the label of its regions.
 use Prim.Native.Nat.{ℕ, zero, suc, _+_, _≤_, _<_}
 use native.Mathlib.Omega.{arith}
 use mathlib.Core.Path.{_≡_, refl, sym, _∙_, ap, ap₂, subst}
@@ -17,7 +17,8 @@ use Rattle.text.specs.Laws.Texts.{upto-same, upto-there, upto-only, upto-length
 use Rattle.totals.specs.Totals.{count, TotalRecord, totalOf, sumOf, labelLine, allLine}
 use Rattle.totals.specs.Laws.Totals as T
 use Rattle.listing.specs.Printed.{RegionRecord, BlockRecord, lowestFrom, lowestOf, regionRecord, blockRecord}
-use Rattle.listing.specs.Printed.{regionRecords, blockRecords, totalRecords, totalsText, firstLine, regionLine, blockLines, printed, listing}
+use Rattle.listing.specs.Printed.{regionRecords, blockRecords, totalRecords, totalsText, firstLine, regionLine, blockLines, printed}
+use Rattle.listing.specs.Printed.{listing}
 use Rattle.listing.specs.Labels.{labelsTo, blockLabels}
 use Rattle.listing.specs.Laws.Sense.{block-has}
 use Rattle.listing.specs.Laws.Joined.{listing-left}
@@ -151,7 +152,8 @@ module _ {table : List ℕ} {cap n b k : ℕ} {entries list : List ℕ} (left : 
       (sym (left .regions-are)) closing
       ∙ ap (λ (t : List ℕ). firstLine n b k ++ t)
       (sym (append-assoc (each regionLine printedRegions) (each blockLines printedBlocks) (each labelLine totals ++ allLine n b)))
-      ∙ sym (append-assoc (firstLine n b k) (each regionLine printedRegions ++ each blockLines printedBlocks) (each labelLine totals ++ allLine n b))
+      ∙ sym (append-assoc (firstLine n b k) (each regionLine printedRegions ++ each blockLines printedBlocks)
+      (each labelLine totals ++ allLine n b))
     where
       closing : totalsText printedRegions printedBlocks ≡ each labelLine totals ++ allLine n b
       closing =

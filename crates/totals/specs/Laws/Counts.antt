@@ -133,7 +133,8 @@ module _ (regions blocks : List ℕ) (label : ℕ) where
     -- The line of a label that some region bears is put,
     pub label-put : {text₃ : List ℕ} {at₃ : ℕ} → text₃ ≡ text₂ → at₃ ≡ at₂ → 0 < getD of-regions label 0
         → Adds text at text₁ at₁ (each labelLine (totalsBelow regions blocks label))
-        → Adds text₁ at₁ text₂ at₂ (labelLine (record { label = label; regions = getD of-regions label 0; blocks = getD of-blocks label 0 }))
+        → Adds text₁ at₁ text₂ at₂
+        (labelLine (record { label = label; regions = getD of-regions label 0; blocks = getD of-blocks label 0 }))
         → Adds text at text₃ at₃ (each labelLine (totalsBelow regions blocks (label + 1)))
     label-put to from some a l =
         let made : ℕ → ℕ → TotalRecord = λ x y. record { label = label; regions = x; blocks = y } in

@@ -1,6 +1,6 @@
--- What the lines of the totals say (document 02, Job 1). Every label that a region bears has a line (`labels-cover`), no other has, and both
--- numbers of a line are counts (`labels-only`); the labels rise (`labels-rise`). "The last line [is proved equal] to the sum of those above":
--- `all-regions`, and `all-blocks` where each block's label is one that a region bears.
+-- What the lines of the totals say (document 02, Job 1). Every label that a region bears has a line (`labels-cover`), no other has, and
+-- both numbers of a line are counts (`labels-only`); the labels rise (`labels-rise`). "The last line [is proved equal] to the sum of those
+-- above": `all-regions`, and `all-blocks` where each block's label is one that a region bears.
 use Prim.Native.Nat.{ℕ, zero, suc, _+_, _≤_, _<_, max}
 use native.Mathlib.Decide.{decLt}
 use native.Mathlib.Omega.{arith}

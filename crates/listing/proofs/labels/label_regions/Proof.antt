@@ -28,7 +28,8 @@ returns : tie.Need-returns
 returns c =
     let store-labels = c .before .before .store-labels in
     let label-locations = c .before .before .before .before .before .before .label-locations in
-    λ m read. store-labels.ensures m (label-locations.ensures ∙ ap (λ (a : Answer). labelsAfter a (replicate 256 0)) read ∙ ap (locationLabels m)
+    λ m read. store-labels.ensures m (label-locations.ensures ∙ ap (λ (a : Answer). labelsAfter a (replicate 256 0)) read
+    ∙ ap (locationLabels m)
     (length-replicate {A = ℕ} 256 0))
 
 pub label-regions-spec : {M : Type 1} → statement M
