@@ -10,7 +10,7 @@ use mathlib.Core.Path.{_≡_, refl, ap, _∙_}
 use mathlib.Core.List.{List}
 use mathlib.Core.Logic.{⊎-elim}
 use lib.ListN.{length}
-use Prim.Native.Nat.{ℕ, _-_, _≤_}
+use Prim.Native.Nat.{ℕ, _-_, _≤_, _<_}
 use borrow.Author.Needs.{needs}
 use Rattle.totals.proofs.totals.put_labels.Statement.{statement}
 use Rattle.totals.proofs.totals.put_labels.Tie as tie
@@ -59,10 +59,11 @@ loop-again : tie.Need-loop-again Inv-loop μ-loop
 loop-again c =
     let loop = c .before .before .before .loop in
     let args = c .before .before .before .before .before .before .before .args in
-    let loop-test = c .before .before .loop-test in (
-      ⊎-elim (λ w ls ks r b. label-put ls ks loop.label args.regions.now args.blocks.now r b loop-test.taken (w .7) (w .8) (w .0 .taken)
+    let loop-test = c .before .before .loop-test in
+    let below : loop.label < 256 = omega (arith, loop-test.taken) in (
+      ⊎-elim (λ w ls ks r b. label-put ls ks loop.label args.regions.now args.blocks.now r b below (w .7) (w .8) (w .0 .taken)
           (loop.inv.0 ls ks r b) (w .4 .ensures)) (λ w ls ks r b. label-left ls ks loop.label args.regions.now args.blocks.now r b
-          loop-test.taken (w .1) (w .2) (w .0 .left) (loop.inv.0 ls ks r b)) ((c .if1) .came),
+          below (w .1) (w .2) (w .0 .left) (loop.inv.0 ls ks r b)) ((c .if1) .came),
       ⊎-elim (λ w. ap length (w .7) ∙ (w .4 .ensures .as-long ∙ loop.inv.1)) (λ w. ap length (w .1) ∙ loop.inv.1) ((c .if1) .came),
       omega (arith, loop-test.taken),
     )
