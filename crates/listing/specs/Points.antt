@@ -16,6 +16,7 @@ use Rattle.partition.specs.Passed.{Finite, alike, printed, printedModel}
 use Rattle.partition.specs.Instances.{delaysFrom}
 use Rattle.text.specs.Text.{decimal}
 use Rattle.rounding.specs.Rounding.{tenThousandths}
+use Rattle.totals.specs.Totals.{TotalRecord, labelLine, allLine}
 use Rattle.listing.specs.Printed.{ShareRecord, shareField, listing}
 
 pub data Point : Type 0 where
@@ -37,6 +38,9 @@ pub data Point : Type 0 where
   rounded : (weight denominator number : ℕ) → Point
   -- A share landed in has this text in its line.
   shareText : ShareRecord → (text : List ℕ) → Point
+  -- A label's total has this line; and so many regions and blocks in all have this one.
+  totalText : TotalRecord → (text : List ℕ) → Point
+  allText : (regions blocks : ℕ) (text : List ℕ) → Point
   -- With room for so many regions the listing of the table is this text.
   prints : (table : List ℕ) (cap : ℕ) (text : List ℕ) → Point
 
@@ -66,6 +70,8 @@ Met (graph table cap out) = outcomeOf table cap ≡ out
 Met (shares v d v′ d′ answer) = alike (twoEdges v d v′ d′) (0 ∷ 1 ∷ []) 0 0 0 1 ≡ answer
 Met (rounded v d number) = tenThousandths v d ≡ number
 Met (shareText s text) = shareField s ≡ text
+Met (totalText t text) = labelLine t ≡ text
+Met (allText regions blocks text) = allLine regions blocks ≡ text
 Met (prints table cap text) = listing table cap ≡ text
 
 -- One location with label 0, and four clocks.
@@ -375,6 +381,13 @@ points =
     -- "For each label that a reached region bears, labels rising" (document 02, Job 1).
     ∷ prints labelled 2048 labelledText
     ∷ prints alone 2048 aloneText
+    -- `label 254 regions 4096 blocks 1023`, and `all regions 4096 blocks 1023`.
+    ∷ totalText (record { label = 254; regions = 4096; blocks = 1023 })
+    (108 ∷ 97 ∷ 98 ∷ 101 ∷ 108 ∷ 32 ∷ 50 ∷ 53 ∷ 52 ∷ 32 ∷ 114 ∷ 101 ∷ 103 ∷ 105 ∷ 111 ∷ 110 ∷ 115 ∷ 32 ∷ 52 ∷ 48 ∷ 57 ∷ 54 ∷ 32 ∷ 98
+    ∷ 108 ∷ 111 ∷ 99 ∷ 107 ∷ 115 ∷ 32 ∷ 49 ∷ 48 ∷ 50 ∷ 51 ∷ 10 ∷ [])
+    ∷ allText 4096 1023
+    (97 ∷ 108 ∷ 108 ∷ 32 ∷ 114 ∷ 101 ∷ 103 ∷ 105 ∷ 111 ∷ 110 ∷ 115 ∷ 32 ∷ 52 ∷ 48 ∷ 57 ∷ 54 ∷ 32 ∷ 98 ∷ 108 ∷ 111 ∷ 99 ∷ 107 ∷ 115 ∷ 32
+    ∷ 49 ∷ 48 ∷ 50 ∷ 51 ∷ 10 ∷ [])
     -- "A refusal prints `refused 5 place 0`": so of the one byte 07, and the empty table is refused with 2.
     ∷ prints (7 ∷ []) 2048 (refusedText 53)
     ∷ prints [] 2048 (refusedText 50)
@@ -397,4 +410,4 @@ points-met =
     (also refl (also refl (also refl (also refl (also refl (also refl
     (also refl (also refl (also refl (also refl (also refl (also refl
     (also refl (also refl (also refl (also refl (also refl (also refl
-    (also refl (also refl (also refl none))))))))))))))))))))))))))))))))))))))))))))))))))
+    (also refl (also refl (also refl (also refl (also refl none))))))))))))))))))))))))))))))))))))))))))))))))))))

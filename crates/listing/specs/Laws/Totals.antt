@@ -1,7 +1,8 @@
 -- The totals of what is printed (document 02, Job 1), over the region and block records: for whatever is lent (`records-..`), and in what a
 -- partition call left, with its N and its count of blocks (`totals-..`). The listing is what it was before, and then the totals
 -- (`totals-close`). Every label that a region bears has a line, no other has, and both numbers of a line are counts over the records;
--- labels rise; the last line has N and the count of blocks, which are the sums of the lines above. A block bears the label of its regions.
+-- labels rise; the last line has N and the count of blocks, which are the sums of the lines above. A block bears the
+-- label of its regions, and a region that of its location.
 use Prim.Native.Nat.{ℕ, zero, suc, _+_, _≤_, _<_}
 use native.Mathlib.Omega.{arith}
 use mathlib.Core.Path.{_≡_, refl, sym, _∙_, ap, ap₂, subst}
@@ -9,7 +10,7 @@ use mathlib.Core.Bool.{Bool, true, false, cond}
 use mathlib.Core.List.{List, [], _∷_, _++_, map, append-assoc, List·Memᴰ, Memᴰ·map, Memᴰ·of-map}
 use lib.Dec.{eqb}
 use lib.ListN.{length, getD, take, length-map}
-use Rattle.partition.specs.Passed.{Model, Region}
+use Rattle.partition.specs.Passed.{Model, Region, labelOf}
 use Rattle.partition.specs.Instances.{graph}
 use Rattle.partition.specs.Laws.Left.{Left, left-length, left-below, left-labels}
 use Rattle.text.specs.Text.{each, Rises}
@@ -188,3 +189,9 @@ module _ {table : List ℕ} {cap n b k : ℕ} {entries list : List ℕ} (left : 
   totals-shared x h =
       let (low, is) = block-has left (getD (take n list) x 0) (left-below left x h) in
       left-labels left x (lowestOf (take n list) (getD (take n list) x 0)) h low (sym is)
+
+  -- The label of a region record is that of its location, by the table.
+  pub totals-labels : (x : ℕ) → regionRecord model found (take n list) x .label
+      ≡ getD (model .labels) (regionRecord model found (take n list) x .location) 0
+  unfolding labelOf
+  totals-labels x = refl
