@@ -9,6 +9,8 @@
 --   Judging    a proposal is accepted exactly when it is a bisimulation; comparing with the first item is enough
 --   Agree      structures that agree have equal rounds, blocks and judgements
 --   Deciding   the last blocks decide which placed items some bisimulation relates
+--   Example    document 01's printed model as a finite structure, and its point on equal shares, computed
+--   ExampleTransfer  infinitely many items placed in the printed model: related and parted as its blocks say
 pub mod Shares
 pub mod Rounds
 pub mod Transfer
@@ -19,3 +21,5 @@ pub mod Blocks
 pub mod Judging
 pub mod Agree
 pub mod Deciding
+pub mod Example
+pub mod ExampleTransfer

@@ -1,7 +1,7 @@
 -- A clock as a cell, and what delay and reset do to the clocks of a region (document 01, "Regions"). A cell carries the bound of
 -- its own clock: document 01 has one M for all. The fraction of a cell is a number that orders the clocks: in a region it is the
 -- rank, in a state any numerator over a common denominator.
-use Prim.Native.Nat.{ℕ, zero, suc, _+_, _≤_, max}
+use Prim.Native.Nat.{ℕ, zero, suc, _+_, _≤_, _<_, max}
 use native.Mathlib.Omega.{arith}
 use native.Mathlib.Numerals.{add-one}
 use mathlib.Core.Path.{_≡_, refl, sym, _∙_, ap, ap₂}
@@ -55,6 +55,17 @@ restarted mask i (c ∷ cs) = cond (resetIn mask i) (restart c) c ∷ restarted 
 -- "Reset. The clocks become 0 with rank 0, and the ranks left are closed up."
 abbrev pub reset : ℕ → List Cell → List Cell
 reset mask cs = close (restarted mask 0 cs)
+
+-- ---- Cells of a region
+
+-- A cell that a clock of a region may be: at most its bound, and at the bound only with rank 0.
+abbrev pub Proper : Cell → Type 0
+Proper (over m) = Unit
+Proper (at m w f) = (w ≤ m) × (w ≡ m → f ≡ 0)
+
+-- Ranks without gaps: with a rank, every smaller one from 1 on is there.
+abbrev pub NoGap : List Cell → Type 0
+NoGap cs = (f : ℕ) → member f (map fractionOf cs) ≡ true → (k : ℕ) → 0 < k → k ≤ f → member k (map fractionOf cs) ≡ true
 
 -- ---- Delay
 

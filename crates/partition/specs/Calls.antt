@@ -7,15 +7,36 @@ use mathlib.Core.List.{List, _++_}
 use lib.Dec.{eqb, leb, ltb}
 use lib.ListN.{length, getD, drop}
 use Rattle.regions.specs.Passed.{Model, Answer, refusal, accepted, readTable, Region}
-use Rattle.regions.specs.Call.{Outcome, refused, cut, whole, fromAnswer}
+use mathlib.Core.Path.{_≡_}
+use Rattle.regions.specs.Call.{Outcome, refused, cut, whole, fromAnswer, outcomeOf}
+use Rattle.regions.specs.Graph.{Reached}
+use Rattle.states.specs.States.{State, IsState}
+use Rattle.states.specs.Alike.{regionIn}
 use Rattle.bisimulation.specs.Finite.{related, rounds, lastBlocks, blockCount, accepts}
-use Rattle.partition.specs.Instances.{graph}
+use Rattle.partition.specs.Instances.{graph, placeIn}
 use Rattle.partition.specs.declared.calls.Reduction.{Reduction}
 use Rattle.partition.specs.declared.calls.Reduction.the-variants as B
 use Rattle.partition.specs.declared.calls.Pairing.{Pairing}
 use Rattle.partition.specs.declared.calls.Pairing.the-variants as P
 use Rattle.partition.specs.declared.calls.Judgement.{Judgement}
 use Rattle.partition.specs.declared.calls.Judgement.the-variants as J
+
+-- "A model is accepted, with the entries lent, where the graph call refuses nothing": a table that was read as a model whose regions the
+-- graph call lists, all of them.
+pub record Accepted (table : List ℕ) (cap : ℕ) : Type 0 where
+  pub model : Model
+  pub read : readTable table ≡ accepted model
+  pub found : List Region
+  pub out : outcomeOf table cap ≡ whole found
+
+-- A state of the model of an accepted table that lies in a region of its graph.
+pub record Inside {table : List ℕ} {cap : ℕ} (a : Accepted table cap) (s : State) : Type 0 where
+  pub state : IsState (a .model) s
+  pub reached : Reached (a .model) (regionIn (a .model) s)
+
+-- The number of its region.
+abbrev pub regionNumber : {table : List ℕ} {cap : ℕ} → Accepted table cap → State → ℕ
+regionNumber a s = placeIn (a .model) (a .found) s
 
 -- What comes after the graph call: its refusals, 1 to 15, or what is said of the model and the regions found.
 abbrev pub fromOutcome : {A : Type 0} → (ℕ → ℕ → A) → (List Region → A) → Outcome → A

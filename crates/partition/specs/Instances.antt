@@ -3,6 +3,7 @@
 use Prim.Native.Nat.{ℕ, _<_}
 use mathlib.Core.Path.{_≡_}
 use mathlib.Core.Bool.{true}
+use mathlib.Core.Logic.{_⊎_}
 use mathlib.Core.List.{List, map}
 use lib.ListN.{length, getD}
 use Rattle.regions.specs.Passed.{Model, edgeOf, Branch as ModelBranch, Region}
@@ -10,7 +11,7 @@ use Rattle.regions.specs.Graph.{boundsOf, landing, available, first}
 unfoldable pub use Rattle.regions.specs.Sight.{delaysFrom}
 use Rattle.regions.specs.View.{numberIn, labelOf}
 use Rattle.states.specs.States.{State, IsState, Same, Delays, target, enabled}
-use Rattle.states.specs.RegionTheorem.{regionIn}
+use Rattle.states.specs.Alike.{regionIn}
 use Rattle.bisimulation.specs.Structures.{Branch, Structure}
 use Rattle.bisimulation.specs.Finite.{Finite, lastBlocks}
 
@@ -52,6 +53,22 @@ states m =
       Same = Same;
       label = λ s. getD (m .labels) (s .location) 0;
       Delay = λ s t. IsState m t × Delays m s t;
+      Edge = λ s e. (e < length (m .edges)) × (enabled m (edgeOf m e) s ≡ true);
+      action = λ s e. edgeOf m e .action;
+      whole = λ s e. edgeOf m e .denominator;
+      branches = λ s e. map (leadsTo s) (edgeOf m e .branches);
+    }
+
+-- The same with a zero delay for every state, also for one that breaks its invariant, for readers who read "adding one fraction, 0 or
+-- more, .. where its invariant then holds" so. To what is said of states in regions of the graph it makes no difference
+-- (`zero-delay-alike` of Laws.ZeroDelay).
+abbrev pub statesZero : Model → Structure State
+statesZero m =
+    record {
+      Item = IsState m;
+      Same = Same;
+      label = λ s. getD (m .labels) (s .location) 0;
+      Delay = λ s t. IsState m t × (Delays m s t ⊎ Same s t);
       Edge = λ s e. (e < length (m .edges)) × (enabled m (edgeOf m e) s ≡ true);
       action = λ s e. edgeOf m e .action;
       whole = λ s e. edgeOf m e .denominator;

@@ -7,6 +7,11 @@
 --   View       what is said of one item of the graph
 --   Numbers    the numbers that the calls refuse with, none of which is 0
 --   Left       what a partition call that succeeded left, for the layer above
+--   Bisimilar  two states have different block numbers exactly when no bisimulation over all states relates them
+--   ZeroDelay  whether a state that breaks its invariant has a zero delay does not matter to that
+--   Promised   demand 3, entire, from what the partition call and the pair call promise
+--   Judging    a proposal is accepted exactly when it is a bisimulation, from what the judging call promises
+--   Example    demand 3 at document 01's printed model: two states related, two parted
 pub mod Delays
 pub mod Instances
 pub mod Shown
@@ -15,3 +20,8 @@ pub mod Success
 pub mod View
 pub mod Numbers
 pub mod Left
+pub mod Bisimilar
+pub mod ZeroDelay
+pub mod Promised
+pub mod Judging
+pub mod Example

@@ -11,7 +11,8 @@ use borrow.Author.Tests.{eq-eqb, eqb-true, eqb-false}
 use Rattle.table.specs.Model.{Model, Edge}
 use Rattle.table.specs.Sound.{Sound}
 use Rattle.table.specs.Access.{noEdge}
-use Rattle.table.specs.Reads.{edgeOf, place-listed}
+use Rattle.table.specs.Reads.{edgeOf}
+use Rattle.table.specs.Laws.Reads.{place-listed}
 use Rattle.regions.specs.Lists.{zeros-at}
 
 -- A list holds the places of the edges, by number.

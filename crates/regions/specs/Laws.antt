@@ -2,6 +2,7 @@
 --   Graph      what an edge and a delay come to, by the tests of the code
 --   Every      for loops that test every item of a list
 --   Worklist   exploring lists exactly what is reached, once each; more room only adds at the end
+--   Answered   for the code of the graph call
 --   Call       what the answer of the graph call says about the regions that are reached
 --   Order      the numbers of the regions: one list has document 01's order, and the graph call gives that one
 --   Numbers    what the number that the graph call answers says about its outcome
@@ -18,6 +19,7 @@
 pub mod Graph
 pub mod Every
 pub mod Worklist
+pub mod Answered
 pub mod Call
 pub mod Order
 pub mod Numbers

@@ -8,6 +8,8 @@
 --   Worklist   numbering what is reached, in the order in which it is met, with a cap
 --   Explore    exploring into entries, step by step
 --   Marks      what is known of where the branches of one region lead
+--   Order      the regions of the graph and their numbers, without a word of exploring
+--   Formed     well-formed regions
 --   Call       the graph call: its answer, and what the lent entries then hold
 --   Passed     what the layers above need of the layers beneath
 --   View       the graph as the layers above see it: labels, delays and steps by number
@@ -25,6 +27,8 @@ pub mod Index
 pub mod Worklist
 pub mod Explore
 pub mod Marks
+pub mod Order
+pub mod Formed
 pub mod Call
 pub mod Passed
 pub mod View

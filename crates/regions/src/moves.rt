@@ -15,7 +15,7 @@ ghost use Rattle.regions.specs.Explore.{listed};
 ghost use Rattle.regions.specs.View.{labelOf, delayNumbers};
 ghost use Rattle.regions.specs.Shown.{followers, openBelow};
 ghost use Rattle.regions.specs.Filling.{Run, Blocks, Before};
-ghost use Rattle.regions.specs.Laws.Call.{AllRegions};
+ghost use Rattle.regions.specs.Order.{AllRegions};
 use crate::edges::edge_link;
 use crate::entry::read_entry;
 use crate::guards::is_available;

@@ -15,7 +15,7 @@ ghost use Rattle.regions.specs.View.{delayNumbers};
 ghost use Rattle.regions.specs.Call.{roomFor, whole, fromAnswer, outcomeOf, graphOf, entriesAfter};
 ghost use Rattle.regions.specs.Shown.{Shown, Roomy, followers, openBelow};
 ghost use Rattle.regions.specs.Filling.{Blocks, Fitting, RowsTo};
-ghost use Rattle.regions.specs.Laws.Call.{AllRegions};
+ghost use Rattle.regions.specs.Order.{AllRegions};
 ghost use Rattle.clocks.specs.declared.region.Region.{Region};
 use crate::bounds::bounds_for;
 use crate::bounds::bounds_of;

@@ -10,7 +10,7 @@ use lib.ListN.{length, getD, set}
 use Rattle.bisimulation.specs.Structures.{Closed}
 use Rattle.bisimulation.specs.Finite.{Finite, structure, related, matches, next, lead, leaders, blockOf, blocks, rounds}
 use Rattle.bisimulation.specs.Finite.{lastBlocks, blockCount}
-use Rattle.bisimulation.specs.Laws.Leads.{EquivalenceBelow, FinerBelow, Reps}
+use Rattle.bisimulation.specs.Below.{EquivalenceBelow, FinerBelow, Reps}
 use Rattle.comparison.specs.Held.{Held}
 use Rattle.comparison.specs.Compare.{Below}
 use Rattle.comparison.specs.Keys.{keyOf, Known}

@@ -4,7 +4,7 @@ ghost use Prim.Native.Nat.{ℕ, _+_, _≤_, _<_};
 ghost use mathlib.Core.Path.{_≡_};
 ghost use lib.ListN.{length, getD};
 ghost use Rattle.bisimulation.specs.Finite.{Finite, related, next};
-ghost use Rattle.bisimulation.specs.Laws.Leads.{Reps};
+ghost use Rattle.bisimulation.specs.Below.{Reps};
 ghost use Rattle.comparison.specs.Held.{mostItems};
 ghost use Rattle.rounds.specs.Changes.{Settled};
 ghost use Rattle.rounds.specs.Rounds.{Anchored, joinedBy, joinMark, MarkedTo, Step, Kins};

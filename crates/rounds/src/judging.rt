@@ -5,7 +5,7 @@ ghost use mathlib.Core.Bool.{true, false};
 ghost use lib.ListN.{length};
 ghost use Rattle.bisimulation.specs.Structures.{Closed};
 ghost use Rattle.bisimulation.specs.Finite.{Finite, structure, related, lead, accepts};
-ghost use Rattle.bisimulation.specs.Laws.Leads.{Reps};
+ghost use Rattle.bisimulation.specs.Below.{Reps};
 ghost use Rattle.comparison.specs.Held.{Held, mostItems};
 ghost use Rattle.comparison.specs.Compare.{Below};
 ghost use Rattle.rounds.specs.Firsts.{bucketAt, Indexed};

@@ -3,7 +3,7 @@ ghost use Prim.Native.Nat.{_≤_};
 ghost use mathlib.Core.Path.{_≡_};
 ghost use lib.ListN.{length};
 ghost use Rattle.bisimulation.specs.Finite.{related, blocksBy};
-ghost use Rattle.bisimulation.specs.Laws.Leads.{Reps};
+ghost use Rattle.bisimulation.specs.Below.{Reps};
 ghost use Rattle.rounds.specs.Rounds.{numberOf};
 use crate::stores::count_lead;
 use crate::stores::put_index;

@@ -6,7 +6,7 @@ ghost use mathlib.Core.List.{List, _++_};
 ghost use lib.ListN.{length, getD, set, drop};
 ghost use Rattle.bisimulation.specs.Structures.{Closed};
 ghost use Rattle.bisimulation.specs.Finite.{Finite, structure, related, next, lead, blockCount, lastBlocks, rounds};
-ghost use Rattle.bisimulation.specs.Laws.Leads.{EquivalenceBelow, Reps};
+ghost use Rattle.bisimulation.specs.Below.{EquivalenceBelow, Reps};
 ghost use Rattle.comparison.specs.Held.{Held, Opened};
 ghost use Rattle.comparison.specs.Compare.{Below};
 ghost use Rattle.rounds.specs.Names.{Tagged, Named, LeadersKept};

@@ -10,7 +10,7 @@ use Rattle.table.specs.declared.model.Guard.{Guard}
 use Rattle.table.specs.declared.model.Invariant.{Invariant}
 use Rattle.clocks.specs.Packed.{delayed}
 use Rattle.regions.specs.Graph.{meets}
-use Rattle.regions.specs.Laws.Formed.{Small}
+use Rattle.regions.specs.Formed.{Small}
 use Rattle.clocks.specs.declared.region.Bounds.{Bounds}
 use Rattle.clocks.specs.declared.region.Region.{Region}
 

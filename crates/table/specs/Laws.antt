@@ -5,6 +5,8 @@
 --   Numbers    a table is refused with a number from 1 to 13, at a place within it or at its end
 --   Sized      labels and actions of a model that was read from bytes are bytes
 --   Items      on the table of a model the accessors give the items of the model
+--   Edges      what is stored from number 0 on, and the loops that list the edges and their places
+--   Reads      from the answer of `read` to the model, and to what the accessors then give
 --   Masks      the bits of a reset mask
 --   Turns      for the loop that reads a table
 --   Walks      for the loop that walks over records of one kind
@@ -14,6 +16,8 @@ pub mod ReadBack
 pub mod Numbers
 pub mod Sized
 pub mod Items
+pub mod Edges
+pub mod Reads
 pub mod Masks
 pub mod Turns
 pub mod Walks

@@ -10,7 +10,7 @@
 --   Sound      what is sound in every model that was read
 --   Access     what the accessors give
 --   Edges      what the edge list holds
---   Reads      the model that a table was read as, and the laws that the layer above goes by
+--   Reads      the model that a table was read as, and its edges by number
 -- The theorems on these definitions, and laws for the proofs of the code, stand in Laws.
 pub mod Format
 pub mod Model

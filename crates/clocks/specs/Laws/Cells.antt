@@ -11,16 +11,8 @@ use borrow.Author.Tests.{eqb-true, eqb-false, eq-eqb, ne-eqb, ltb-true}
 use Rattle.table.specs.Model.{resetIn}
 use Rattle.clocks.specs.Cells.{Cell, over, at, fractionOf, member, rank, closed, close, restart, restarted, reset}
 use Rattle.clocks.specs.Cells.{isOver, standing, leaving, all, some, leave, highest, arrive, Follow, nothing, cells, delay}
+use Rattle.clocks.specs.Cells.{Proper, NoGap}
 use Rattle.clocks.specs.Cells.{delay-nothing, delay-leaves, delay-arrives}
-
--- A cell that a clock of a region may be: at most its bound, and at the bound only with rank 0.
-abbrev pub Proper : Cell → Type 0
-Proper (over m) = Unit
-Proper (at m w f) = (w ≤ m) × (w ≡ m → f ≡ 0)
-
--- Ranks without gaps: with a rank, every smaller one from 1 on is there.
-abbrev pub NoGap : List Cell → Type 0
-NoGap cs = (f : ℕ) → member f (map fractionOf cs) ≡ true → (k : ℕ) → 0 < k → k ≤ f → member k (map fractionOf cs) ≡ true
 
 pub both : (b : Bool) → (b ≡ true) ⊎ (b ≡ false)
 both true = inl refl

@@ -17,7 +17,8 @@ use Rattle.partition.specs.Instances.{graph}
 use Rattle.partition.specs.Calls.{reduceOf}
 use Rattle.partition.specs.Promises.{Reduced}
 use Rattle.partition.specs.Laws.Calls.{on-accepted}
-use Rattle.partition.specs.Laws.Left.{Left, reduced-first, reduced-second, reduced-refused, no-sixteen}
+use Rattle.partition.specs.Laws.Left.{reduced-first, reduced-second, reduced-refused, no-sixteen}
+use Rattle.partition.specs.Left.{Left}
 use Rattle.partition.specs.declared.calls.Reduction.the-variants as B
 use Rattle.text.specs.Text.{upTo}
 use Rattle.listing.specs.Printed.{firstLine, regionLine, blockLines, regionRecord, blockRecord, printed, printedGraph, refusalLine}

@@ -12,7 +12,8 @@ use lib.ListN.{length, getD, take}
 use borrow.Author.Tests.{eqb-true, eqb-false}
 use Rattle.partition.specs.Passed.{Finite, Branch}
 use Rattle.partition.specs.Instances.{graph}
-use Rattle.partition.specs.Laws.Left.{Left, left-length, left-taken, left-below, left-delays, left-targets, left-wholes}
+use Rattle.partition.specs.Laws.Left.{left-length, left-taken, left-below, left-delays, left-targets, left-wholes}
+use Rattle.partition.specs.Left.{Left}
 use Rattle.listing.specs.Printed.{lowestFrom, lowestOf}
 
 -- The lowest number from x on that has block c in the list; it is below `top`.

@@ -11,7 +11,7 @@ use lib.ListN.{getD, take}
 use borrow.Author.Tests.{eq-eqb, eqb-true}
 use Rattle.partition.specs.Passed.{Finite, Branch}
 use Rattle.partition.specs.Instances.{graph}
-use Rattle.partition.specs.Laws.Left.{Left}
+use Rattle.partition.specs.Left.{Left}
 use Rattle.text.specs.Text.{colon, decimal, field, rising}
 use Rattle.rounding.specs.Rounding.{Rounded, tenThousandths}
 use Rattle.listing.specs.Printed.{ShareRecord, isAmong, targetsOf, weightInto, shareField, sharesOf}

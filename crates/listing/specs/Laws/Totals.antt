@@ -12,7 +12,8 @@ use lib.Dec.{eqb}
 use lib.ListN.{length, getD, take, length-map}
 use Rattle.partition.specs.Passed.{Model, Region, labelOf}
 use Rattle.partition.specs.Instances.{graph}
-use Rattle.partition.specs.Laws.Left.{Left, left-length, left-below, left-labels}
+use Rattle.partition.specs.Laws.Left.{left-length, left-below, left-labels}
+use Rattle.partition.specs.Left.{Left}
 use Rattle.text.specs.Text.{each, Rises}
 use Rattle.text.specs.Laws.Texts.{upto-same, upto-there, upto-only, upto-length, upto-map, upto-at}
 use Rattle.totals.specs.Totals.{count, TotalRecord, totalOf, sumOf, labelLine, allLine}

@@ -21,6 +21,7 @@ use Rattle.bisimulation.specs.Laws.Blocks.{blocks-length}
 use Rattle.partition.specs.Instances.{graph}
 use Rattle.comparison.specs.Held.{Held}
 use Rattle.partition.specs.Laws.Shown.{whole-held}
+use Rattle.partition.specs.Calls.{Accepted}
 use Rattle.partition.specs.Calls.{fromOutcome, afterGraph, isShort, isAskedPast, blocksOf, numberedIn, reduceOf, listAfter, sharedOf, pairOf, pairListAfter, judgedOf, judgeOf}
 use Rattle.partition.specs.declared.calls.Reduction.{Reduction}
 use Rattle.partition.specs.declared.calls.Reduction.the-variants as B
@@ -28,13 +29,6 @@ use Rattle.partition.specs.declared.calls.Pairing.{Pairing}
 use Rattle.partition.specs.declared.calls.Pairing.the-variants as P
 use Rattle.partition.specs.declared.calls.Judgement.{Judgement}
 use Rattle.partition.specs.declared.calls.Judgement.the-variants as J
-
--- A table that was read as a model whose regions the graph call lists, all of them.
-pub record Accepted (table : List ℕ) (cap : ℕ) : Type 0 where
-  pub model : Model
-  pub read : readTable table ≡ accepted model
-  pub found : List Region
-  pub out : outcomeOf table cap ≡ whole found
 
 abbrev graphKind : Graph → ℕ
 graphKind (G.Refused number place) = 0
@@ -118,8 +112,25 @@ numbered-at list m found x h =
     List·getD-append (lastBlocks (graph m found)) (drop (length found) list) 0 x
     (omega (arith, h, blocks-length (graph m found) (rounds (graph m found))))
 
+-- Where neither list is short, both are long enough.
+pub long-enough : (first n second : ℕ) → (ltb first n || ltb second n) ≡ false → (n ≤ first) × (n ≤ second)
+long-enough first n second e = go (ltb first n) refl (ltb second n) refl e
+  where
+    go : (a : Bool) → ltb first n ≡ a → (b : Bool) → ltb second n ≡ b → (a || b) ≡ false → (n ≤ first) × (n ≤ second)
+    go true ea b eb q = absurd (false≢true (sym q))
+    go false ea true eb q = absurd (false≢true (sym q))
+    go false ea false eb q = (ltb-false first n ea, ltb-false second n eb)
+
+pub below-both : (n r s : ℕ) → (leb n r || leb n s) ≡ false → (r < n) × (s < n)
+below-both n r s e = go (leb n r) refl (leb n s) refl e
+  where
+    go : (a : Bool) → leb n r ≡ a → (b : Bool) → leb n s ≡ b → (a || b) ≡ false → (r < n) × (s < n)
+    go true ea b eb q = absurd (false≢true (sym q))
+    go false ea true eb q = absurd (false≢true (sym q))
+    go false ea false eb q = (leb-false n r ea, leb-false n s eb)
+
 module _ (table : List ℕ) (cap : ℕ) (first second : List ℕ) where
-  -- The partition call succeeded: the lists were long enough, and hold the blocks.
+  -- The partition call succeeded.
   module _ (n b k : ℕ) (e : reduceOf table cap first second ≡ B.Blocks n b k) where
     reduced : (a : Accepted table cap) × (blocksOf first second (a .model) (a .found) ≡ B.Blocks n b k)
     unfolding reduceOf
@@ -136,6 +147,11 @@ module _ (table : List ℕ) (cap : ℕ) (first second : List ℕ) where
         not-short true o q = absurd (omega (arith, ap reductionKind q))
         not-short false o q = refl
 
+    -- Both lists were long enough.
+    pub reduce-long : (length (reduce-accepted .found) ≤ length first) × (length (reduce-accepted .found) ≤ length second)
+    reduce-long = long-enough (length first) (length (reduce-accepted .found)) (length second) long
+
+    -- They hold the blocks.
     pub reduce-lists : (list : List ℕ)
         → listAfter table cap first second list ≡ numberedIn list (reduce-accepted .model) (reduce-accepted .found)
     unfolding listAfter
@@ -153,16 +169,39 @@ module _ (table : List ℕ) (cap : ℕ) (first second : List ℕ) where
     pub pair-accepted : Accepted table cap
     pair-accepted = paired .0
 
-    pub pair-shares : related (lastBlocks (graph (pair-accepted .model) (pair-accepted .found))) r s ≡ v
+    said : (isShort (length (pair-accepted .found)) first second ≡ false)
+        × (isAskedPast (length (pair-accepted .found)) r s ≡ false)
+        × (related (lastBlocks (graph (pair-accepted .model) (pair-accepted .found))) r s ≡ v)
     unfolding pair-accepted
-    pair-shares =
+    said =
         go (isShort (length (paired .0 .found)) first second) (isAskedPast (length (paired .0 .found)) r s)
         (related (lastBlocks (graph (paired .0 .model) (paired .0 .found))) r s) (paired .1)
       where
-        go : (x y z : Bool) → cond x (P.Refused 16 0) (cond y (P.Refused 19 0) (P.Shared z)) ≡ P.Shared v → z ≡ v
+        go : (x y z : Bool) → cond x (P.Refused 16 0) (cond y (P.Refused 19 0) (P.Shared z)) ≡ P.Shared v
+            → (x ≡ false) × (y ≡ false) × (z ≡ v)
         go true y z q = absurd (omega (arith, ap pairingKind q))
         go false true z q = absurd (omega (arith, ap pairingKind q))
-        go false false z q = ap isSharing q
+        go false false z q = (refl, refl, ap isSharing q)
+
+    pub pair-shares : related (lastBlocks (graph (pair-accepted .model) (pair-accepted .found))) r s ≡ v
+    pair-shares = said .2
+
+    -- Both lists were long enough, and both numbers are those of regions.
+    pub pair-long : (length (pair-accepted .found) ≤ length first) × (length (pair-accepted .found) ≤ length second)
+    pair-long = long-enough (length first) (length (pair-accepted .found)) (length second) (said .0)
+
+    pub pair-below : (r < length (pair-accepted .found)) × (s < length (pair-accepted .found))
+    pair-below = below-both (length (pair-accepted .found)) r s (said .1)
+
+    -- Both lists hold the blocks.
+    pub pair-lists : (list : List ℕ)
+        → pairListAfter table cap first second list r s ≡ numberedIn list (pair-accepted .model) (pair-accepted .found)
+    unfolding pairListAfter
+    pair-lists list =
+        on-accepted (λ number place. list)
+        (λ m found. cond (isShort (length found) first second) list (cond (isAskedPast (length found) r s) list (numberedIn list m found)))
+        table cap pair-accepted
+        ∙ rw (said .0, said .1) refl
 
 -- ---- For the code
 
@@ -177,23 +216,6 @@ past-first n r s h = rw (le-leb n r h) refl
 
 pub past-second : (n r s : ℕ) → r < n → leb n s ≡ (leb n r || leb n s)
 past-second n r s h = rw (lt-leb n r h) refl
-
--- Where neither list is short, both are long enough.
-pub long-enough : (first n second : ℕ) → (ltb first n || ltb second n) ≡ false → (n ≤ first) × (n ≤ second)
-long-enough first n second e = go (ltb first n) refl (ltb second n) refl e
-  where
-    go : (a : Bool) → ltb first n ≡ a → (b : Bool) → ltb second n ≡ b → (a || b) ≡ false → (n ≤ first) × (n ≤ second)
-    go true ea b eb q = absurd (false≢true (sym q))
-    go false ea true eb q = absurd (false≢true (sym q))
-    go false ea false eb q = (ltb-false first n ea, ltb-false second n eb)
-
-pub below-both : (n r s : ℕ) → (leb n r || leb n s) ≡ false → (r < n) × (s < n)
-below-both n r s e = go (leb n r) refl (leb n s) refl e
-  where
-    go : (a : Bool) → leb n r ≡ a → (b : Bool) → leb n s ≡ b → (a || b) ≡ false → (r < n) × (s < n)
-    go true ea b eb q = absurd (false≢true (sym q))
-    go false ea true eb q = absurd (false≢true (sym q))
-    go false ea false eb q = (leb-false n r ea, leb-false n s eb)
 
 module _ (m : Model) (found : List Region) (proposal : List ℕ) where
   pub seventeen : (length proposal ≡ length found → ⊥) → J.Refused 17 0 ≡ judgedOf proposal m found

@@ -12,10 +12,12 @@ use Rattle.regions.specs.Passed.{Model, Region}
 use Rattle.regions.specs.Graph.{boundsOf, meets, first, delayNext, DelaysTo, stays, goes, by-delay, Reached, led}
 use Rattle.regions.specs.Explore.{sameRegion, same-true, same-refl}
 use Rattle.regions.specs.View.{numberIn}
-use Rattle.regions.specs.Laws.Call.{AllRegions, false-true, reached-meets, gathered, gathers}
+use Rattle.regions.specs.Laws.Call.{false-true, reached-meets, gathered, gathers}
+use Rattle.regions.specs.Order.{AllRegions}
 use Rattle.states.specs.Laws.States.{delays-within}
 use Rattle.regions.specs.Laws.View.{has-number, number-at}
-use Rattle.regions.specs.Laws.Worklist.{Different, member, no-more}
+use Rattle.regions.specs.Laws.Worklist.{member, no-more}
+use Rattle.regions.specs.Worklist.{Different}
 use Rattle.partition.specs.Instances.{regionOf, delaysFrom, graph}
 
 -- ---- Lists

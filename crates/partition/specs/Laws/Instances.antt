@@ -14,13 +14,15 @@ use Rattle.regions.specs.Graph.{boundsOf, meets, first, landing, available, Rea
 use Rattle.regions.specs.View.{numberIn, labelOf}
 use Rattle.states.specs.States.{State, IsState, Same, Delays, target, enabled}
 use Rattle.regions.specs.Call.{whole, outcomeOf}
-use Rattle.regions.specs.Laws.Call.{AllRegions, whole-model}
+use Rattle.regions.specs.Laws.Call.{whole-model}
+use Rattle.regions.specs.Order.{AllRegions}
 use Rattle.states.specs.Laws.States.{same-refl, same-sym, same-trans, same-delays, same-enabled, same-target}
 use Rattle.states.specs.Laws.States.{delays-location, delays-within, label-placed}
 use Rattle.regions.specs.Laws.View.{NumberOf, has-number, number-listed, number-at, landing-number}
 use Rattle.regions.specs.Laws.View.{delays-label}
-use Rattle.states.specs.RegionTheorem.{regionIn, equal-states, region-theorem, enabled-alike, target-alike}
-use Rattle.states.specs.RegionTheorem.{edge-there, edge-sum, edge-positive, edge-target}
+use Rattle.states.specs.Laws.RegionTheorem.{equal-states, region-theorem, enabled-alike, target-alike}
+use Rattle.states.specs.Alike.{regionIn}
+use Rattle.states.specs.Laws.RegionTheorem.{edge-there, edge-sum, edge-positive, edge-target}
 use Rattle.bisimulation.specs.Structures.{Branch, Closed, total}
 use Rattle.bisimulation.specs.Bisimulations.{Round}
 use Rattle.bisimulation.specs.Finite.{structure, rounds}

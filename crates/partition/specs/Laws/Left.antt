@@ -24,27 +24,13 @@ use Rattle.bisimulation.specs.Laws.Leads.{leaders-most}
 use Rattle.partition.specs.Instances.{graph}
 use Rattle.partition.specs.Calls.{fromOutcome, afterGraph, isShort, blocksOf, reduceOf, listAfter}
 use Rattle.partition.specs.Promises.{Reduced}
+use Rattle.partition.specs.Left.{Left}
 use Rattle.partition.specs.Laws.Instances.{call-closed}
 use Rattle.partition.specs.Laws.Success.{reduce-succeeds}
-use Rattle.partition.specs.Laws.Calls.{Accepted, on-accepted, reduce-accepted, reduce-lists}
+use Rattle.partition.specs.Calls.{Accepted}
+use Rattle.partition.specs.Laws.Calls.{on-accepted, reduce-accepted, reduce-lists}
 use Rattle.partition.specs.declared.calls.Reduction.{Reduction}
 use Rattle.partition.specs.declared.calls.Reduction.the-variants as B
-
--- The counts n, b and k, the entries and one of the two lists, after a call that succeeded on a table with room for `cap` regions:
--- they are those of the graph of the model that the table was read as.
-pub record Left (table : List ℕ) (cap n b k : ℕ) (entries list : List ℕ) : Type 0 where
-  pub from : Accepted table cap
-  pub regions-are : n ≡ length (from .found)
-  pub blocks-are : b ≡ blockCount (graph (from .model) (from .found)) (rounds (graph (from .model) (from .found)))
-  pub rounds-are : k ≡ rounds (graph (from .model) (from .found))
-  pub entries-hold : listed entries n ≡ from .found
-  pub list-holds : take n list ≡ lastBlocks (graph (from .model) (from .found))
-  -- What was lent is long enough, and the counts are within their bounds.
-  pub entries-long : entryBytes * n ≤ length entries
-  pub list-long : n ≤ length list
-  pub few-regions : n ≤ maxEntries
-  pub few-blocks : b ≤ n
-  pub some-blocks : 0 < b
 
 -- Every block has a leader of its own.
 count-most : (F : Finite) (k : ℕ) → blockCount F k ≤ F .size

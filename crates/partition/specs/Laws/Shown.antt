@@ -13,7 +13,8 @@ use Rattle.regions.specs.Graph.{boundsOf, meets, landing, available, delayNext,
 use Rattle.regions.specs.View.{numberIn, delayNumbers}
 use Rattle.regions.specs.Shown.{Shown, followers, branchOf, openBelow as shownBelow}
 use Rattle.regions.specs.Call.{whole, outcomeOf}
-use Rattle.regions.specs.Laws.Call.{AllRegions, whole-graph, whole-model}
+use Rattle.regions.specs.Laws.Call.{whole-graph, whole-model}
+use Rattle.regions.specs.Order.{AllRegions}
 use Rattle.regions.specs.Laws.Shown.{few-edges}
 use Rattle.regions.specs.Laws.View.{number-at, delay-number}
 use Rattle.regions.specs.Laws.Worklist.{member}

@@ -15,7 +15,9 @@ use Rattle.regions.specs.Laws.Call.{more-room}
 use Rattle.bisimulation.specs.Finite.{related, lastBlocks, rounds, blockCount}
 use Rattle.partition.specs.Instances.{graph}
 use Rattle.partition.specs.Calls.{isShort, isAskedPast, blocksOf, sharedOf, reduceOf, listAfter, pairOf}
-use Rattle.partition.specs.Laws.Calls.{Accepted, on-accepted, blocks-are, numbered-at, reduce-accepted, reduce-lists, pair-accepted, pair-shares}
+use Rattle.partition.specs.Laws.Calls.{on-accepted, blocks-are, numbered-at, reduce-accepted, reduce-long, reduce-lists}
+use Rattle.partition.specs.Laws.Calls.{pair-accepted, pair-shares, pair-long, pair-below}
+use Rattle.partition.specs.Calls.{Accepted}
 use Rattle.partition.specs.declared.calls.Reduction.the-variants as B
 use Rattle.partition.specs.declared.calls.Pairing.the-variants as P
 
@@ -64,6 +66,30 @@ module _ (table : List ℕ) (cap : ℕ) (a : Accepted table cap) (first second :
       on-accepted P.Refused (sharedOf first second r s) table cap a
       ∙ rw (not-short, lt-leb (length (a .found)) r hr, lt-leb (length (a .found)) s hs) refl
 
+-- Exactly where: the calls answer no refusal only there.
+module _ (table : List ℕ) (cap : ℕ) (first second : List ℕ) where
+  pub reduce-exactly : ((n : ℕ) × (b : ℕ) × (k : ℕ) × (reduceOf table cap first second ≡ B.Blocks n b k))
+      ↔ ((a : Accepted table cap) × (length (a .found) ≤ length first) × (length (a .found) ≤ length second))
+  reduce-exactly = (
+    λ t.
+        let (n, b, k, e) = t in
+        let (one, two) = reduce-long table cap first second n b k e in
+        (reduce-accepted table cap first second n b k e, one, two),
+    λ t. let (a, one, two) = t in (_, _, _, reduce-succeeds table cap a first second one two),
+  )
+
+  pub pair-exactly : (r s : ℕ) → ((v : Bool) × (pairOf table cap first second r s ≡ P.Shared v))
+      ↔ ((a : Accepted table cap) × (length (a .found) ≤ length first) × (length (a .found) ≤ length second)
+      × (r < length (a .found)) × (s < length (a .found)))
+  pair-exactly r s = (
+    λ t.
+        let (v, e) = t in
+        let (one, two) = pair-long table cap first second r s v e in
+        let (hr, hs) = pair-below table cap first second r s v e in
+        (pair-accepted table cap first second r s v e, one, two, hr, hs),
+    λ t. let (a, one, two, hr, hs) = t in (_, pair-succeeds table cap a first second one two r s hr hs),
+  )
+
 -- ---- The pair call says the same as the lists of the partition call, whatever was lent to either
 
 module _ (table : List ℕ) (cap cap′ : ℕ) (first second first₂ second₂ : List ℕ) (n b k : ℕ)
@@ -81,11 +107,19 @@ module _ (table : List ℕ) (cap cap′ : ℕ) (first second first₂ second₂ 
       (one-found table cap cap′ mine theirs)
       ∙ pair-shares table cap′ first₂ second₂ r s shares paired
 
+  -- Both numbers are those of regions, since the pair call succeeded.
+  below-mine : (r < length (mine .found)) × (s < length (mine .found))
+  below-mine =
+      let (hr, hs) = pair-below table cap′ first₂ second₂ r s shares paired in
+      let same = ap length (one-found table cap cap′ mine theirs) in
+      (omega (arith, hr, same), omega (arith, hs, same))
+
   -- In a list of the partition call: the first (where `list` is `first`) or the second.
-  pub calls-agree : (list : List ℕ) → r < length (mine .found) → s < length (mine .found)
+  pub calls-agree : (list : List ℕ)
       → (shares ≡ true)
       ↔ (getD (listAfter table cap first second list) r 0 ≡ getD (listAfter table cap first second list) s 0)
-  calls-agree list hr hs =
+  calls-agree list =
+      let (hr, hs) = below-mine in
       let at : (x : ℕ) → x < length (mine .found)
       → getD (listAfter table cap first second list) x 0 ≡ getD (lastBlocks (graph (mine .model) (mine .found))) x 0 =
       λ x h. ap (λ (l : List ℕ). getD l x 0) (reduce-lists table cap first second n b k reduced list)

@@ -17,7 +17,9 @@ use Rattle.regions.specs.Graph.{Leads, by-delay, by-edge, Reached, begun
 use Rattle.regions.specs.Worklist.{Found, complete, full, explore, Reach, here, on}
 use Rattle.regions.specs.Explore.{both-true, sameRegion, same-true, same-refl}
 use Rattle.regions.specs.Call.{Outcome, refused, cut, whole, fromFound, fromAnswer, outcomeOf}
-use Rattle.regions.specs.Laws.Worklist.{Begins, Different, different-grown, no-more, complete-all, full-room, full-first, larger-complete, larger-full}
+use Rattle.regions.specs.Worklist.{Begins, Different}
+use Rattle.regions.specs.Order.{AllRegions, FirstRegions, Begun, MoreReached}
+use Rattle.regions.specs.Laws.Worklist.{different-grown, no-more, complete-all, full-room, full-first, larger-complete, larger-full}
 use Rattle.regions.specs.Laws.Worklist.{itemsOf}
 use Rattle.clocks.specs.declared.region.Region.{Region}
 
@@ -100,24 +102,7 @@ module _ (m : Model) where
 
   -- ---- What the answer says
 
-  -- All regions that are reached, each once, region 0 first.
-  pub record AllRegions (found : List Region) : Type 0 where
-    pub zeroth : (d : Region) → getD found 0 d ≡ first m
-    pub some : 0 < length found
-    pub different : Different found
-    pub all : (r : Region) → Reached m r ↔ List·Memᴰ r found
-
-  -- As many of them as there is room for, each once, region 0 first, and another one is reached.
-  pub record FirstRegions (cap : ℕ) (found : List Region) : Type 0 where
-    pub zeroth : (d : Region) → 0 < cap → getD found 0 d ≡ first m
-    pub fills : length found ≡ cap
-    pub different : Different found
-    pub reached : (r : Region) → List·Memᴰ r found → Reached m r
-    pub another : Region
-    pub another-reached : Reached m another
-    pub another-new : List·Memᴰ another found → ⊥
-
-  whole-of : (cap : ℕ) (found : List Region) → explore sameRegion (nextOf m) cap (first m) ≡ complete found → AllRegions found
+  whole-of : (cap : ℕ) (found : List Region) → explore sameRegion (nextOf m) cap (first m) ≡ complete found → AllRegions m found
   whole-of cap found e =
       let a = complete-all sameRegion (nextOf m) same-true same-refl cap (first m) found e in
       record {
@@ -127,7 +112,7 @@ module _ (m : Model) where
         all = λ r. (λ s. a .all-reached r (from-reached r s), λ n. to-reached r (a .sound .reached r n));
       }
 
-  cut-of : (cap : ℕ) (found : List Region) → explore sameRegion (nextOf m) cap (first m) ≡ full found → FirstRegions cap found
+  cut-of : (cap : ℕ) (found : List Region) → explore sameRegion (nextOf m) cap (first m) ≡ full found → FirstRegions m cap found
   cut-of cap found e =
       let a = full-room sameRegion (nextOf m) same-true same-refl cap (first m) found e in
       record {
@@ -150,12 +135,6 @@ abbrev pub regionsIn : Outcome → List Region
 regionsIn (refused number place) = []
 regionsIn (cut found) = found
 regionsIn (whole found) = found
-
--- A model that was read, and whose region 0 meets its invariant.
-pub record Begun (table : List ℕ) : Type 0 where
-  pub model : Model
-  pub read : readTable table ≡ accepted model
-  pub meets-first : meets (boundsOf model) (model .invariants) (first model) ≡ true
 
 module _ (table : List ℕ) (cap : ℕ) (out : Outcome) (explored : 0 < kindOf out) where
   -- Where the call explored, it did so from region 0 of the model read.
@@ -275,13 +254,6 @@ refused-graph table cap number place e = by-answer (readTable table) refl e
             ⊎ ((m : Model) × (readTable table ≡ accepted m) × (meets (boundsOf m) (m .invariants) (first m) ≡ false) × (number ≡ 14) × (place ≡ 0))
         go true h k = absurd (no-found (explore sameRegion (nextOf m) cap (first m)) k)
         go false h k = inr (m, t, h, sym (ap (λ (x : ℕ × ℕ). x .0) (ap numbers k)), sym (ap (λ (x : ℕ × ℕ). x .1) (ap numbers k)))
-
--- More different regions are reached than there is room for.
-pub record MoreReached (m : Model) (cap : ℕ) : Type 0 where
-  pub regions : List Region
-  pub different : Different regions
-  pub reached : (r : Region) → List·Memᴰ r regions → Reached m r
-  pub many : cap < length regions
 
 module _ (table : List ℕ) (cap cap′ : ℕ) (found : List Region) (h : cap ≤ cap′) (e : outcomeOf table cap ≡ cut found) where
   items-of : (f : Found Region) → itemsOf f ≡ regionsIn (fromFound f)

@@ -19,7 +19,7 @@ use Rattle.regions.specs.View.{numberIn, labelOf, delayNumbers}
 use Rattle.regions.specs.Shown.{followers, openBelow}
 use Rattle.regions.specs.Filling.{Run, Blocks, Before, InUse, no-reset, by-branch, Still, RowFlagged, Flagged}
 use Rattle.regions.specs.Filling.{bare, Apart, Distinct, Classed, Grouped, Numbers}
-use Rattle.regions.specs.Laws.Call.{AllRegions}
+use Rattle.regions.specs.Order.{AllRegions}
 use Rattle.regions.specs.Laws.Worklist.{member}
 use Rattle.regions.specs.Laws.View.{number-at, delay-number}
 use Rattle.clocks.specs.declared.region.Region.{Region}

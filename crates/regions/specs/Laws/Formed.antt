@@ -22,8 +22,11 @@ use Rattle.regions.specs.Graph.{largestConstant, boundsOf, meets, landin
 use Rattle.regions.specs.Graph.{by-delay, by-edge, Reached, begun, led}
 use Rattle.regions.specs.Explore.{both-true}
 use Rattle.regions.specs.Laws.Bounds.{constants-small}
-use Rattle.clocks.specs.Laws.Cells.{Proper, NoGap, reset-proper, delay-proper, reset-no-gap, delay-no-gap, delay-cases, gives-own, has}
-use Rattle.regions.specs.Laws.Worklist.{Different, no-more}
+use Rattle.clocks.specs.Cells.{Proper, NoGap}
+use Rattle.regions.specs.Formed.{Small, Formed}
+use Rattle.clocks.specs.Laws.Cells.{reset-proper, delay-proper, reset-no-gap, delay-no-gap, delay-cases, gives-own, has}
+use Rattle.regions.specs.Laws.Worklist.{no-more}
+use Rattle.regions.specs.Worklist.{Different}
 use Rattle.regions.specs.Laws.Call.{false-true, gathered, kept}
 use Rattle.clocks.specs.declared.clock.Clock.{Clock}
 use Rattle.clocks.specs.declared.region.Region.{Region}
@@ -75,21 +78,6 @@ few-ranks cs f h e =
     omega (arith, n, down-length f)
 
 -- ---- Well-formed regions
-
--- At most four clocks, with bounds below the byte that stands for over.
-pub record Small (bounds : Bounds) : Type 0 where
-  pub few : bounds .count ≤ 4
-  pub low : (i : ℕ) → getD (bounds .bound) i 0 ≤ 15
-
--- A well-formed region (document 01: "four integer parts (16 for over), four ranks (0 for over). Clocks beyond n hold 0."): its
--- clocks are over, or at most at their bounds and there with rank 0, and with a rank every smaller one from 1 on is there.
-pub record Formed (bounds : Bounds) (r : Region) : Type 0 where
-  pub wholes : length (r .whole) ≡ 4
-  pub ranks : length (r .rank) ≡ 4
-  pub over-rank : (i : ℕ) → getD (r .whole) i 0 ≡ overPart → getD (r .rank) i 0 ≡ 0
-  pub beyond : (i : ℕ) → bounds .count ≤ i → (getD (r .whole) i 0 ≡ 0) × (getD (r .rank) i 0 ≡ 0)
-  pub proper : (c : Cell) → List·Memᴰ c (unpack bounds r) → Proper c
-  pub no-gap : NoGap (unpack bounds r)
 
 -- The bound that a cell carries.
 abbrev pub boundOf : Cell → ℕ

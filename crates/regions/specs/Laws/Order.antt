@@ -1,7 +1,7 @@
 -- The numbers of the regions (document 01: "Region 0 is the initial location with all clocks 0. Regions are then taken in
 -- number order: its delay region first, then its available edges in table order, branches in order. A region met first gets
--- the next number."), without a word of exploring, of room or of fuel: `InOrder` says it of a list, at most one list is such
--- (`order-one`), and the graph call lists that one (`whole-order`) or begins it (`cut-order`).
+-- the next number."): at most one list is in that order (`order-one`), and the graph call lists that one (`whole-order`) or begins it
+-- (`cut-order`).
 use Prim.Native.Nat.{ℕ, _<_}
 use mathlib.Core.Path.{_≡_}
 use mathlib.Core.List.{List, List·Memᴰ}
@@ -11,18 +11,11 @@ use Rattle.table.specs.Reading.{accepted, readTable}
 use Rattle.regions.specs.Graph.{nextOf, first}
 use Rattle.regions.specs.Explore.{sameRegion}
 use Rattle.regions.specs.Call.{cut, whole, outcomeOf}
-use Rattle.regions.specs.Laws.Worklist.{Taken, Further, taken-one, taken-all-one, taken-from, complete-taken, full-taken}
+use Rattle.regions.specs.Worklist.{Further}
+use Rattle.regions.specs.Order.{ListedAfter, InOrder}
+use Rattle.regions.specs.Laws.Worklist.{taken-one, taken-all-one, taken-from, complete-taken, full-taken}
 use Rattle.regions.specs.Laws.Call.{whole-explored, cut-explored}
 use Rattle.clocks.specs.declared.region.Region.{Region}
-
--- The regions that are listed once those with numbers below i were taken: region 0 at first; then each region that is taken,
--- in number order, adds at the end those of `nextOf` that are not listed yet, in order (`Taken`).
-abbrev pub ListedAfter : Model → ℕ → List Region → Type 0
-ListedAfter m i l = Taken sameRegion (nextOf m) (first m) i l
-
--- All that is listed was taken.
-abbrev pub InOrder : Model → List Region → Type 0
-InOrder m found = ListedAfter m (length found) found
 
 module _ (m : Model) where
   -- At most one list is such.

@@ -21,7 +21,8 @@ use Rattle.regions.specs.Filling.{Blocks, RowsTo, InUse, by-branch, Flag
 use Rattle.regions.specs.Call.{Outcome, whole, fromAnswer, outcomeOf, graphOf, entriesAfter}
 use Rattle.regions.specs.Laws.Bounds.{all-at}
 use Rattle.regions.specs.Laws.Bytes.{listed-whole, entries-length}
-use Rattle.regions.specs.Laws.Call.{AllRegions, whole-graph, whole-model}
+use Rattle.regions.specs.Laws.Call.{whole-graph, whole-model}
+use Rattle.regions.specs.Order.{AllRegions}
 use Rattle.regions.specs.Laws.Filling.{in-use}
 use Rattle.regions.specs.Laws.Locations.{reached-location}
 use Rattle.regions.specs.Laws.Numbers.{answers-n}

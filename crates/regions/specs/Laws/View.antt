@@ -14,10 +14,12 @@ use Rattle.regions.specs.Graph.{boundsOf, landing, available, delayNext,
 use Rattle.regions.specs.Graph.{DelaysTo, stays, goes}
 use Rattle.regions.specs.Explore.{sameRegion, same-true, same-refl}
 use Rattle.regions.specs.View.{numberIn, labelOf}
-use Rattle.regions.specs.Laws.Call.{AllRegions, false-true, gathers}
+use Rattle.regions.specs.Laws.Call.{false-true, gathers}
+use Rattle.regions.specs.Order.{AllRegions}
 use Rattle.regions.specs.Laws.Graph.{edge-some}
 use Rattle.regions.specs.Laws.Locations.{delay-location}
-use Rattle.regions.specs.Laws.Worklist.{Different, member}
+use Rattle.regions.specs.Laws.Worklist.{member}
+use Rattle.regions.specs.Worklist.{Different}
 use Rattle.clocks.specs.declared.region.Region.{Region}
 
 -- A number of a list, whose region is this one.

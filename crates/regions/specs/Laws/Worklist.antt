@@ -18,6 +18,7 @@ use lib.ListN.{length, getD, length-append, List·getD-append}
 use lib.Seq.{getD-at, getD-append-add}
 use borrow.Author.Tests.{ltb-true, ltb-false, lt-ltb, le-ltb}
 use Rattle.regions.specs.Worklist.{Found, complete, full, known, meet, andThen, exploreFrom, explore, Reach, here, on}
+use Rattle.regions.specs.Worklist.{Begins, Different, newOnes, Taken, at-first, and-next, Further}
 
 both : (b : Bool) → (b ≡ true) ⊎ (b ≡ false)
 both true = inl refl
@@ -68,11 +69,6 @@ module _ {X : Type 0} where
     pub is : getD l number d ≡ x
     pub first : (k : ℕ) → k < number → getD l k d ≡ x → ⊥
 
-  -- A list that begins with another.
-  pub record Begins (front l : List X) : Type 0 where
-    pub rest : List X
-    pub split : l ≡ front ++ rest
-
   begins-self : (l : List X) → Begins l l
   begins-self l = record { rest = []; split = sym (append-nil l) }
 
@@ -92,10 +88,6 @@ module _ {X : Type 0} where
   -- What begins a list keeps its numbers in it.
   pub unmoved : (d : X) {a b : List X} → Begins a b → (j : ℕ) → j < length a → getD b j d ≡ getD a j d
   unmoved d {a} p j h = ap (λ l. getD l j d) (p .split) ∙ List·getD-append a (p .rest) d j h
-
-  -- No two numbers have the same item.
-  abbrev pub Different : List X → Type 0
-  Different l = (d : X) (i j : ℕ) → i < length l → j < length l → getD l i d ≡ getD l j d → i ≡ j
 
   pub different-grown : (l : List X) (x : X) → (List·Memᴰ x l → ⊥) → Different l → Different (l ++ (x ∷ []))
   different-grown l x new different d i j hi hj e =
@@ -383,25 +375,13 @@ module _ {X : Type 0} (same : X → X → Bool) (next : X → List X) where
 
   -- ---- The order of the numbers
 
-  -- The new ones of a list, in order: those that are neither among the known items nor earlier in the list.
-  abbrev pub newOnes : List X → List X → List X
-  newOnes found [] = []
-  newOnes found (x ∷ l) = cond (known same x found) (newOnes found l) (x ∷ newOnes (found ++ (x ∷ [])) l)
-
-  -- What is listed once the items with numbers below i were taken, in number order: the start at first; taking item i adds
-  -- the new ones of what it leads to, in order, at the end.
-  pub data Taken (start : X) : ℕ → List X → Type 0 where
-    at-first : Taken start 0 (start ∷ [])
-    and-next : {i : ℕ} {l : List X} → i < length l → Taken start i l
-        → Taken start (suc i) (l ++ newOnes l (next (getD l i start)))
-
   -- There is at most one such list for each i.
-  pub taken-one : {start : X} {i : ℕ} {a b : List X} → Taken start i a → Taken start i b → a ≡ b
+  pub taken-one : {start : X} {i : ℕ} {a b : List X} → Taken same next start i a → Taken same next start i b → a ≡ b
   taken-one at-first at-first = refl
-  taken-one {start} (and-next {i} h s) (and-next g t) = ap (λ l. l ++ newOnes l (next (getD l i start))) (taken-one s t)
+  taken-one {start} (and-next {i} h s) (and-next g t) = ap (λ l. l ++ newOnes same l (next (getD l i start))) (taken-one s t)
 
   -- Where all that is listed was taken, nothing is taken after it.
-  taken-last : {start : X} {i j : ℕ} {a b : List X} → Taken start i a → length a ≤ i → Taken start j b → j ≤ i
+  taken-last : {start : X} {i j : ℕ} {a b : List X} → Taken same next start i a → length a ≤ i → Taken same next start j b → j ≤ i
   taken-last s h at-first = omega arith
   taken-last {start} {i} s h (and-next {i = j} {l} g t) =
       elim (below j i) [
@@ -409,19 +389,19 @@ module _ {X : Type 0} (same : X → X → Bool) (next : X → List X) where
         | inr p ↦
             let low = taken-last s h t in
             let e : j ≡ i = omega arith in
-            let same-list = taken-one s (subst (λ k. Taken start k l) e t) in
+            let same-list = taken-one s (subst (λ k. Taken same next start k l) e t) in
             absurd (omega (arith, ap length same-list, h, g, e))
       ]
 
   -- So there is at most one list of which all was taken.
-  pub taken-all-one : {start : X} {a b : List X} → Taken start (length a) a → Taken start (length b) b → a ≡ b
+  pub taken-all-one : {start : X} {a b : List X} → Taken same next start (length a) a → Taken same next start (length b) b → a ≡ b
   taken-all-one {start} {a} {b} s t =
       let up = taken-last s (omega arith) t in
       let down = taken-last t (omega arith) s in
       let e : length b ≡ length a = omega arith in
-      taken-one s (subst (λ k. Taken start k b) e t)
+      taken-one s (subst (λ k. Taken same next start k b) e t)
 
-  new-listed : (found l : List X) (y : X) → List·Memᴰ y (newOnes found l) → List·Memᴰ y l
+  new-listed : (found l : List X) (y : X) → List·Memᴰ y (newOnes same found l) → List·Memᴰ y l
   new-listed found [] y n = n
   new-listed found (x ∷ l) y n =
       elim (both (known same x found)) [
@@ -429,13 +409,13 @@ module _ {X : Type 0} (same : X → X → Bool) (next : X → List X) where
         | inr e ↦ go (rw e at n) (new-listed (found ++ (x ∷ [])) l y)
       ]
     where
-      go : List·Memᴰ y (x ∷ newOnes (found ++ (x ∷ [])) l) → (List·Memᴰ y (newOnes (found ++ (x ∷ [])) l) → List·Memᴰ y l)
+      go : List·Memᴰ y (x ∷ newOnes same (found ++ (x ∷ [])) l) → (List·Memᴰ y (newOnes same (found ++ (x ∷ [])) l) → List·Memᴰ y l)
           → List·Memᴰ y (x ∷ l)
       go (List·Memᴰ·head p) later = List·Memᴰ·head p
       go (List·Memᴰ·tail k) later = List·Memᴰ·tail (later k)
 
   -- Each item but the start is led to by one of smaller number.
-  pub taken-from : {start : X} {i : ℕ} {l : List X} → Taken start i l → (j : ℕ) → 0 < j → j < length l
+  pub taken-from : {start : X} {i : ℕ} {l : List X} → Taken same next start i l → (j : ℕ) → 0 < j → j < length l
       → (k : ℕ) × (k < j) × List·Memᴰ (getD l j start) (next (getD l k start))
   taken-from at-first j p h = absurd (omega arith)
   taken-from {start} (and-next {i} {l} g t) j p h =
@@ -453,63 +433,55 @@ module _ {X : Type 0} (same : X → X → Bool) (next : X → List X) where
       ]
     where
       more : List X
-      more = newOnes l (next (getD l i start))
+      more = newOnes same l (next (getD l i start))
 
       old : (k : ℕ) → k < length l → getD (l ++ more) k start ≡ getD l k start
       old k h = List·getD-append l more start k h
 
-  met-new-ones : {cap : ℕ} {found l more : List X} → Met cap found l (complete more) → more ≡ found ++ newOnes found l
+  met-new-ones : {cap : ℕ} {found l more : List X} → Met cap found l (complete more) → more ≡ found ++ newOnes same found l
   met-new-ones (met-none {found}) = sym (append-nil found)
   met-new-ones (met-known e m) = rw e (met-new-ones m)
   met-new-ones (met-new {found} {l} {x} e h m) =
-      rw e (met-new-ones m ∙ append-assoc found (x ∷ []) (newOnes (found ++ (x ∷ [])) l))
+      rw e (met-new-ones m ∙ append-assoc found (x ∷ []) (newOnes same (found ++ (x ∷ [])) l))
 
   met-first-ones : {cap : ℕ} {found l more : List X} → Met cap found l (full more)
-      → Begins more (found ++ newOnes found l) × (length more < length (found ++ newOnes found l))
+      → Begins more (found ++ newOnes same found l) × (length more < length (found ++ newOnes same found l))
   met-first-ones (met-known e m) = rw e (met-first-ones m)
   met-first-ones {more} (met-new {found} {l} {x} e h m) =
-      rw e (subst (λ k. Begins more k × (length more < length k)) (append-assoc found (x ∷ []) (newOnes (found ++ (x ∷ [])) l))
+      rw e (subst (λ k. Begins more k × (length more < length k)) (append-assoc found (x ∷ []) (newOnes same (found ++ (x ∷ [])) l))
       (met-first-ones m))
   met-first-ones (met-full {found} {l} {x} e h) =
       rw e (
-        record { rest = x ∷ newOnes (found ++ (x ∷ [])) l; split = refl },
-        omega (arith, length-append found (x ∷ newOnes (found ++ (x ∷ [])) l)),
+        record { rest = x ∷ newOnes same (found ++ (x ∷ [])) l; split = refl },
+        omega (arith, length-append found (x ∷ newOnes same (found ++ (x ∷ [])) l)),
       )
 
   explored-taken : {cap : ℕ} {start : X} {found more : List X} {i : ℕ} → Explored cap start found i (complete more)
-      → i ≤ length found → Taken start i found → Taken start (length more) more
+      → i ≤ length found → Taken same next start i found → Taken same next start (length more) more
   explored-taken {start} (ended {found} {i} h) g t =
       let e : i ≡ length found = omega arith in
-      subst (λ k. Taken start k found) e t
+      subst (λ k. Taken same next start k found) e t
   explored-taken {start} (turned {found} {i} h m rest) g t =
       explored-taken rest (omega (arith, longer (met-begins m)))
-      (subst (Taken start (suc i)) (sym (met-new-ones m)) (and-next h t))
-
-  -- A longer list that is such, and begins with this one.
-  pub record Further (start : X) (found : List X) : Type 0 where
-    pub count : ℕ
-    pub list : List X
-    pub taken : Taken start count list
-    pub begins : Begins found list
-    pub longer : length found < length list
+      (subst (Taken same next start (suc i)) (sym (met-new-ones m)) (and-next h t))
 
   explored-further : {cap : ℕ} {start : X} {found more : List X} {i : ℕ} → Explored cap start found i (full more)
-      → Taken start i found → Further start more
+      → Taken same next start i found → Further same next start more
   explored-further {start} (stopped {found} {i} h m) t =
       let f = met-first-ones m in
       record {
         count = suc i;
-        list = found ++ newOnes found (next (getD found i start));
+        list = found ++ newOnes same found (next (getD found i start));
         taken = and-next h t;
         begins = f .0;
         longer = f .1;
       }
   explored-further {start} (turned {i} h m rest) t =
-      explored-further rest (subst (Taken start (suc i)) (sym (met-new-ones m)) (and-next h t))
+      explored-further rest (subst (Taken same next start (suc i)) (sym (met-new-ones m)) (and-next h t))
 
   -- Complete: the list is the one of which all was taken.
   pub complete-taken : (cap : ℕ) (start : X) (found : List X) → explore same next cap start ≡ complete found
-      → Taken start (length found) found
+      → Taken same next start (length found) found
   complete-taken zero start found e = absurd (complete-full (sym e ∙ no-room start))
   complete-taken (suc cap) start found e =
       let ran : Explored (suc cap) start (start ∷ []) 0 (complete found) =
@@ -517,7 +489,7 @@ module _ {X : Type 0} (same : X → X → Bool) (next : X → List X) where
       explored-taken ran (omega arith) at-first
 
   -- Full: the list begins a longer one that is taken.
-  pub full-taken : (cap : ℕ) (start : X) (found : List X) → explore same next cap start ≡ full found → Further start found
+  pub full-taken : (cap : ℕ) (start : X) (found : List X) → explore same next cap start ≡ full found → Further same next start found
   full-taken zero start found e =
       rw (full-items (sym e ∙ no-room start)) (record {
         count = 0;

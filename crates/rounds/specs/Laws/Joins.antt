@@ -12,7 +12,8 @@ use borrow.Author.Tests.{eq-eqb, ne-eqb, eqb-true}
 use Rattle.bisimulation.specs.Structures.{Closed}
 use Rattle.bisimulation.specs.Finite.{Finite, structure, related, next, lead}
 use Rattle.bisimulation.specs.Laws.Tests.{clash, fails, same?, same-test}
-use Rattle.bisimulation.specs.Laws.Leads.{EquivalenceBelow, FinerBelow, Reps, related-equivalence, reps-own, reps-agree}
+use Rattle.bisimulation.specs.Laws.Leads.{related-equivalence, reps-own, reps-agree}
+use Rattle.bisimulation.specs.Below.{EquivalenceBelow, FinerBelow, Reps}
 use Rattle.bisimulation.specs.Laws.Leads.{lead-low, lead-lowest, lead-of, lead-found}
 use Rattle.comparison.specs.Held.{Held}
 use Rattle.comparison.specs.Compare.{nextIn}

@@ -10,7 +10,8 @@ use lib.Seq.{getD-set-same, getD-set-other}
 use borrow.Author.Tests.{eq-eqb, eqb-true}
 use Rattle.bisimulation.specs.Finite.{related, lead}
 use Rattle.bisimulation.specs.Laws.Tests.{same?, same-test}
-use Rattle.bisimulation.specs.Laws.Leads.{AgreeBelow, Reps, related-equivalence, lead-low, lead-lead, leader-finer}
+use Rattle.bisimulation.specs.Laws.Leads.{related-equivalence, lead-low, lead-lead, leader-finer}
+use Rattle.bisimulation.specs.Below.{AgreeBelow, Reps}
 use Rattle.rounds.specs.Names.{Tagged, Named, LeadersKept, Reached, TaggedIn, swapped, RenamedTo}
 use Rattle.rounds.specs.Rounds.{Step}
 use Rattle.rounds.specs.Laws.Rounds.{CopiedTo}

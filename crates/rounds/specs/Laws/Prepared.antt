@@ -11,7 +11,8 @@ use lib.Seq.{getD-set-same, getD-set-other}
 use borrow.Author.Tests.{eqb-true}
 use Rattle.bisimulation.specs.Structures.{Closed}
 use Rattle.bisimulation.specs.Finite.{Finite, structure, related, next}
-use Rattle.bisimulation.specs.Laws.Leads.{AgreeBelow, Reps, reps-agree, lead-agree, leaders-agree}
+use Rattle.bisimulation.specs.Laws.Leads.{reps-agree, lead-agree, leaders-agree}
+use Rattle.bisimulation.specs.Below.{AgreeBelow, Reps}
 use Rattle.bisimulation.specs.Laws.Blocks.{next-agree}
 use Rattle.bisimulation.specs.Laws.Tests.{both}
 use Rattle.comparison.specs.Held.{Held}

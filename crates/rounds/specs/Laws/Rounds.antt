@@ -16,7 +16,8 @@ use Rattle.bisimulation.specs.Finite.{Finite, structure, related, matches, next
 use Rattle.bisimulation.specs.Finite.{lastBlocks, blockCount, accepts, allBelow}
 use Rattle.bisimulation.specs.Laws.Tests.{clash, fails, same?, same-test, and-iff, eqb-iff}
 use Rattle.bisimulation.specs.Laws.Rounds.{matched-agree}
-use Rattle.bisimulation.specs.Laws.Leads.{EquivalenceBelow, AgreeBelow, Reps, related-equivalence, reps-own}
+use Rattle.bisimulation.specs.Laws.Leads.{related-equivalence, reps-own}
+use Rattle.bisimulation.specs.Below.{EquivalenceBelow, AgreeBelow, Reps}
 use Rattle.bisimulation.specs.Laws.Leads.{lead-low, lead-lowest, lead-related, lead-of, lead-iff, lead-lead, lead-found, lead-none, lead-agree, leaders-agree}
 use Rattle.bisimulation.specs.Laws.Leads.{block-new, block-old, blocks-by-at, blocks-by-length, leader-finer, lead-first}
 use Rattle.bisimulation.specs.Laws.Blocks.{first-reps, first-agree, next-classes, next-finer, next-reps, next-count}

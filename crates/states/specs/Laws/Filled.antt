@@ -16,7 +16,8 @@ use Rattle.clocks.specs.Packed.{overPart, cellOf, clockOf, clockAt, unpack, byt
 use Rattle.states.specs.States.{State}
 use Rattle.states.specs.Placing.{valueCell, stateCell, stateCells, placed}
 use Rattle.clocks.specs.Laws.Cells.{both}
-use Rattle.regions.specs.Laws.Formed.{Small, Formed, within, is-read, over-or, cell-is, cell-is-over, proper-at}
+use Rattle.regions.specs.Laws.Formed.{within, is-read, over-or, cell-is, cell-is-over, proper-at}
+use Rattle.regions.specs.Formed.{Small, Formed}
 use Rattle.regions.specs.Laws.Formed.{formed-rank}
 use Rattle.states.specs.Laws.Fractions.{close-still}
 use Rattle.clocks.specs.declared.region.Bounds.{Bounds}

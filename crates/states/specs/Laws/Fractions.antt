@@ -20,7 +20,8 @@ use Rattle.states.specs.States.{compares}
 use Rattle.states.specs.Placing.{valueCell}
 use Rattle.clocks.specs.declared.region.Verdict.{Verdict}
 use Rattle.clocks.specs.declared.region.Verdict.the-variants.{Unknown}
-use Rattle.clocks.specs.Laws.Cells.{Proper, NoGap, both, true-false, none, one, or-true, to-map, most}
+use Rattle.clocks.specs.Laws.Cells.{both, true-false, none, one, or-true, to-map, most}
+use Rattle.clocks.specs.Cells.{Proper, NoGap}
 use Rattle.clocks.specs.Laws.Cells.{closed-rank, close-no-gap, delay-no-gap}
 
 -- ---- Ranks

@@ -20,7 +20,8 @@ use Rattle.states.specs.Placing.{placed}
 use Rattle.regions.specs.Call.{Outcome, refused, cut, whole, fromAnswer, outcomeOf}
 use Rattle.regions.specs.View.{numberIn}
 use Rattle.states.specs.StateCall.{isNotTaken, ownState, numbered, placedAmong, placedFrom, placeOf}
-use Rattle.regions.specs.Laws.Call.{AllRegions, false-true, whole-model}
+use Rattle.regions.specs.Laws.Call.{false-true, whole-model}
+use Rattle.regions.specs.Order.{AllRegions}
 use Rattle.regions.specs.Laws.Numbers.{refused-number}
 use Rattle.states.specs.Laws.States.{same-placed}
 use Rattle.regions.specs.Laws.View.{has-number, number-listed}

@@ -31,8 +31,10 @@ use Rattle.regions.specs.Laws.Call.{false-true, kept, gathers}
 use Rattle.regions.specs.Explore.{both-true}
 use Rattle.regions.specs.View.{labelOf}
 use Rattle.regions.specs.Laws.Graph.{delay-some, edge-some}
-use Rattle.clocks.specs.Laws.Cells.{Proper, none, from-map, to-map, closed-proper, close-no-gap, both}
-use Rattle.regions.specs.Laws.Formed.{Small, Formed, boundOf, cellsBy, Read, within, cells-formed, cells-again}
+use Rattle.clocks.specs.Laws.Cells.{none, from-map, to-map, closed-proper, close-no-gap, both}
+use Rattle.clocks.specs.Cells.{Proper}
+use Rattle.regions.specs.Laws.Formed.{boundOf, cellsBy, Read, within, cells-formed, cells-again}
+use Rattle.regions.specs.Formed.{Small, Formed}
 use Rattle.regions.specs.Laws.Formed.{model-small}
 use Rattle.states.specs.Laws.Fractions.{reset-close, stretched, close-stretched, value-stretched, value-proper}
 use Rattle.states.specs.Laws.Fractions.{value-below, ticked, value-ticked, tick-leaves, tick-stays, tick-arrives}

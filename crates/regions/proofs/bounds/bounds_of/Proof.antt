@@ -2,7 +2,7 @@
 use Prim.Native.Nat.{ℕ, max}
 use mathlib.Core.Path.{_∙_, ap₂}
 use mathlib.Core.List.{[], _∷_}
-use Rattle.table.specs.Reads.{counts-read}
+use Rattle.table.specs.Laws.Reads.{counts-read}
 use Rattle.regions.specs.Graph.{boundsOf, largestConstant}
 use borrow.Author.Needs.{needs}
 use Rattle.regions.proofs.bounds.bounds_of.Statement.{statement}

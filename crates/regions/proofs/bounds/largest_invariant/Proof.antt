@@ -5,7 +5,8 @@ use native.Mathlib.Omega.{arith}
 use lib.ListN.{drop}
 use Rattle.table.specs.Model.{Model}
 use Rattle.table.specs.Access.{noInvariant}
-use Rattle.table.specs.Reads.{Reads, counts-read}
+use Rattle.table.specs.Reads.{Reads}
+use Rattle.table.specs.Laws.Reads.{counts-read}
 use Rattle.regions.specs.Graph.{largestOf, constantOf}
 use Rattle.regions.specs.Laws.Every.{largest-on, largest-over}
 use Rattle.table.specs.declared.model.Invariant.{Invariant}

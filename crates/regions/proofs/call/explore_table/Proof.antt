@@ -1,7 +1,7 @@
 -- `explore_table` meets its contract. Assumes nothing.
 use mathlib.Core.Path.{sym, _∙_, ap}
 use lib.ListN.{length}
-use Rattle.table.specs.Reads.{refusal-of, reads-of}
+use Rattle.table.specs.Laws.Reads.{refusal-of, reads-of}
 use Rattle.regions.specs.Call.{roomFor, fromAnswer, outcomeOf, graphOf, entriesAfter}
 use borrow.Author.Needs.{needs}
 use Rattle.regions.proofs.call.explore_table.Statement.{statement}

@@ -6,11 +6,12 @@ use borrow.Author.Tests.{not-true, not-false}
 use Rattle.regions.specs.Graph.{meets, nextOf, first}
 use Rattle.regions.specs.Worklist.{explore}
 use Rattle.regions.specs.Explore.{sameRegion, listed, foundOf}
-use Rattle.regions.specs.Call.{roomFor, graphOf, entriesAfter, breaks, is-cut, is-whole}
+use Rattle.regions.specs.Call.{roomFor, graphOf, entriesAfter}
+use Rattle.regions.specs.Laws.Answered.{breaks, is-cut, is-whole}
 use Rattle.clocks.specs.declared.region.Bounds.{Bounds}
 use Rattle.clocks.specs.declared.region.Region.{Region}
 use lib.ListN.{length}
-use Rattle.table.specs.Reads.{counts-read}
+use Rattle.table.specs.Laws.Reads.{counts-read}
 use borrow.Author.Needs.{needs}
 use Rattle.regions.proofs.call.graph_from.Statement.{statement}
 use Rattle.regions.proofs.call.graph_from.Tie as tie

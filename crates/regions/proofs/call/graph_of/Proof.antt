@@ -3,7 +3,7 @@ use native.Mathlib.Omega.{arith}
 use Prim.Native.Nat.{ℕ}
 use mathlib.Core.Path.{_≡_, refl, _∙_}
 use lib.ListN.{length, replicate, length-replicate}
-use Rattle.table.specs.Reads.{counts-read, sound-read}
+use Rattle.table.specs.Laws.Reads.{counts-read, sound-read}
 use Rattle.regions.specs.Edges.{Placed, placed-filled}
 use borrow.Author.Needs.{needs}
 use Rattle.regions.proofs.call.graph_of.Statement.{statement}

@@ -9,7 +9,8 @@ use lib.ListN.{length, take}
 use Rattle.table.specs.Model.{Model}
 use Rattle.table.specs.Access.{noEdge}
 use Rattle.table.specs.Reading.{readTable, accepted}
-use Rattle.table.specs.Reads.{ReadsEdge, edgeOf, counts-read}
+use Rattle.table.specs.Reads.{ReadsEdge, edgeOf}
+use Rattle.table.specs.Laws.Reads.{counts-read}
 use Rattle.regions.specs.Edges.{Placed, Linked, linkFrom, link-here, link-other, link-past}
 use Rattle.regions.specs.Limits.{Limited}
 use Rattle.regions.specs.Marks.{Tested, Visited, tested-none, visited-none}

@@ -4,7 +4,8 @@ use native.Mathlib.Omega.{arith}
 use mathlib.Core.Path.{_≡_, refl, sym, _∙_, ap, subst}
 use lib.ListN.{length, take, replicate, length-replicate}
 use Rattle.table.specs.Model.{Model}
-use Rattle.table.specs.Reads.{Reads, counts-read, sound-read}
+use Rattle.table.specs.Reads.{Reads}
+use Rattle.table.specs.Laws.Reads.{counts-read, sound-read}
 use Rattle.regions.specs.Limits.{noLimit, Holding, holding-none, holding-next, holding-all, stored-as-long, limitPlace, limitIn, limitBy}
 use borrow.Author.Needs.{needs}
 use Rattle.regions.proofs.limits.list_limits.Statement.{statement}

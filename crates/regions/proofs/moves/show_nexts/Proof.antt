@@ -10,7 +10,7 @@ use Rattle.regions.specs.Limits.{Limited, stored-as-long}
 use Rattle.regions.specs.Explore.{listed}
 use Rattle.regions.specs.View.{delayNumbers}
 use Rattle.regions.specs.Shown.{followers}
-use Rattle.regions.specs.Laws.Call.{AllRegions}
+use Rattle.regions.specs.Order.{AllRegions}
 use Rattle.regions.specs.Laws.Filling.{each-on}
 use borrow.Author.Needs.{needs}
 use Rattle.regions.proofs.moves.show_nexts.Statement.{statement}

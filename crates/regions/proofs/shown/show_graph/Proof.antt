@@ -2,7 +2,7 @@
 use mathlib.Core.Path.{_≡_, refl, sym, _∙_, ap, subst}
 use lib.ListN.{length}
 use Rattle.table.specs.Model.{Model}
-use Rattle.table.specs.Reads.{refusal-of, reads-of}
+use Rattle.table.specs.Laws.Reads.{refusal-of, reads-of}
 use Rattle.regions.specs.Call.{roomFor, fromAnswer, outcomeOf, graphOf, entriesAfter}
 use Rattle.regions.specs.Shown.{Shown}
 use Rattle.regions.specs.Laws.Shown.{not-refused}

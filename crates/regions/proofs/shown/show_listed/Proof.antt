@@ -2,7 +2,7 @@
 use native.Mathlib.Omega.{arith}
 use lib.ListN.{length}
 use mathlib.Core.Path.{_≡_, _∙_}
-use Rattle.table.specs.Reads.{counts-read, sound-read}
+use Rattle.table.specs.Laws.Reads.{counts-read, sound-read}
 use Rattle.regions.specs.Laws.Shown.{shown}
 use borrow.Author.Needs.{needs}
 use Rattle.regions.proofs.shown.show_listed.Statement.{statement}

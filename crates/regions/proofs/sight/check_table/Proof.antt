@@ -1,6 +1,6 @@
 -- `check_table` meets its contract. Assumes nothing.
 use mathlib.Core.Path.{sym, _∙_, ap}
-use Rattle.table.specs.Reads.{reads-of, refusal-of, counts-read}
+use Rattle.table.specs.Laws.Reads.{reads-of, refusal-of, counts-read}
 use Rattle.regions.specs.Sight.{checkedOf}
 use Rattle.regions.specs.declared.sight.Checked.the-variants as C
 use borrow.Author.Needs.{needs}

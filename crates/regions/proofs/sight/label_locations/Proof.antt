@@ -1,7 +1,7 @@
 -- A refused table leaves the slice; one that is read gives its labels.
 use mathlib.Core.Path.{sym, _∙_, ap}
 use Rattle.table.specs.Reading.{Answer}
-use Rattle.table.specs.Reads.{refusal-of, reads-of}
+use Rattle.table.specs.Laws.Reads.{refusal-of, reads-of}
 use Rattle.regions.specs.Sight.{labelsAfter}
 use borrow.Author.Needs.{needs}
 use Rattle.regions.proofs.sight.label_locations.Statement.{statement}

@@ -4,7 +4,7 @@ use mathlib.Core.Path.{refl, sym, _∙_}
 use mathlib.Core.Bool.{false≢true}
 use lib.ListN.{length}
 use borrow.Author.Tests.{not-true, not-false}
-use Rattle.table.specs.Reads.{counts-read}
+use Rattle.table.specs.Laws.Reads.{counts-read}
 use Rattle.regions.specs.Laws.Sight.{seen-parts, sight-unseen, sight-seen}
 use borrow.Author.Needs.{needs}
 use Rattle.regions.proofs.sight.see_read.Statement.{statement}

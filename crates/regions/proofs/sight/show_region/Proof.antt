@@ -2,7 +2,7 @@
 use mathlib.Core.Path.{_≡_, refl, sym, _∙_, ap, subst}
 use lib.ListN.{length}
 use Rattle.table.specs.Model.{Model}
-use Rattle.table.specs.Reads.{refusal-of, reads-of}
+use Rattle.table.specs.Laws.Reads.{refusal-of, reads-of}
 use Rattle.regions.specs.Sight.{isSeen, sightOf, Sighted}
 use Rattle.regions.specs.Laws.Sight.{refused-not}
 use borrow.Author.Needs.{needs}

@@ -1,6 +1,6 @@
 -- `bounds_read` meets its contract. Assumes nothing.
 use mathlib.Core.Path.{sym, _∙_, ap}
-use Rattle.table.specs.Reads.{reads-of, refusal-of}
+use Rattle.table.specs.Laws.Reads.{reads-of, refusal-of}
 use Rattle.regions.specs.View.{boundsRead}
 use borrow.Author.Needs.{needs}
 use Rattle.regions.proofs.view.bounds_read.Statement.{statement}

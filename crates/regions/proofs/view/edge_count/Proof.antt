@@ -1,6 +1,6 @@
 -- `edge_count` meets its contract. Assumes nothing.
 use mathlib.Core.Path.{sym, _∙_, ap}
-use Rattle.table.specs.Reads.{reads-of, refusal-of, counts-read}
+use Rattle.table.specs.Laws.Reads.{reads-of, refusal-of, counts-read}
 use Rattle.regions.specs.View.{edgesRead}
 use borrow.Author.Needs.{needs}
 use Rattle.regions.proofs.view.edge_count.Statement.{statement}

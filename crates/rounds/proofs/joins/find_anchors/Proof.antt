@@ -4,7 +4,8 @@ use native.Mathlib.Omega.{arith}
 use mathlib.Core.Path.{_≡_, refl, _∙_, subst}
 use lib.ListN.{length}
 use Rattle.bisimulation.specs.Finite.{related}
-use Rattle.bisimulation.specs.Laws.Leads.{Reps, lead-low}
+use Rattle.bisimulation.specs.Laws.Leads.{lead-low}
+use Rattle.bisimulation.specs.Below.{Reps}
 use Rattle.rounds.specs.Rounds.{Anchored}
 use Rattle.rounds.specs.Laws.Joins.{anchored-none}
 use borrow.Author.Needs.{needs}

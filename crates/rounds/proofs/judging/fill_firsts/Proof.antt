@@ -4,7 +4,7 @@ use native.Mathlib.Omega.{arith}
 use mathlib.Core.Path.{_≡_, refl, sym, _∙_, ap}
 use lib.ListN.{length, length-set}
 use Rattle.bisimulation.specs.Finite.{related}
-use Rattle.bisimulation.specs.Laws.Leads.{Reps}
+use Rattle.bisimulation.specs.Below.{Reps}
 use Rattle.rounds.specs.Firsts.{Indexed}
 use Rattle.rounds.specs.Laws.Rounds.{reps-none, reps-on}
 use borrow.Author.Needs.{needs}

@@ -5,7 +5,8 @@ use mathlib.Core.Path.{sym, _∙_, ap}
 use borrow.Author.Tests.{not-true, not-false}
 use Rattle.bisimulation.specs.Structures.{Closed}
 use Rattle.bisimulation.specs.Finite.{Finite, structure, related}
-use Rattle.bisimulation.specs.Laws.Leads.{Reps, lead-low}
+use Rattle.bisimulation.specs.Laws.Leads.{lead-low}
+use Rattle.bisimulation.specs.Below.{Reps}
 use Rattle.comparison.specs.Held.{Held}
 use Rattle.rounds.specs.Rounds.{judgedWith}
 use Rattle.rounds.specs.Laws.Rounds.{reps-below, lead-alike, JudgedTo, judged-on, judged-all, judged-not}

@@ -1,6 +1,6 @@
 -- `fresh` meets its contract. Assumes nothing.
 use native.Mathlib.Omega.{arith}
-use Rattle.states.specs.Spots.{fresh-zero, fresh-above, fresh-first, fresh-second, fresh-third, fresh-one}
+use Rattle.states.specs.Laws.Spots.{fresh-zero, fresh-above, fresh-first, fresh-second, fresh-third, fresh-one}
 use Rattle.states.proofs.states.fresh.Statement.{statement}
 use Rattle.states.proofs.states.fresh.Tie as tie
 

@@ -1,7 +1,7 @@
 -- `place_state` meets its contract. Assumes nothing.
 use mathlib.Core.Path.{sym, _∙_, ap}
 use lib.ListN.{length}
-use Rattle.table.specs.Reads.{refusal-of, reads-of}
+use Rattle.table.specs.Laws.Reads.{refusal-of, reads-of}
 use Rattle.regions.specs.Call.{roomFor, fromAnswer, outcomeOf, entriesAfter}
 use Rattle.states.specs.StateCall.{asked, placedFrom, placeOf}
 use borrow.Author.Needs.{needs}

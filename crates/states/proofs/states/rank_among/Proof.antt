@@ -1,6 +1,6 @@
 -- `rank_among` meets its contract. Assumes nothing.
 use native.Mathlib.Omega.{arith}
-use Rattle.states.specs.Spots.{rank-four}
+use Rattle.states.specs.Laws.Spots.{rank-four}
 use borrow.Author.Needs.{needs}
 use Rattle.states.proofs.states.rank_among.Statement.{statement}
 use Rattle.states.proofs.states.rank_among.Tie as tie

@@ -1,5 +1,5 @@
 -- `region_at` meets its contract. Assumes nothing.
-use Rattle.states.specs.Spots.{region-is}
+use Rattle.states.specs.Laws.Spots.{region-is}
 use borrow.Author.Needs.{needs}
 use Rattle.states.proofs.states.region_at.Statement.{statement}
 use Rattle.states.proofs.states.region_at.Tie as tie

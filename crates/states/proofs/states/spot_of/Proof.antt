@@ -2,7 +2,7 @@
 use native.Mathlib.Omega.{arith}
 use Prim.Native.Nat.{ℕ, _*_, _<_, _≤_}
 use mathlib.Core.Path.{refl, subst}
-use Rattle.states.specs.Spots.{spot-over, spot-beyond, spot-at, whole-small, product-small}
+use Rattle.states.specs.Laws.Spots.{spot-over, spot-beyond, spot-at, whole-small, product-small}
 use borrow.Author.Needs.{needs}
 use Rattle.states.proofs.states.spot_of.Statement.{statement}
 use Rattle.states.proofs.states.spot_of.Tie as tie

@@ -5,7 +5,7 @@ use native.Mathlib.Omega.{arith}
 use Rattle.table.specs.Records.{bodyAt, branchOf}
 use Rattle.table.specs.Access.{branchAt, itemFrom, noBody}
 use Rattle.table.specs.Laws.Walks.{item-part}
-use Rattle.table.specs.Reads.{branch-read}
+use Rattle.table.specs.Laws.Reads.{branch-read}
 use borrow.Author.Needs.{needs}
 use Rattle.table.proofs.access.branch_at.Statement.{statement}
 use Rattle.table.proofs.access.branch_at.Tie as tie

@@ -2,7 +2,7 @@
 use mathlib.Core.Path.{_∙_, ap}
 use native.Mathlib.Omega.{arith}
 use Rattle.table.specs.Access.{passed, branchCount}
-use Rattle.table.specs.Reads.{branch-count-read}
+use Rattle.table.specs.Laws.Reads.{branch-count-read}
 use borrow.Author.Needs.{needs}
 use Rattle.table.proofs.access.branch_count.Statement.{statement}
 use Rattle.table.proofs.access.branch_count.Tie as tie

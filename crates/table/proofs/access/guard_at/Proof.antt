@@ -5,7 +5,7 @@ use native.Mathlib.Omega.{arith}
 use Rattle.table.specs.Records.{bodyAt, guardOf}
 use Rattle.table.specs.Access.{guardAt, itemFrom, noBody}
 use Rattle.table.specs.Laws.Walks.{item-part}
-use Rattle.table.specs.Reads.{guard-read}
+use Rattle.table.specs.Laws.Reads.{guard-read}
 use borrow.Author.Needs.{needs}
 use Rattle.table.proofs.access.guard_at.Statement.{statement}
 use Rattle.table.proofs.access.guard_at.Tie as tie

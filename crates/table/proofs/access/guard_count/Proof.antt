@@ -2,7 +2,7 @@
 use mathlib.Core.Path.{_∙_, ap}
 use native.Mathlib.Omega.{arith}
 use Rattle.table.specs.Access.{passed, guardCount}
-use Rattle.table.specs.Reads.{guard-count-read}
+use Rattle.table.specs.Laws.Reads.{guard-count-read}
 use borrow.Author.Needs.{needs}
 use Rattle.table.proofs.access.guard_count.Statement.{statement}
 use Rattle.table.proofs.access.guard_count.Tie as tie

@@ -4,7 +4,7 @@ use native.Mathlib.Omega.{arith}
 use Rattle.table.specs.Records.{invariantOf}
 use Rattle.table.specs.Access.{invariantAt}
 use Rattle.table.specs.Laws.Walks.{item-part}
-use Rattle.table.specs.Reads.{invariant-read}
+use Rattle.table.specs.Laws.Reads.{invariant-read}
 use borrow.Author.Needs.{needs}
 use Rattle.table.proofs.access.invariant_at.Statement.{statement}
 use Rattle.table.proofs.access.invariant_at.Tie as tie

@@ -3,7 +3,7 @@ use mathlib.Core.Path.{_∙_, ap}
 use native.Mathlib.Omega.{arith}
 use Rattle.table.specs.Access.{labelAt}
 use Rattle.table.specs.Laws.Walks.{item-part}
-use Rattle.table.specs.Reads.{label-read}
+use Rattle.table.specs.Laws.Reads.{label-read}
 use Rattle.table.specs.declared.records.Body.{Body}
 use borrow.Author.Needs.{needs}
 use Rattle.table.proofs.access.label_at.Statement.{statement}

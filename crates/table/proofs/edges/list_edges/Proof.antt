@@ -8,8 +8,8 @@ use lib.ListN.{set}
 use borrow.Author.Tests.{eqb-true, eqb-false, not-true, not-false}
 use Rattle.table.specs.Laws.Walks.{inside}
 use Rattle.table.specs.Access.{readEdge}
-use Rattle.table.specs.Reads.{edge-listed}
-use Rattle.table.specs.Edges.{Comes, comes-start, comes-on, list-over}
+use Rattle.table.specs.Laws.Reads.{edge-listed}
+use Rattle.table.specs.Laws.Edges.{Comes, comes-start, comes-on, list-over}
 use borrow.Author.Needs.{needs}
 use Rattle.table.proofs.edges.list_edges.Statement.{statement}
 use Rattle.table.proofs.edges.list_edges.Tie as tie

@@ -7,8 +7,8 @@ use native.Mathlib.Omega.{arith}
 use lib.ListN.{length}
 use lib.Seq.{sets}
 use borrow.Author.Tests.{eqb-true, eqb-false, not-true, not-false}
-use Rattle.table.specs.Reads.{places-read}
-use Rattle.table.specs.Edges.{Comes, comes-start, comes-on, places-over}
+use Rattle.table.specs.Laws.Reads.{places-read}
+use Rattle.table.specs.Laws.Edges.{Comes, comes-start, comes-on, places-over}
 use borrow.Author.Needs.{needs}
 use Rattle.table.proofs.edges.list_places.Statement.{statement}
 use Rattle.table.proofs.edges.list_places.Tie as tie

@@ -18,7 +18,7 @@ use Rattle.regions.specs.Passed.{Model, readTable, accepted, Region}
 use Rattle.regions.specs.Call.{whole, outcomeOf}
 use Rattle.regions.specs.Graph.{Reached}
 use Rattle.states.specs.States.{State, IsState}
-use Rattle.states.specs.RegionTheorem.{regionIn}
+use Rattle.states.specs.Alike.{regionIn}
 use Rattle.bisimulation.specs.Structures.{Closed}
 use Rattle.bisimulation.specs.Bisimulations.{Bisimulation}
 use Rattle.bisimulation.specs.Finite.{structure, related, rounds, lastBlocks, accepts}

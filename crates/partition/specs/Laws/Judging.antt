@@ -16,8 +16,9 @@ use Rattle.bisimulation.specs.Finite.{structure, related, accepts}
 use Rattle.partition.specs.Instances.{graph}
 use Rattle.partition.specs.Calls.{judgedOf, judgeOf}
 use Rattle.partition.specs.Promises.{Judged}
-use Rattle.partition.specs.Demand3.{accepted-iff}
-use Rattle.partition.specs.Laws.Calls.{Accepted, on-accepted, from-accepted, judged-well}
+use Rattle.partition.specs.Laws.Bisimilar.{accepted-iff}
+use Rattle.partition.specs.Laws.Calls.{on-accepted, from-accepted, judged-well}
+use Rattle.partition.specs.Calls.{Accepted}
 use Rattle.partition.specs.declared.calls.Judgement.{Judgement}
 use Rattle.partition.specs.declared.calls.Judgement.the-variants as J
 

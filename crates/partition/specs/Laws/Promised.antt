@@ -3,7 +3,7 @@
 -- partition call, both block lists then hold document 01's block numbers, and those of the two regions differ exactly when no
 -- probabilistic time-abstracting bisimulation over all states of the model relates a and b. Whenever that list finds none for the
 -- pair call on these two regions, the call says in exactly the same cases that they share no block." When the list finds none for
--- either call is said in Laws.Success (`reduce-succeeds`, `pair-succeeds`).
+-- either call is said in Success (`reduce-exactly`, `pair-exactly`).
 use Prim.Native.Nat.{ℕ, _<_}
 use mathlib.Core.Path.{_≡_, refl, sym, _∙_, ap, subst}
 use mathlib.Core.Bool.{Bool, true, false, false≢true}
@@ -16,29 +16,20 @@ use Rattle.regions.specs.Passed.{Model}
 use Rattle.regions.specs.Call.{roomFor}
 use Rattle.regions.specs.Graph.{Reached}
 use Rattle.states.specs.States.{State, IsState}
-use Rattle.states.specs.RegionTheorem.{regionIn}
+use Rattle.states.specs.Alike.{regionIn}
 use Rattle.bisimulation.specs.Bisimulations.{Bisimulation}
 use Rattle.bisimulation.specs.Finite.{related, lastBlocks}
 use Rattle.partition.specs.Instances.{graph, states, placeIn, blockIn}
-use Rattle.partition.specs.Demand3.{related-states, parted-states}
-use Rattle.partition.specs.Calls.{numberedIn, listAfter}
+use Rattle.partition.specs.Laws.Bisimilar.{related-states, parted-states}
+use Rattle.partition.specs.Calls.{Accepted, Inside, regionNumber, numberedIn, listAfter}
 use Rattle.partition.specs.Promises.{Reduced, Paired}
 use Rattle.partition.specs.Laws.Instances.{call-placed}
 use Rattle.partition.specs.Laws.Success.{one-model, calls-agree}
-use Rattle.partition.specs.Laws.Calls.{Accepted, numbered-at, reduce-accepted, reduce-lists, pair-accepted, pair-shares}
+use Rattle.partition.specs.Laws.Calls.{numbered-at, reduce-accepted, reduce-lists, pair-accepted, pair-shares, pair-lists}
 use Rattle.partition.specs.declared.calls.Reduction.{Reduction}
 use Rattle.partition.specs.declared.calls.Reduction.the-variants.{Blocks}
 use Rattle.partition.specs.declared.calls.Pairing.{Pairing}
 use Rattle.partition.specs.declared.calls.Pairing.the-variants.{Shared}
-
--- A state of the model of an accepted table that lies in a region of its graph.
-pub record Inside {table : List ℕ} {cap : ℕ} (a : Accepted table cap) (s : State) : Type 0 where
-  pub state : IsState (a .model) s
-  pub reached : Reached (a .model) (regionIn (a .model) s)
-
--- The number of its region.
-abbrev pub regionNumber : {table : List ℕ} {cap : ℕ} → Accepted table cap → State → ℕ
-regionNumber a s = placeIn (a .model) (a .found) s
 
 -- ---- The partition call
 
@@ -143,6 +134,14 @@ module _ (table entries first second : List ℕ) (r s : ℕ) (answer : Pairing) 
   pub paired-model : Accepted table (roomFor (length entries))
   paired-model = pair-accepted table (roomFor (length entries)) first second r s shares (sym (promised .answer-is) ∙ succeeded)
 
+  -- Both lists hold the blocks of the last round in their first N numbers, and are unchanged after them.
+  pub pair-lists-hold : (first′ ≡ numberedIn first (paired-model .model) (paired-model .found))
+      × (second′ ≡ numberedIn second (paired-model .model) (paired-model .found))
+  unfolding paired-model
+  pair-lists-hold =
+      let after = pair-lists table (roomFor (length entries)) first second r s shares (sym (promised .answer-is) ∙ succeeded) in
+      (promised .first-is ∙ after first, promised .second-is ∙ after second)
+
   module _ (a b : State) (ia : Inside paired-model a) (ib : Inside paired-model b) (at-a : r ≡ regionNumber paired-model a)
       (at-b : s ≡ regionNumber paired-model b) where
     -- The call says whether the two have one block number.
@@ -188,16 +187,16 @@ module _ (table entries first second : List ℕ) (answer : Reduction) (entries�
   model = accepted-model table entries first second answer entries′ first′ second′ promised n blocks rounds succeeded
 
   agree : (list list′ : List ℕ) → list′ ≡ listAfter table (roomFor (length entries)) first second list
-      → r < length (model .found) → s < length (model .found) → (shares ≡ true) ↔ (getD list′ r 0 ≡ getD list′ s 0)
+      → (shares ≡ true) ↔ (getD list′ r 0 ≡ getD list′ s 0)
   unfolding model accepted-model
-  agree list list′ is hr hs =
+  agree list list′ is =
       subst (λ (l : List ℕ). (shares ≡ true) ↔ (getD l r 0 ≡ getD l s 0)) (sym is)
       (calls-agree table (roomFor (length entries)) (roomFor (length entries₂)) first second first₂ second₂ n blocks rounds
-      (sym (promised .answer-is) ∙ succeeded) r s shares (sym (promised₂ .answer-is) ∙ succeeded₂) list hr hs)
+      (sym (promised .answer-is) ∙ succeeded) r s shares (sym (promised₂ .answer-is) ∙ succeeded₂) list)
 
   -- They share a block by the pair call exactly where the partition call's numbers are equal, in either list.
-  pub pair-as-first : r < length (model .found) → s < length (model .found) → (shares ≡ true) ↔ (getD first′ r 0 ≡ getD first′ s 0)
+  pub pair-as-first : (shares ≡ true) ↔ (getD first′ r 0 ≡ getD first′ s 0)
   pair-as-first = agree first first′ (promised .first-is)
 
-  pub pair-as-second : r < length (model .found) → s < length (model .found) → (shares ≡ true) ↔ (getD second′ r 0 ≡ getD second′ s 0)
+  pub pair-as-second : (shares ≡ true) ↔ (getD second′ r 0 ≡ getD second′ s 0)
   pair-as-second = agree second second′ (promised .second-is)

@@ -1,7 +1,7 @@
 -- The region theorem (demand 2; document 01, "Regions"): "A region leads by some delay or edge to another exactly when each of its states,
--- with fractions as clock values, does so under the automaton's own rules" (`each-state-delays`, `each-state-steps`). So a reader may
+-- with fractions as clock values, does so under the automaton's own rules" (`each-state-leads`; `each-state-delays` and `each-state-steps` say more). So a reader may
 -- think of states, and the program goes by regions. Every well-formed region has a state (`formed-state`), and the region of a state
--- stands in one entry of the graph, or in none (`one-entry`, `no-entry`). The definitions that the statements need come first.
+-- stands in one entry of the graph, or in none (`one-entry`, `no-entry`).
 use Prim.Native.Nat.{ℕ, _≤_, _<_}
 use mathlib.Core.Logic.{_↔_}
 use mathlib.Core.Path.{_≡_, refl, sym, _∙_, subst}
@@ -27,34 +27,14 @@ use Rattle.regions.specs.Laws.Bounds.{all-at}
 use Rattle.regions.specs.Laws.Bytes.{entry-whole}
 use Rattle.regions.specs.Laws.Call.{whole-model}
 use Rattle.states.specs.Laws.Filled.{stateIn, filled-location, filled-denominator, filled-placed, filled-values}
-use Rattle.regions.specs.Laws.Formed.{Formed, read-formed}
+use Rattle.regions.specs.Laws.Formed.{read-formed}
+use Rattle.regions.specs.Formed.{Formed}
 use Rattle.regions.specs.Laws.Locations.{reached-location}
 use Rattle.regions.specs.Laws.Worklist.{place, member}
 use Rattle.clocks.specs.declared.region.Bounds.{Bounds}
 use Rattle.clocks.specs.declared.region.Region.{Region}
-
--- ---- Definitions
-
--- The region that a state of the model lies in.
-abbrev pub regionIn : Model → State → Region
-regionIn m s = placed (boundsOf m) s
-
--- The state delays into the region: to some state in it.
-abbrev pub DelaysInto : Bounds → Model → State → Region → Type 0
-DelaysInto bounds m s q = (t : State) × IsState m t × Delays m s t × (placed bounds t ≡ q)
-
--- A region leads as a state does: by some delay to the same regions, and by each branch of each edge to the same region.
-pub record LeadsAlike (m : Model) (r : Region) (s : State) : Type 0 where
-  pub delays : (q : Region) → DelaysTo m r q ↔ DelaysInto (boundsOf m) m s q
-  pub edges : (e : Edge) → List·Memᴰ e (m .edges) → (b : Branch) → List·Memᴰ b (e .branches) → (q : Region)
-      → ((available m e r ≡ true) × (landing (boundsOf m) r b ≡ q)) ↔ ((enabled m e s ≡ true) × (regionIn m (target s b) ≡ q))
-
--- The same for any bounds of the clocks.
-pub record LeadsAlikeAny (bounds : Bounds) (m : Model) (r : Region) (s : State) : Type 0 where
-  pub delays : (q : Region) → Waits bounds m r q ↔ DelaysInto bounds m s q
-  pub edges : (e : Edge) → List·Memᴰ e (m .edges) → (b : Branch) → List·Memᴰ b (e .branches) → (q : Region)
-      → (((fits bounds e r && lands bounds (m .invariants) e r) ≡ true) × (landing bounds r b ≡ q))
-      ↔ ((enabled m e s ≡ true) × (placed bounds (target s b) ≡ q))
+use Rattle.states.specs.Alike.{regionIn, DelaysInto, LeadsAlike, LeadsAlikeAny}
+use Rattle.states.specs.Alike.{RegionLeads, region-delays, region-steps, StateLeads, state-delays, state-steps}
 
 -- ---- For any bounds that are at least each constant that their clocks are compared with
 
@@ -169,6 +149,24 @@ module _ (table : List ℕ) (m : Model) (read : readTable table ≡ accepted m) 
     λ f. let s = formed-state r formed h in region-theorem (s .0) (s .1) r (s .2) .edges e n b k q .1 (f (s .0) (s .1) (s .2)),
   )
 
+  -- Both in one: it leads by some delay or edge to a region exactly when each state in it does.
+  region-state : (s : State) → IsState m s → (r : Region) → regionIn m s ≡ r → (q : Region) → RegionLeads m r q → StateLeads m s q
+  region-state s is r e q (region-delays d) = state-delays (region-theorem s is r e .delays q .0 d)
+  region-state s is r e q (region-steps x n b k a l) =
+      let t = region-theorem s is r e .edges x n b k q .0 (a, l) in state-steps x n b k (t .0) (t .1)
+
+  state-region : (s : State) → IsState m s → (r : Region) → regionIn m s ≡ r → (q : Region) → StateLeads m s q → RegionLeads m r q
+  state-region s is r e q (state-delays d) = region-delays (region-theorem s is r e .delays q .1 d)
+  state-region s is r e q (state-steps x n b k a l) =
+      let t = region-theorem s is r e .edges x n b k q .1 (a, l) in region-steps x n b k (t .0) (t .1)
+
+  pub formed-leads : (r : Region) → Formed (boundsOf m) r → r .location < m .locations → (q : Region)
+      → RegionLeads m r q ↔ ((s : State) → IsState m s → regionIn m s ≡ r → StateLeads m s q)
+  formed-leads r formed h q = (
+    λ d s is e. region-state s is r e q d,
+    λ f. let s = formed-state r formed h in state-region (s .0) (s .1) r (s .2) q (f (s .0) (s .1) (s .2)),
+  )
+
   -- Every region of the graph is such.
   pub reached-state : (r : Region) → Reached m r → (s : State) × IsState m s × (regionIn m s ≡ r)
   reached-state r h = formed-state r (read-formed table m read r h .1) (reached-location table m read r h)
@@ -182,6 +180,11 @@ module _ (table : List ℕ) (m : Model) (read : readTable table ≡ accepted m) 
       → ((available m e r ≡ true) × (landing (boundsOf m) r b ≡ q))
       ↔ ((s : State) → IsState m s → regionIn m s ≡ r → (enabled m e s ≡ true) × (regionIn m (target s b) ≡ q))
   each-state-steps r h = formed-steps r (read-formed table m read r h .1) (reached-location table m read r h)
+
+  -- Demand 2's words: a region of the graph leads by some delay or edge to another exactly when each of its states does.
+  pub each-state-leads : (r : Region) → Reached m r → (q : Region)
+      → RegionLeads m r q ↔ ((s : State) → IsState m s → regionIn m s ≡ r → StateLeads m s q)
+  each-state-leads r h = formed-leads r (read-formed table m read r h .1) (reached-location table m read r h)
 
   -- The region of a state is such too.
   pub state-formed : (s : State) → IsState m s → Formed (boundsOf m) (regionIn m s)

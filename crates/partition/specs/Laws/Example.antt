@@ -17,17 +17,17 @@ use Rattle.regions.specs.View.{numberIn, labelOf}
 use Rattle.regions.specs.Call.{whole, outcomeOf}
 use Rattle.states.specs.States.{State, IsState}
 use Rattle.states.specs.Placing.{stateCell, placed}
-use Rattle.states.specs.RegionTheorem.{regionIn}
+use Rattle.states.specs.Alike.{regionIn}
 use Rattle.bisimulation.specs.Bisimulations.{Bisimulation}
 use Rattle.bisimulation.specs.Finite.{related, blocks, rounds, lastBlocks, blockCount}
 use Rattle.partition.specs.Calls.{reduceOf, pairOf}
-use Rattle.partition.specs.Laws.Calls.{Accepted}
+use Rattle.partition.specs.Calls.{Accepted}
 use Rattle.partition.specs.Laws.Success.{reduce-succeeds, pair-succeeds}
 use Rattle.partition.specs.declared.calls.Reduction.the-variants.{Blocks}
 use Rattle.partition.specs.declared.calls.Pairing.the-variants.{Shared}
 use Rattle.partition.specs.Instances.{delaysFrom, graph, states, placeIn}
 use Rattle.partition.specs.Laws.Instances.{call-placed}
-use Rattle.partition.specs.Demand3.{related-states, states-differ-any}
+use Rattle.partition.specs.Laws.Bisimilar.{related-states, states-differ-any}
 
 -- ---- The regions and their blocks
 
