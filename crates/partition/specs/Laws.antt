@@ -7,8 +7,10 @@
 --   View       what is said of one item of the graph
 --   Numbers    the numbers that the calls refuse with, none of which is 0
 --   Left       what a partition call that succeeded left, for the layer above
+--   LeftBlocks  the numbers that it left are document 01's blocks
 --   Bisimilar  two states have different block numbers exactly when no bisimulation over all states relates them
 --   ZeroDelay  whether a state that breaks its invariant has a zero delay does not matter to that
+--   LeftStates  the numbers that it left say which states some bisimulation relates
 --   Promised   demand 3, entire, from what the partition call and the pair call promise
 --   Judging    a proposal is accepted exactly when it is a bisimulation, from what the judging call promises
 --   Example    demand 3 at document 01's printed model: two states related, two parted
@@ -20,8 +22,10 @@ pub mod Success
 pub mod View
 pub mod Numbers
 pub mod Left
+pub mod LeftBlocks
 pub mod Bisimilar
 pub mod ZeroDelay
+pub mod LeftStates
 pub mod Promised
 pub mod Judging
 pub mod Example

@@ -10,7 +10,7 @@ use lib.ListN.{length, getD}
 use Rattle.table.specs.Model.{Model}
 use Rattle.table.specs.Reading.{accepted, readTable}
 use Rattle.regions.specs.Graph.{boundsOf, meets, nextOf, first, Reached}
-use Rattle.regions.specs.Worklist.{Different, Taken}
+use Rattle.regions.specs.Worklist.{Different, Taken, Further}
 use Rattle.regions.specs.Explore.{sameRegion}
 use Rattle.clocks.specs.declared.region.Region.{Region}
 
@@ -56,3 +56,7 @@ ListedAfter m i l = Taken sameRegion (nextOf m) (first m) i l
 -- All that is listed was taken.
 abbrev pub InOrder : Model → List Region → Type 0
 InOrder m found = ListedAfter m (length found) found
+
+-- A list that begins a longer one with these numbers: the first regions.
+abbrev pub FirstInOrder : Model → List Region → Type 0
+FirstInOrder m found = Further sameRegion (nextOf m) (first m) found

@@ -1,13 +1,5 @@
-// The exported calls.
-ghost use Prim.Native.Nat.{_≤_};
-ghost use mathlib.Core.Path.{_≡_};
-ghost use lib.ListN.{length};
-ghost use Rattle.regions.specs.Call.{roomFor, outcomeOf, graphOf, entriesAfter};
-ghost use Rattle.listing.specs.Printed.{refusalLine};
-ghost use Rattle.listing.specs.Parts.{textOf, partOf, fitted, bufferAfter, mostBytes};
-ghost use Rattle.terkwabu.specs.Answers.{ofGraph, ofPlacing, ofReduction, ofPairing, ofJudgement, ofPart};
-ghost use Rattle.partition.specs.Calls.{reduceOf, listAfter, pairOf, pairListAfter, judgeOf};
-ghost use Rattle.states.specs.StateCall.{asked, placeOf};
+// The exported calls. The contract of each is its record in specs/Calls.antt.
+ghost use Rattle.terkwabu.specs.Calls.{GraphCall, PlaceCall, ReduceCall, PairCall, JudgeCall, PartCall, LineCall};
 use crate::answer::Answer;
 use crate::answer::of_graph;
 use crate::answer::of_judgement;
@@ -19,9 +11,7 @@ use crate::answer::of_reduction;
 // The graph call: explores the regions of a table into the lent entries. The value is N.
 #[no_mangle]
 pub extern "C" fn terkwabu_graph(table: &[u8], entries: &mut [u8]) -> Answer
-    ensures { λ r. ⌜ r ≡ ofGraph (graphOf (outcomeOf (now (table .entry)) (roomFor (length (now (entries .entry)))))) ⌝ }
-    ensures { λ r. ⌜ now (entries .exit)
-        ≡ entriesAfter (now (entries .entry)) (outcomeOf (now (table .entry)) (roomFor (length (now (entries .entry))))) ⌝ }
+    ensures { λ r. ⌜ GraphCall (now (table .entry)) (now (entries .entry)) r (now (entries .exit)) ⌝ }
 {
     of_graph(regions::explore_table(table, entries))
 }
@@ -39,10 +29,7 @@ pub extern "C" fn terkwabu_place(
     v3: u64,
     denominator: u64,
 ) -> Answer
-    ensures { λ r. ⌜ r ≡ ofPlacing (placeOf (now (table .entry)) (roomFor (length (now (entries .entry))))
-        (asked location v0 v1 v2 v3 denominator)) ⌝ }
-    ensures { λ r. ⌜ now (entries .exit)
-        ≡ entriesAfter (now (entries .entry)) (outcomeOf (now (table .entry)) (roomFor (length (now (entries .entry))))) ⌝ }
+    ensures { λ r. ⌜ PlaceCall (now (table .entry)) (now (entries .entry)) location v0 v1 v2 v3 denominator r (now (entries .exit)) ⌝ }
 {
     of_placing(states::place_state(table, entries, location, v0, v1, v2, v3, denominator))
 }
@@ -55,16 +42,8 @@ pub extern "C" fn terkwabu_reduce(
     first: &mut [u64],
     second: &mut [u64],
 ) -> Answer
-    ensures { λ r. ⌜ r ≡ ofReduction (reduceOf (now (table .entry)) (roomFor (length (now (entries .entry))))
-        (now (first .entry)) (now (second .entry))) ⌝ }
-    ensures { λ r. ⌜ now (entries .exit)
-        ≡ entriesAfter (now (entries .entry)) (outcomeOf (now (table .entry)) (roomFor (length (now (entries .entry))))) ⌝ }
-    ensures { λ r. ⌜ now (first .exit)
-        ≡ listAfter (now (table .entry)) (roomFor (length (now (entries .entry))))
-        (now (first .entry)) (now (second .entry)) (now (first .entry)) ⌝ }
-    ensures { λ r. ⌜ now (second .exit)
-        ≡ listAfter (now (table .entry)) (roomFor (length (now (entries .entry))))
-        (now (first .entry)) (now (second .entry)) (now (second .entry)) ⌝ }
+    ensures { λ r. ⌜ ReduceCall (now (table .entry)) (now (entries .entry)) (now (first .entry)) (now (second .entry)) r
+        (now (entries .exit)) (now (first .exit)) (now (second .exit)) ⌝ }
 {
     of_reduction(partition::reduce_table(table, entries, first, second))
 }
@@ -79,16 +58,8 @@ pub extern "C" fn terkwabu_pair(
     r: u64,
     s: u64,
 ) -> Answer
-    ensures { λ a. ⌜ a ≡ ofPairing (pairOf (now (table .entry)) (roomFor (length (now (entries .entry))))
-        (now (first .entry)) (now (second .entry)) r s) ⌝ }
-    ensures { λ a. ⌜ now (entries .exit)
-        ≡ entriesAfter (now (entries .entry)) (outcomeOf (now (table .entry)) (roomFor (length (now (entries .entry))))) ⌝ }
-    ensures { λ a. ⌜ now (first .exit)
-        ≡ pairListAfter (now (table .entry)) (roomFor (length (now (entries .entry))))
-        (now (first .entry)) (now (second .entry)) (now (first .entry)) r s ⌝ }
-    ensures { λ a. ⌜ now (second .exit)
-        ≡ pairListAfter (now (table .entry)) (roomFor (length (now (entries .entry))))
-        (now (first .entry)) (now (second .entry)) (now (second .entry)) r s ⌝ }
+    ensures { λ a. ⌜ PairCall (now (table .entry)) (now (entries .entry)) (now (first .entry)) (now (second .entry)) r s a
+        (now (entries .exit)) (now (first .exit)) (now (second .exit)) ⌝ }
 {
     of_pairing(partition::pair_table(table, entries, first, second, r, s))
 }
@@ -96,9 +67,7 @@ pub extern "C" fn terkwabu_pair(
 // The judging call: is a proposed partition a bisimulation? The value is 1 where it is accepted.
 #[no_mangle]
 pub extern "C" fn terkwabu_judge(table: &[u8], entries: &mut [u8], proposal: &[u64]) -> Answer
-    ensures { λ r. ⌜ r ≡ ofJudgement (judgeOf (now (table .entry)) (roomFor (length (now (entries .entry)))) (now (proposal .entry))) ⌝ }
-    ensures { λ r. ⌜ now (entries .exit)
-        ≡ entriesAfter (now (entries .entry)) (outcomeOf (now (table .entry)) (roomFor (length (now (entries .entry))))) ⌝ }
+    ensures { λ r. ⌜ JudgeCall (now (table .entry)) (now (entries .entry)) (now (proposal .entry)) r (now (entries .exit)) ⌝ }
 {
     of_judgement(partition::judge_table(table, entries, proposal))
 }
@@ -116,13 +85,8 @@ pub extern "C" fn terkwabu_part(
     part: u64,
     buffer: &mut [u8],
 ) -> Answer
-    ensures { λ r. ⌜ r ≡ ofPart (partOf (now (table .entry)) (now (entries .entry)) (now (list .entry)) regions blocks rounds part
-        (length (now (buffer .entry)))) ⌝ }
-    ensures { λ r. ⌜ now (buffer .exit)
-        ≡ bufferAfter (textOf (now (table .entry)) (now (entries .entry)) (now (list .entry)) regions blocks rounds part)
-        (now (buffer .entry)) ⌝ }
-    ensures { λ r. ⌜ length (textOf (now (table .entry)) (now (entries .entry)) (now (list .entry)) regions blocks rounds part)
-        ≤ mostBytes ⌝ }
+    ensures { λ r. ⌜ PartCall (now (table .entry)) (now (entries .entry)) (now (list .entry)) regions blocks rounds part
+        (now (buffer .entry)) r (now (buffer .exit)) ⌝ }
 {
     of_part(listing::write_part(table, entries, list, regions, blocks, rounds, part, buffer))
 }
@@ -130,9 +94,7 @@ pub extern "C" fn terkwabu_part(
 // The line of a refusal, in a buffer. The value is how many bytes were written; where it is 0, the place is how many the line takes.
 #[no_mangle]
 pub extern "C" fn terkwabu_refusal_line(number: u64, place: u64, buffer: &mut [u8]) -> Answer
-    ensures { λ r. ⌜ r ≡ ofPart (fitted (refusalLine number place) (length (now (buffer .entry)))) ⌝ }
-    ensures { λ r. ⌜ now (buffer .exit) ≡ bufferAfter (refusalLine number place) (now (buffer .entry)) ⌝ }
-    ensures { λ r. ⌜ length (refusalLine number place) ≤ 128 ⌝ }
+    ensures { λ r. ⌜ LineCall number place (now (buffer .entry)) r (now (buffer .exit)) ⌝ }
 {
     of_part(listing::refusal_line(number, place, buffer))
 }

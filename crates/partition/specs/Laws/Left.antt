@@ -8,7 +8,7 @@ use mathlib.Core.Path.{_≡_, refl, sym, _∙_, ap, ap₂}
 use mathlib.Core.Bool.{Bool, true, false, cond}
 use mathlib.Core.List.{List, _++_, List·Memᴰ}
 use lib.ListN.{length, getD, take, drop, length-append}
-use lib.Seq.{take-at}
+use lib.Seq.{take-at, getD-take}
 use borrow.Author.Tests.{eq-eqb}
 use Rattle.regions.specs.Passed.{Model, Answer, refusal, accepted, readTable, Region}
 use Rattle.regions.specs.Call.{Outcome, refused, cut, whole, fromAnswer, roomFor, outcomeOf, entriesAfter}
@@ -113,11 +113,15 @@ module _ {table : List ℕ} {cap n b k : ℕ} {entries list : List ℕ} (left : 
   abbrev F : Finite
   F = graph (left .from .model) (left .from .found)
 
-  closed : Closed (structure F)
-  closed = closed-in table cap (left .from)
+  pub left-closed : Closed (structure F)
+  left-closed = closed-in table cap (left .from)
 
   number-is : (x : ℕ) → getD (take n list) x 0 ≡ getD (lastBlocks F) x 0
   number-is x = ap (λ (l : List ℕ). getD l x 0) (left .list-holds)
+
+  -- Number x of the list is that of region x.
+  pub left-at : (x : ℕ) → x < n → getD list x 0 ≡ getD (lastBlocks F) x 0
+  left-at x h = sym (getD-take n list x 0 h) ∙ number-is x
 
   -- As many numbers as there are regions.
   pub left-length : length (take n list) ≡ n
@@ -127,33 +131,33 @@ module _ {table : List ℕ} {cap n b k : ℕ} {entries list : List ℕ} (left : 
   pub left-taken : (c : ℕ) → c < b → (x : ℕ) × (x < n) × (getD (take n list) x 0 ≡ c)
   unfolding lastBlocks
   left-taken c h =
-      let (x, hx, leads, is) = blocks-taken F closed (rounds F) c (omega (arith, h, left .blocks-are)) in
+      let (x, hx, leads, is) = blocks-taken F left-closed (rounds F) c (omega (arith, h, left .blocks-are)) in
       (x, omega (arith, hx, left .regions-are), number-is x ∙ is)
 
   -- every region is of one of them,
   pub left-below : (x : ℕ) → x < n → getD (take n list) x 0 < b
   unfolding lastBlocks
   left-below x h =
-      omega (arith, number-is x, blocks-range F closed (rounds F) x (omega (arith, h, left .regions-are)), left .blocks-are)
+      omega (arith, number-is x, blocks-range F left-closed (rounds F) x (omega (arith, h, left .regions-are)), left .blocks-are)
 
   -- and what a region leads to is a region: by delay,
   pub left-delays : (x y : ℕ) → x < n → List·Memᴰ y (F .delays x) → y < n
-  left-delays x y h m = omega (arith, closed .delays {x = x} {y = y} (omega (arith, h, left .regions-are)) m, left .regions-are)
+  left-delays x y h m = omega (arith, left-closed .delays {x = x} {y = y} (omega (arith, h, left .regions-are)) m, left .regions-are)
 
   -- and by a branch of an available edge.
   pub left-targets : (x e : ℕ) → x < n → e < F .edges → F .available x e ≡ true → (t : Branch ℕ)
       → List·Memᴰ t (F .branches x e) → t .target < n
   left-targets x e h k can t m =
-      omega (arith, closed .targets {x = x} {e = e} (omega (arith, h, left .regions-are)) (k, can) t m, left .regions-are)
+      omega (arith, left-closed .targets {x = x} {e = e} (omega (arith, h, left .regions-are)) (k, can) t m, left .regions-are)
 
   -- The denominator of an available edge is not 0.
   pub left-wholes : (x e : ℕ) → x < n → e < F .edges → F .available x e ≡ true → 0 < F .whole x e
-  left-wholes x e h k can = closed .positive {x = x} {e = e} (omega (arith, h, left .regions-are)) (k, can)
+  left-wholes x e h k can = left-closed .positive {x = x} {e = e} (omega (arith, h, left .regions-are)) (k, can)
 
   -- Regions of one block bear one label.
   pub left-labels : (x y : ℕ) → x < n → y < n → getD (take n list) x 0 ≡ getD (take n list) y 0 → F .label x ≡ F .label y
   left-labels x y hx hy e =
-      last-bisimulation F closed .labels {x = x} {y = y} (omega (arith, hx, left .regions-are)) (omega (arith, hy, left .regions-are))
+      last-bisimulation F left-closed .labels {x = x} {y = y} (omega (arith, hx, left .regions-are)) (omega (arith, hy, left .regions-are))
       (eq-eqb (getD (lastBlocks F) x 0) (getD (lastBlocks F) y 0) (sym (number-is x) ∙ e ∙ number-is y))
 
 -- ---- A call that refused

@@ -18,14 +18,14 @@ use Rattle.regions.specs.Graph.{Reached}
 use Rattle.states.specs.States.{State, IsState}
 use Rattle.states.specs.Alike.{regionIn}
 use Rattle.bisimulation.specs.Bisimulations.{Bisimulation}
-use Rattle.bisimulation.specs.Finite.{related, lastBlocks}
+use Rattle.bisimulation.specs.Finite.{related, lastBlocks, blockCount, rounds as lastRound}
 use Rattle.partition.specs.Instances.{graph, states, placeIn, blockIn}
 use Rattle.partition.specs.Laws.Bisimilar.{related-states, parted-states}
-use Rattle.partition.specs.Calls.{Accepted, Inside, regionNumber, numberedIn, listAfter}
+use Rattle.partition.specs.Calls.{Accepted, Inside, regionNumber, numberedIn, listAfter, pairOf}
 use Rattle.partition.specs.Promises.{Reduced, Paired}
 use Rattle.partition.specs.Laws.Instances.{call-placed}
-use Rattle.partition.specs.Laws.Success.{one-model, calls-agree}
-use Rattle.partition.specs.Laws.Calls.{numbered-at, reduce-accepted, reduce-lists, pair-accepted, pair-shares, pair-lists}
+use Rattle.partition.specs.Laws.Success.{one-model, reduce-succeeds, reduce-holds, calls-agree}
+use Rattle.partition.specs.Laws.Calls.{numbered-at, reduce-accepted, reduce-lists, pair-accepted, pair-shares, pair-long, pair-lists}
 use Rattle.partition.specs.declared.calls.Reduction.{Reduction}
 use Rattle.partition.specs.declared.calls.Reduction.the-variants.{Blocks}
 use Rattle.partition.specs.declared.calls.Pairing.{Pairing}
@@ -141,6 +141,23 @@ module _ (table entries first second : List ℕ) (r s : ℕ) (answer : Pairing) 
   pair-lists-hold =
       let after = pair-lists table (roomFor (length entries)) first second r s shares (sym (promised .answer-is) ∙ succeeded) in
       (promised .first-is ∙ after first, promised .second-is ∙ after second)
+
+  -- So it leaves what the partition call leaves on the same.
+  pub pair-leaves : Reduced table entries first second
+      (Blocks (length (paired-model .found))
+      (blockCount (graph (paired-model .model) (paired-model .found)) (lastRound (graph (paired-model .model) (paired-model .found))))
+      (lastRound (graph (paired-model .model) (paired-model .found)))) entries′ first′ second′
+  unfolding paired-model
+  pair-leaves =
+      let cap : ℕ = roomFor (length entries) in
+      let is : pairOf table cap first second r s ≡ Shared shares = sym (promised .answer-is) ∙ succeeded in
+      let (one, two) = pair-long table cap first second r s shares is in
+      record {
+        answer-is = sym (reduce-succeeds table cap paired-model first second one two);
+        entries-are = promised .entries-are;
+        first-is = pair-lists-hold .0 ∙ sym (reduce-holds table cap paired-model first second one two first);
+        second-is = pair-lists-hold .1 ∙ sym (reduce-holds table cap paired-model first second one two second);
+      }
 
   module _ (a b : State) (ia : Inside paired-model a) (ib : Inside paired-model b) (at-a : r ≡ regionNumber paired-model a)
       (at-b : s ≡ regionNumber paired-model b) where

@@ -4,7 +4,7 @@ use Prim.Native.Nat.{ℕ, _≤_, _<_}
 use native.Mathlib.Omega.{arith}
 use mathlib.Core.Logic.{_⊎_, inl, inr, _↔_}
 use mathlib.Core.Path.{_≡_, refl, sym, _∙_, ap, ap₂, subst}
-use mathlib.Core.Bool.{Bool, true, false, _||_}
+use mathlib.Core.Bool.{Bool, true, false, cond, _||_}
 use mathlib.Core.List.{List, []}
 use lib.Dec.{eqb, leb, ltb}
 use lib.ListN.{length, getD}
@@ -14,7 +14,7 @@ use Rattle.regions.specs.Call.{Outcome, refused, cut, whole, outcomeOf}
 use Rattle.regions.specs.Laws.Call.{more-room}
 use Rattle.bisimulation.specs.Finite.{related, lastBlocks, rounds, blockCount}
 use Rattle.partition.specs.Instances.{graph}
-use Rattle.partition.specs.Calls.{isShort, isAskedPast, blocksOf, sharedOf, reduceOf, listAfter, pairOf}
+use Rattle.partition.specs.Calls.{isShort, isAskedPast, blocksOf, numberedIn, sharedOf, reduceOf, listAfter, pairOf}
 use Rattle.partition.specs.Laws.Calls.{on-accepted, blocks-are, numbered-at, reduce-accepted, reduce-long, reduce-lists}
 use Rattle.partition.specs.Laws.Calls.{pair-accepted, pair-shares, pair-long, pair-below}
 use Rattle.partition.specs.Calls.{Accepted}
@@ -57,6 +57,13 @@ module _ (table : List ℕ) (cap : ℕ) (a : Accepted table cap) (first second :
       (rounds (graph (a .model) (a .found)))
   unfolding reduceOf
   reduce-succeeds = on-accepted B.Refused (blocksOf first second) table cap a ∙ rw not-short refl
+
+  -- Both lists then hold the blocks.
+  pub reduce-holds : (list : List ℕ) → listAfter table cap first second list ≡ numberedIn list (a .model) (a .found)
+  unfolding listAfter
+  reduce-holds list =
+      on-accepted (λ number place. list) (λ m found. cond (isShort (length found) first second) list (numberedIn list m found)) table cap a
+      ∙ rw not-short refl
 
   -- The pair call, where moreover both numbers are those of regions.
   pub pair-succeeds : (r s : ℕ) → r < length (a .found) → s < length (a .found)

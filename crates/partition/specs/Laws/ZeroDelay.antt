@@ -4,7 +4,7 @@
 use Prim.Native.Nat.{ℕ, _<_}
 use mathlib.Core.Path.{_≡_, sym, _∙_, ap, subst}
 use mathlib.Core.List.{List, List·Memᴰ}
-use mathlib.Core.Logic.{_↔_, _⊎_, inl, inr, ⊎-elim}
+use mathlib.Core.Logic.{_↔_, _⊎_, inl, inr, ⊎-elim, ∥∥₁-map}
 use lib.ListN.{length, getD}
 use Rattle.regions.specs.Passed.{Model, readTable, accepted, Region}
 use Rattle.regions.specs.Call.{whole, outcomeOf}
@@ -47,7 +47,9 @@ module _ (table : List ℕ) (m : Model) (read : readTable table ≡ accepted m) 
         transitive = respect .transitive;
         labels = respect .labels;
         delays = λ {x = s} {y = t} {x′ = s′} is it e d.
-            ⊎-elim (λ (w : Delays m s s′). later s t s′ (respect .delays {x = s} {y = t} {x′ = s′} is it e (d .0, w)))
+            ⊎-elim
+            (λ (w : Delays m s s′).
+            ∥∥₁-map (respect .delays {x = s} {y = t} {x′ = s′} is it e (d .0, w)) (λ q. (q .0, (q .1 .0, inl (q .1 .1)), q .2)))
             (λ (z : Same s s′).
             ∣ (s′, (d .0, inr (same-trans (is .denominator) (same-sym e) z)), same-refl s′) ∣₁) (d .1);
         edges = respect .edges;
@@ -55,10 +57,6 @@ module _ (table : List ℕ) (m : Model) (read : readTable table ≡ accepted m) 
         wholes = respect .wholes;
         branches = respect .branches;
       }
-    where
-      later : (s t s′ : State) → ∥ ((t′ : State) × (IsState m t′ × Delays m t t′) × Same s′ t′) ∥₁
-          → ∥ ((t′ : State) × (IsState m t′ × (Delays m t t′ ⊎ Same t t′)) × Same s′ t′) ∥₁
-      later s t s′ ∣ (t′, (it′, w), e) ∣₁ = ∣ (t′, (it′, inl w), e) ∣₁
 
 module _ (table : List ℕ) (cap : ℕ) (found : List Region) (out : outcomeOf table cap ≡ whole found)
     (m : Model) (read : readTable table ≡ accepted m) where
@@ -80,17 +78,13 @@ module _ (table : List ℕ) (cap : ℕ) (found : List Region) (out : outcomeOf t
             (λ (e : Same s t).
             subst (λ (p : ℕ). List·Memᴰ p (graph m found .delays (placeIn m found s))) (placing .same {x = s} {y = t} is (d .0) e)
             (self s h)) (d .1);
-        back = λ {x = s} is h p n. earlier s p (placing .back {x = s} is h p n);
+        back = λ {x = s} is h p n. ∥∥₁-map (placing .back {x = s} is h p n) (λ q. (q .0, (q .1 .0, inl (q .1 .1)), q .2));
         edges-forth = λ {x} {e} is h a. placing .edges-forth {x = x} {e = e} is h a;
         edges-back = λ {x} {e} is h k a. placing .edges-back {x = x} {e = e} is h k a;
         actions = λ {x} {e} is h a. placing .actions {x = x} {e = e} is h a;
         wholes = λ {x} {e} is h a. placing .wholes {x = x} {e = e} is h a;
         branches = λ {x} {e} is h a. placing .branches {x = x} {e = e} is h a;
       }
-    where
-      earlier : (s : State) (p : ℕ) → ∥ ((t : State) × (IsState m t × Delays m s t) × (placeIn m found t ≡ p)) ∥₁
-          → ∥ ((t : State) × (IsState m t × (Delays m s t ⊎ Same s t)) × (placeIn m found t ≡ p)) ∥₁
-      earlier s p ∣ (t, (it, w), e) ∣₁ = ∣ (t, (it, inl w), e) ∣₁
 
   -- Two states in regions of the graph.
   module _ (a b : State) (ia : IsState m a) (ib : IsState m b)

@@ -11,8 +11,7 @@ use Rattle.table.specs.Reading.{accepted, readTable}
 use Rattle.regions.specs.Graph.{nextOf, first}
 use Rattle.regions.specs.Explore.{sameRegion}
 use Rattle.regions.specs.Call.{cut, whole, outcomeOf}
-use Rattle.regions.specs.Worklist.{Further}
-use Rattle.regions.specs.Order.{ListedAfter, InOrder}
+use Rattle.regions.specs.Order.{ListedAfter, InOrder, FirstInOrder}
 use Rattle.regions.specs.Laws.Worklist.{taken-one, taken-all-one, taken-from, complete-taken, full-taken}
 use Rattle.regions.specs.Laws.Call.{whole-explored, cut-explored}
 use Rattle.clocks.specs.declared.region.Region.{Region}
@@ -36,5 +35,5 @@ module _ (table : List ℕ) (cap : ℕ) (found : List Region) (m : Model) (read 
   whole-order e = complete-taken sameRegion (nextOf m) cap (first m) found (whole-explored table cap found m e read)
 
   -- 15 is answered: they begin a longer list with document 01's numbers.
-  pub cut-order : outcomeOf table cap ≡ cut found → Further sameRegion (nextOf m) (first m) found
+  pub cut-order : outcomeOf table cap ≡ cut found → FirstInOrder m found
   cut-order e = full-taken sameRegion (nextOf m) cap (first m) found (cut-explored table cap found m e read)

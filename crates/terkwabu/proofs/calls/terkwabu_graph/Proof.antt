@@ -1,4 +1,4 @@
--- `terkwabu_graph` meets its contract. Assumes nothing.
+-- The answer is that of `explore_table` in numbers, and the entries are left as it leaves them.
 use mathlib.Core.Path.{_∙_, ap}
 use Rattle.terkwabu.specs.Answers.{ofGraph}
 use borrow.Author.Needs.{needs}
@@ -17,7 +17,10 @@ same-length c = search needs
 returns : tie.Need-returns
 returns c =
     let explore-table = c .before .before .before .explore-table in
-    (c .of-graph .ensures ∙ ap ofGraph explore-table.ensures.0, explore-table.ensures.1)
+    record {
+      answer-is = c .of-graph .ensures ∙ ap ofGraph (explore-table .ensures .0);
+      entries-are = explore-table .ensures .1;
+    }
 
 pub terkwabu-graph-spec : {M : Type 1} → statement M
 terkwabu-graph-spec =

@@ -1,4 +1,4 @@
--- `terkwabu_judge` meets its contract. Assumes nothing.
+-- The answer is that of `judge_table` in numbers, and the entries are left as it leaves them.
 use mathlib.Core.Path.{_∙_, ap}
 use Rattle.terkwabu.specs.Answers.{ofJudgement}
 use borrow.Author.Needs.{needs}
@@ -15,7 +15,9 @@ same-length : tie.Need-same-length
 same-length c = search needs
 
 returns : tie.Need-returns
-returns c = let done = (c .before .before .before .judge-table) .ensures in ((c .of-judgement .ensures) ∙ ap ofJudgement (done .answer-is), done .entries-are)
+returns c =
+    let done = c .before .before .before .judge-table .ensures in
+    record { answer-is = c .of-judgement .ensures ∙ ap ofJudgement (done .answer-is); entries-are = done .entries-are }
 
 pub terkwabu-judge-spec : {M : Type 1} → statement M
 terkwabu-judge-spec =

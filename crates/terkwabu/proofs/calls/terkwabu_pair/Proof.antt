@@ -1,4 +1,4 @@
--- `terkwabu_pair` meets its contract. Assumes nothing.
+-- The answer is that of `pair_table` in numbers, and entries and lists are left as it leaves them.
 use mathlib.Core.Path.{_∙_, ap}
 use Rattle.terkwabu.specs.Answers.{ofPairing}
 use borrow.Author.Needs.{needs}
@@ -21,7 +21,14 @@ same-length-3 : tie.Need-same-length-3
 same-length-3 c = search needs
 
 returns : tie.Need-returns
-returns c = let done = (c .before .before .before .before .before .before .before .pair-table) .ensures in ((c .of-pairing .ensures) ∙ ap ofPairing (done .answer-is), (done .entries-are, (done .first-is, done .second-is)))
+returns c =
+    let done = c .before .before .before .before .before .before .before .pair-table .ensures in
+    record {
+      answer-is = c .of-pairing .ensures ∙ ap ofPairing (done .answer-is);
+      entries-are = done .entries-are;
+      first-is = done .first-is;
+      second-is = done .second-is;
+    }
 
 pub terkwabu-pair-spec : {M : Type 1} → statement M
 terkwabu-pair-spec =

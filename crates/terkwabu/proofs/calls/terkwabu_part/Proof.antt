@@ -1,4 +1,4 @@
--- `terkwabu_part` meets its contract. Assumes nothing.
+-- The answer is that of `write_part` in numbers, and the buffer is left as it leaves it.
 use mathlib.Core.Path.{_∙_, ap}
 use Rattle.terkwabu.specs.Answers.{ofPart}
 use borrow.Author.Needs.{needs}
@@ -16,8 +16,12 @@ same-length c = search needs
 
 returns : tie.Need-returns
 returns c =
-    let write-part = c .before .before .before .write-part in
-    (c .of-part .ensures ∙ ap ofPart (write-part .ensures .answer-is), (write-part .ensures .buffer-is, write-part .ensures .enough))
+    let done = c .before .before .before .write-part .ensures in
+    record {
+      answer-is = c .of-part .ensures ∙ ap ofPart (done .answer-is);
+      buffer-is = done .buffer-is;
+      enough = done .enough;
+    }
 
 pub terkwabu-part-spec : {M : Type 1} → statement M
 terkwabu-part-spec = tie.close (tie.spec write-part-requires of-part-requires same-length returns)

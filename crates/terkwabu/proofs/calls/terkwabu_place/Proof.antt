@@ -1,4 +1,4 @@
--- `terkwabu_place` meets its contract. Assumes nothing.
+-- The answer is that of `place_state` in numbers, and the entries are left as it leaves them.
 use mathlib.Core.Path.{_∙_, ap}
 use Rattle.terkwabu.specs.Answers.{ofPlacing}
 use borrow.Author.Needs.{needs}
@@ -17,7 +17,10 @@ same-length c = search needs
 returns : tie.Need-returns
 returns c =
     let place-state = c .before .before .before .place-state in
-    (c .of-placing .ensures ∙ ap ofPlacing place-state.ensures.0, place-state.ensures.1)
+    record {
+      answer-is = c .of-placing .ensures ∙ ap ofPlacing (place-state .ensures .0);
+      entries-are = place-state .ensures .1;
+    }
 
 pub terkwabu-place-spec : {M : Type 1} → statement M
 terkwabu-place-spec =

@@ -1,4 +1,4 @@
--- `terkwabu_reduce` meets its contract. Assumes nothing.
+-- The answer is that of `reduce_table` in numbers, and entries and lists are left as it leaves them.
 use mathlib.Core.Path.{_∙_, ap}
 use Rattle.terkwabu.specs.Answers.{ofReduction}
 use borrow.Author.Needs.{needs}
@@ -21,7 +21,14 @@ same-length-3 : tie.Need-same-length-3
 same-length-3 c = search needs
 
 returns : tie.Need-returns
-returns c = let done = (c .before .before .before .before .before .before .before .reduce-table) .ensures in ((c .of-reduction .ensures) ∙ ap ofReduction (done .answer-is), (done .entries-are, (done .first-is, done .second-is)))
+returns c =
+    let done = c .before .before .before .before .before .before .before .reduce-table .ensures in
+    record {
+      answer-is = c .of-reduction .ensures ∙ ap ofReduction (done .answer-is);
+      entries-are = done .entries-are;
+      first-is = done .first-is;
+      second-is = done .second-is;
+    }
 
 pub terkwabu-reduce-spec : {M : Type 1} → statement M
 terkwabu-reduce-spec =

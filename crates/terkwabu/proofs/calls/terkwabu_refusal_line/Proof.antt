@@ -1,4 +1,4 @@
--- `terkwabu_refusal_line` meets its contract. Assumes nothing.
+-- The answer is that of `refusal_line` in numbers, and the buffer is left as it leaves it.
 use mathlib.Core.Path.{_∙_, ap}
 use Rattle.terkwabu.specs.Answers.{ofPart}
 use borrow.Author.Needs.{needs}
@@ -16,8 +16,12 @@ same-length c = search needs
 
 returns : tie.Need-returns
 returns c =
-    let refusal-line = c .before .before .before .refusal-line in
-    (c .of-part .ensures ∙ ap ofPart (refusal-line .ensures .0), refusal-line .ensures .1)
+    let done = c .before .before .before .refusal-line .ensures in
+    record {
+      answer-is = c .of-part .ensures ∙ ap ofPart (done .0);
+      buffer-is = done .1;
+      enough = done .2;
+    }
 
 pub terkwabu-refusal-line-spec : {M : Type 1} → statement M
 terkwabu-refusal-line-spec =

@@ -1,0 +1,65 @@
+-- Demand 1: "The answer to every call, on any bytes and numbers, is the first refusal that document 01's list finds or, where it finds
+-- none, the result; every lent table then holds what document 01 says." One closed statement, and its theorem.
+--
+-- A premise `GraphCall table entries answer entries′` (Calls) says that the exported function was called with this table and these entries,
+-- answered `answer`, and left `entries′`: it is the function's contract, for all inputs. What is said then is in Rows: the list row by row.
+-- `resultAs` and `refusedAs` (Answers) are the five numbers answered. (`terkwabu_version` takes nothing; its contract is its number.)
+use Prim.Native.Nat.{ℕ}
+use mathlib.Core.Path.{_≡_}
+use mathlib.Core.List.{List}
+use Rattle.states.specs.StateCall.{asked}
+use Rattle.listing.specs.Printed.{refusalLine}
+use Rattle.listing.specs.Parts.{textOf}
+use Rattle.terkwabu.specs.Calls.{GraphCall, PlaceCall, ReduceCall, PairCall, JudgeCall, PartCall, LineCall}
+use Rattle.terkwabu.specs.Rows.{ByList, GraphRows, PlaceRows, ReduceRows, PairRows, JudgeRows, Given, PartRows}
+use Rattle.terkwabu.specs.Laws.Rows.{graph-rows, place-rows, reduce-rows, pair-rows, judge-rows, part-rows, line-rows}
+use Rattle.terkwabu.specs.declared.answer.Answer.{Answer}
+
+pub record Demand1 : Type 0 where
+  -- The graph call.
+  pub graph : (table entries : List ℕ) (answer : Answer) (entries′ : List ℕ)
+      → GraphCall table entries answer entries′
+      → ByList table entries entries′ Unit GraphRows answer
+
+  -- The state call, for a location, four values and a denominator.
+  pub place : (table entries : List ℕ) (location v₀ v₁ v₂ v₃ denominator : ℕ) (answer : Answer) (entries′ : List ℕ)
+      → PlaceCall table entries location v₀ v₁ v₂ v₃ denominator answer entries′
+      → ByList table entries entries′ Unit (PlaceRows (asked location v₀ v₁ v₂ v₃ denominator)) answer
+
+  -- The partition call.
+  pub reduce : (table entries first second : List ℕ) (answer : Answer) (entries′ first′ second′ : List ℕ)
+      → ReduceCall table entries first second answer entries′ first′ second′
+      → ByList table entries entries′ ((first′ ≡ first) × (second′ ≡ second)) (ReduceRows first second first′ second′) answer
+
+  -- The pair call, for two numbers.
+  pub pair : (table entries first second : List ℕ) (r s : ℕ) (answer : Answer) (entries′ first′ second′ : List ℕ)
+      → PairCall table entries first second r s answer entries′ first′ second′
+      → ByList table entries entries′ ((first′ ≡ first) × (second′ ≡ second)) (PairRows first second r s first′ second′) answer
+
+  -- The judging call.
+  pub judge : (table entries proposal : List ℕ) (answer : Answer) (entries′ : List ℕ)
+      → JudgeCall table entries proposal answer entries′
+      → ByList table entries entries′ Unit (JudgeRows proposal) answer
+
+  -- The part call, for whatever entries, list and counts are lent.
+  pub part : (table entries list : List ℕ) (regions blocks rounds part : ℕ) (buffer : List ℕ) (answer : Answer) (buffer′ : List ℕ)
+      → PartCall table entries list regions blocks rounds part buffer answer buffer′
+      → PartRows table (textOf table entries list regions blocks rounds part) buffer buffer′ answer
+
+  -- The line of a refusal.
+  pub line : (number place : ℕ) (buffer : List ℕ) (answer : Answer) (buffer′ : List ℕ)
+      → LineCall number place buffer answer buffer′
+      → Given (refusalLine number place) buffer buffer′ answer
+
+-- It holds.
+pub demand-1 : Demand1
+demand-1 =
+    record {
+      graph = graph-rows;
+      place = place-rows;
+      reduce = reduce-rows;
+      pair = pair-rows;
+      judge = judge-rows;
+      part = part-rows;
+      line = line-rows;
+    }

@@ -1,0 +1,207 @@
+-- Demand 2: "The region graph, the blocks, their numbers, the count of rounds and the listing are those defined in document 01 after Chen,
+-- Han and Katoen (source document 002). A region leads by some delay or edge to another exactly when each of its states, with fractions as
+-- clock values, does so under the automaton's own rules. A proposed partition is accepted exactly when it is a probabilistic
+-- time-abstracting bisimulation of the region graph." One closed statement, and its theorem. Document 01 stands as document 02 amends it.
+--
+-- A premise `ReduceCall table entries first second answer entries′ first′ second′` (Calls) says that the exported function was called with
+-- these, answered `answer`, and left entries′, first′ and second′: it is the function's contract, for all inputs. `answer .refusal ≡ 0`
+-- says that it refused nothing. The words of document 01 are in
+--   Graph, Order (of regions)         what a region leads to, what is reached; all regions, and their order
+--   States, Alike (of states)         states with fractions as clock values, and how they move; the region of a state
+--   Bisimulations (of bisimulation)   bisimulations and rounds
+--   Instances (of partition)          `graph m found`: the region graph as a structure, where found are the regions by number
+--   Printed (of listing)              the listing
+use Prim.Native.Nat.{ℕ, suc, _≤_, _<_}
+use mathlib.Core.Path.{_≡_, sym, ap₂, subst}
+use mathlib.Core.Logic.{_↔_, _⊎_}
+use mathlib.Core.List.{List}
+use lib.ListN.{length, getD, take}
+use Rattle.regions.specs.Passed.{Model, readTable, accepted, Region}
+use Rattle.regions.specs.Graph.{Reached}
+use Rattle.regions.specs.Order.{AllRegions, InOrder}
+use Rattle.regions.specs.Call.{roomFor}
+use Rattle.regions.specs.Explore.{listed}
+use Rattle.regions.specs.Laws.Order.{order-one}
+use Rattle.states.specs.States.{State, IsState}
+use Rattle.states.specs.Alike.{regionIn, RegionLeads, StateLeads}
+use Rattle.states.specs.Laws.RegionTheorem.{reached-state, each-state-leads}
+use Rattle.bisimulation.specs.Structures.{Structure}
+use Rattle.bisimulation.specs.Bisimulations.{Bisimulation, Round}
+use Rattle.bisimulation.specs.Finite.{structure}
+use Rattle.partition.specs.Instances.{graph}
+use Rattle.partition.specs.Left.{Left}
+use Rattle.partition.specs.Laws.LeftBlocks.{left-rests, left-least, left-few, left-related, left-before, left-under, left-each}
+use Rattle.partition.specs.Laws.LeftBlocks.{left-bisimulation, left-coarsest}
+use Rattle.partition.specs.Laws.LeftStates.{left-all, left-order}
+use Rattle.text.specs.Text.{upTo}
+use Rattle.listing.specs.Printed.{listing}
+use Rattle.listing.specs.Parts.{partCount, mostBytes}
+use Rattle.terkwabu.specs.Answers.{resultAs}
+use Rattle.terkwabu.specs.Calls.{GraphCall, ReduceCall, JudgeCall, PartCall, LineCall}
+use Rattle.terkwabu.specs.Laws.Bridges.{graph-accepted, graph-value, graph-entries, graph-all, graph-order, first-left, second-left}
+use Rattle.terkwabu.specs.Laws.Rows.{judge-iff}
+use Rattle.terkwabu.specs.Laws.States.{read-one, model-one}
+use Rattle.terkwabu.specs.Laws.Listing.{host-joined, host-refused}
+use Rattle.terkwabu.specs.declared.answer.Answer.{Answer}
+
+-- The region graph that a call left in the entries, n of them, as a structure: items are the numbers of regions.
+abbrev pub graphIn : Model → (entries : List ℕ) (n : ℕ) → Structure ℕ
+graphIn m entries n = structure (graph m (listed entries n))
+
+-- Document 01's blocks of a structure with n items, in a list: so many blocks, after so many rounds.
+pub record Blocks (S : Structure ℕ) (n blocks rounds : ℕ) (list : List ℕ) : Type 0 where
+  -- "The reported count is the least k whose round equals the next; it is at most N - 1."
+  pub rests : (x y : ℕ) → x < n → y < n → Round S rounds x y ↔ Round S (suc rounds) x y
+  pub least : (k : ℕ) → k < rounds → ¬ ((x y : ℕ) → x < n → y < n → Round S k x y ↔ Round S (suc k) x y)
+  pub few : rounds < n
+  -- Regions have one number exactly where that round relates them.
+  pub relates : (x y : ℕ) → x < n → y < n → (getD list x 0 ≡ getD list y 0) ↔ Round S rounds x y
+  -- "Blocks are numbered from 0 by their lowest region": every number that is smaller than a region's stands before it.
+  pub lowest : (x c : ℕ) → x < n → c < getD list x 0 → (y : ℕ) × (y < x) × (getD list y 0 ≡ c)
+  -- The numbers are those below the count of blocks.
+  pub below : (x : ℕ) → x < n → getD list x 0 < blocks
+  pub taken : (c : ℕ) → c < blocks → (x : ℕ) × (x < n) × (getD list x 0 ≡ c)
+  -- They are a bisimulation of the structure. (That it is the coarsest is said below.)
+  pub bisimulation : Bisimulation S (λ x y. getD list x 0 ≡ getD list y 0)
+
+pub record Demand2 : Type 1 where
+  -- The region graph and its numbers: the entries are all regions that are reached, each once, in document 01's order, and no other list of
+  -- regions is in that order.
+  pub regions : (table entries : List ℕ) (answer : Answer) (entries′ : List ℕ)
+      → GraphCall table entries answer entries′ → answer .refusal ≡ 0
+      → (m : Model) × (readTable table ≡ accepted m)
+      × AllRegions m (listed entries′ (answer .value)) × InOrder m (listed entries′ (answer .value))
+      × ((other : List Region) → InOrder m other → other ≡ listed entries′ (answer .value))
+
+  -- A region of the graph leads by some delay or edge to a region exactly when each of its states does; and it has a state.
+  pub leads : (table : List ℕ) (m : Model) → readTable table ≡ accepted m → (r : Region) → Reached m r
+      → ((q : Region) → RegionLeads m r q ↔ ((s : State) → IsState m s → regionIn m s ≡ r → StateLeads m s q))
+      × ((s : State) × IsState m s × (regionIn m s ≡ r))
+
+  -- The blocks, their numbers, their count and the count of rounds: in both lists, of the graph in the entries.
+  pub blocks : (table entries first second : List ℕ) (answer : Answer) (entries′ first′ second′ : List ℕ)
+      → ReduceCall table entries first second answer entries′ first′ second′ → answer .refusal ≡ 0
+      → (m : Model) × (readTable table ≡ accepted m)
+      × AllRegions m (listed entries′ (answer .value)) × InOrder m (listed entries′ (answer .value))
+      × Blocks (graphIn m entries′ (answer .value)) (answer .value) (answer .blocks) (answer .rounds) first′
+      × Blocks (graphIn m entries′ (answer .value)) (answer .value) (answer .blocks) (answer .rounds) second′
+
+  -- No bisimulation of the region graph relates more.
+  pub coarsest : (table entries first second : List ℕ) (answer : Answer) (entries′ first′ second′ : List ℕ)
+      → ReduceCall table entries first second answer entries′ first′ second′ → answer .refusal ≡ 0
+      → (m : Model) → readTable table ≡ accepted m
+      → (R : ℕ → ℕ → Type 0) → Bisimulation (graphIn m entries′ (answer .value)) R
+      → (x y : ℕ) → x < answer .value → y < answer .value → R x y
+      → (getD first′ x 0 ≡ getD first′ y 0) × (getD second′ x 0 ≡ getD second′ y 0)
+
+  -- A proposal for a table that the graph call accepts with these entries is accepted exactly when it has N numbers, and equal numbers are a
+  -- bisimulation of the region graph.
+  pub proposals : (table entries : List ℕ) (answer : Answer) (entries′ : List ℕ)
+      → GraphCall table entries answer entries′ → answer .refusal ≡ 0
+      → (m : Model) → readTable table ≡ accepted m
+      → (proposal : List ℕ) (judged : Answer) (entries″ : List ℕ) → JudgeCall table entries proposal judged entries″
+      → (judged ≡ resultAs 1 0 0)
+      ↔ ((length proposal ≡ answer .value)
+      × Bisimulation (graphIn m entries′ (answer .value)) (λ x y. getD proposal x 0 ≡ getD proposal y 0))
+
+  -- The listing: part calls with what a partition call answered and left, either list, and buffers of 65,536 bytes; of each buffer so many
+  -- bytes as the value says, one after the other, are the listing.
+  pub parts : (table entries first second : List ℕ) (answer : Answer) (entries′ first′ second′ : List ℕ)
+      → ReduceCall table entries first second answer entries′ first′ second′ → answer .refusal ≡ 0
+      → (list : List ℕ) → (list ≡ first′) ⊎ (list ≡ second′)
+      → (buffers : ℕ → List ℕ) (answers : ℕ → Answer) (buffers′ : ℕ → List ℕ)
+      → ((p : ℕ) → p < partCount (answer .value) (answer .blocks)
+      → PartCall table entries′ list (answer .value) (answer .blocks) (answer .rounds) p (buffers p) (answers p) (buffers′ p))
+      → ((p : ℕ) → p < partCount (answer .value) (answer .blocks) → mostBytes ≤ length (buffers p))
+      → upTo (λ p. take (answers p .value) (buffers′ p)) (partCount (answer .value) (answer .blocks)) ≡ listing table (roomFor (length entries))
+
+  -- Where the partition call refuses, but for a list that is too short, the line of its refusal is the listing.
+  pub refused : (table entries first second : List ℕ) (answer : Answer) (entries′ first′ second′ : List ℕ)
+      → ReduceCall table entries first second answer entries′ first′ second′ → ¬ (answer .refusal ≡ 0) → ¬ (answer .refusal ≡ 16)
+      → (buffer : List ℕ) (said : Answer) (buffer′ : List ℕ) → LineCall (answer .refusal) (answer .place) buffer said buffer′
+      → 128 ≤ length buffer → take (said .value) buffer′ ≡ listing table (roomFor (length entries))
+
+-- ---- It holds
+
+module _ {table : List ℕ} {cap n b k : ℕ} {entries list : List ℕ} (left : Left table cap n b k entries list) where
+  -- What a partition call left is such.
+  made : Blocks (graphIn (left .from .model) entries n) n b k list
+  made =
+      subst (λ (found : List Region). Blocks (structure (graph (left .from .model) found)) n b k list) (sym (left .entries-hold))
+      (record {
+        rests = left-rests left;
+        least = left-least left;
+        few = left-few left;
+        relates = left-related left;
+        lowest = left-before left;
+        below = left-under left;
+        taken = left-each left;
+        bisimulation = left-bisimulation left;
+      })
+
+  most {ℓ} : (m : Model) → readTable table ≡ accepted m → (R : ℕ → ℕ → Type ℓ) → Bisimulation (graphIn m entries n) R
+      → (x y : ℕ) → x < n → y < n → R x y → getD list x 0 ≡ getD list y 0
+  most m read R w =
+      left-coarsest left R
+      (subst (λ (S : Structure ℕ). Bisimulation S R)
+      (ap₂ (λ (x : Model) (found : List Region). structure (graph x found)) (sym (model-one left m read)) (left .entries-hold)) w)
+
+-- Bisimulations of the region graph at any level relate no more than the blocks.
+pub coarsest-any {ℓ} : (table entries first second : List ℕ) (answer : Answer) (entries′ first′ second′ : List ℕ)
+    → ReduceCall table entries first second answer entries′ first′ second′ → answer .refusal ≡ 0
+    → (m : Model) → readTable table ≡ accepted m
+    → (R : ℕ → ℕ → Type ℓ) → Bisimulation (graphIn m entries′ (answer .value)) R
+    → (x y : ℕ) → x < answer .value → y < answer .value → R x y
+    → (getD first′ x 0 ≡ getD first′ y 0) × (getD second′ x 0 ≡ getD second′ y 0)
+coarsest-any table entries first second answer entries′ first′ second′ call none m read R w x y hx hy r =
+    let one = first-left table entries first second answer entries′ first′ second′ call none in
+    let two = second-left table entries first second answer entries′ first′ second′ call none in
+    (most one m read R w x y hx hy r, most two m read R w x y hx hy r)
+
+pub demand-2 : Demand2
+demand-2 =
+    record {
+      regions = λ table entries answer entries′ call none.
+          let a = graph-accepted table entries answer entries′ call none in
+          let order = graph-order table entries answer entries′ call none in
+          (a .model, a .read, graph-all table entries answer entries′ call none, order, λ other o. order-one (a .model) other _ o order);
+      leads = λ table m read r h. (each-state-leads table m read r h, reached-state table m read r h);
+      blocks = λ table entries first second answer entries′ first′ second′ call none.
+          let one = first-left table entries first second answer entries′ first′ second′ call none in
+          let two = second-left table entries first second answer entries′ first′ second′ call none in
+          let same = model-one two (one .from .model) (one .from .read) in (
+            one .from .model,
+            one .from .read,
+            subst (AllRegions (one .from .model)) (sym (one .entries-hold)) (left-all one),
+            subst (InOrder (one .from .model)) (sym (one .entries-hold)) (left-order one),
+            made one,
+            subst (λ (x : Model). Blocks (graphIn x entries′ (answer .value)) (answer .value) (answer .blocks) (answer .rounds) second′) same
+                (made two),
+          );
+      coarsest = λ table entries first second answer entries′ first′ second′ call none m read R w.
+          coarsest-any table entries first second answer entries′ first′ second′ call none m read R w;
+      proposals = λ table entries answer entries′ call none m read proposal judged entries″ judge.
+          let a = graph-accepted table entries answer entries′ call none in
+          let same : a .model ≡ m = read-one table (a .model) m (a .read) read in
+          let held = graph-entries table entries answer entries′ call none in
+          subst
+          (λ (x : Model).
+          (judged ≡ resultAs 1 0 0)
+          ↔ ((length proposal ≡ answer .value)
+          × Bisimulation (graphIn x entries′ (answer .value)) (λ x y. getD proposal x 0 ≡ getD proposal y 0))) same
+          (subst
+          (λ (found : List Region).
+          (judged ≡ resultAs 1 0 0)
+          ↔ ((length proposal ≡ answer .value)
+          × Bisimulation (structure (graph (a .model) found)) (λ x y. getD proposal x 0 ≡ getD proposal y 0))) (sym held)
+          (subst
+          (λ (n : ℕ).
+          (judged ≡ resultAs 1 0 0)
+          ↔ ((length proposal ≡ n)
+          × Bisimulation (structure (graph (a .model) (a .found))) (λ x y. getD proposal x 0 ≡ getD proposal y 0)))
+          (sym (graph-value table entries answer entries′ call none)) (judge-iff table entries proposal judged entries″ judge a)));
+      parts = λ table entries first second answer entries′ first′ second′ call none list either.
+          host-joined table entries first second answer entries′ first′ second′ call none list either;
+      refused = λ table entries first second answer entries′ first′ second′ call.
+          host-refused table entries first second answer entries′ first′ second′ call;
+    }
