@@ -20,32 +20,26 @@ pub record Demand1 : Type 0 where
   pub graph : (table entries : List ℕ) (answer : Answer) (entries′ : List ℕ)
       → GraphCall table entries answer entries′
       → ByList table entries entries′ Unit GraphRows answer
-
   -- The state call, for a location, four values and a denominator.
   pub place : (table entries : List ℕ) (location v₀ v₁ v₂ v₃ denominator : ℕ) (answer : Answer) (entries′ : List ℕ)
       → PlaceCall table entries location v₀ v₁ v₂ v₃ denominator answer entries′
       → ByList table entries entries′ Unit (PlaceRows (asked location v₀ v₁ v₂ v₃ denominator)) answer
-
   -- The partition call.
   pub reduce : (table entries first second : List ℕ) (answer : Answer) (entries′ first′ second′ : List ℕ)
       → ReduceCall table entries first second answer entries′ first′ second′
       → ByList table entries entries′ ((first′ ≡ first) × (second′ ≡ second)) (ReduceRows first second first′ second′) answer
-
   -- The pair call, for two numbers.
   pub pair : (table entries first second : List ℕ) (r s : ℕ) (answer : Answer) (entries′ first′ second′ : List ℕ)
       → PairCall table entries first second r s answer entries′ first′ second′
       → ByList table entries entries′ ((first′ ≡ first) × (second′ ≡ second)) (PairRows first second r s first′ second′) answer
-
   -- The judging call.
   pub judge : (table entries proposal : List ℕ) (answer : Answer) (entries′ : List ℕ)
       → JudgeCall table entries proposal answer entries′
       → ByList table entries entries′ Unit (JudgeRows proposal) answer
-
   -- The part call, for whatever entries, list and counts are lent.
   pub part : (table entries list : List ℕ) (regions blocks rounds part : ℕ) (buffer : List ℕ) (answer : Answer) (buffer′ : List ℕ)
       → PartCall table entries list regions blocks rounds part buffer answer buffer′
       → PartRows table (textOf table entries list regions blocks rounds part) buffer buffer′ answer
-
   -- The line of a refusal.
   pub line : (number place : ℕ) (buffer : List ℕ) (answer : Answer) (buffer′ : List ℕ)
       → LineCall number place buffer answer buffer′

@@ -72,12 +72,10 @@ pub record Demand2 : Type 1 where
       → (m : Model) × (readTable table ≡ accepted m)
       × AllRegions m (listed entries′ (answer .value)) × InOrder m (listed entries′ (answer .value))
       × ((other : List Region) → InOrder m other → other ≡ listed entries′ (answer .value))
-
   -- A region of the graph leads by some delay or edge to a region exactly when each of its states does; and it has a state.
   pub leads : (table : List ℕ) (m : Model) → readTable table ≡ accepted m → (r : Region) → Reached m r
       → ((q : Region) → RegionLeads m r q ↔ ((s : State) → IsState m s → regionIn m s ≡ r → StateLeads m s q))
       × ((s : State) × IsState m s × (regionIn m s ≡ r))
-
   -- The blocks, their numbers, their count and the count of rounds: in both lists, of the graph in the entries.
   pub blocks : (table entries first second : List ℕ) (answer : Answer) (entries′ first′ second′ : List ℕ)
       → ReduceCall table entries first second answer entries′ first′ second′ → answer .refusal ≡ 0
@@ -85,7 +83,6 @@ pub record Demand2 : Type 1 where
       × AllRegions m (listed entries′ (answer .value)) × InOrder m (listed entries′ (answer .value))
       × Blocks (graphIn m entries′ (answer .value)) (answer .value) (answer .blocks) (answer .rounds) first′
       × Blocks (graphIn m entries′ (answer .value)) (answer .value) (answer .blocks) (answer .rounds) second′
-
   -- No bisimulation of the region graph relates more.
   pub coarsest : (table entries first second : List ℕ) (answer : Answer) (entries′ first′ second′ : List ℕ)
       → ReduceCall table entries first second answer entries′ first′ second′ → answer .refusal ≡ 0
@@ -93,9 +90,8 @@ pub record Demand2 : Type 1 where
       → (R : ℕ → ℕ → Type 0) → Bisimulation (graphIn m entries′ (answer .value)) R
       → (x y : ℕ) → x < answer .value → y < answer .value → R x y
       → (getD first′ x 0 ≡ getD first′ y 0) × (getD second′ x 0 ≡ getD second′ y 0)
-
-  -- A proposal for a table that the graph call accepts with these entries is accepted exactly when it has N numbers, and equal numbers are a
-  -- bisimulation of the region graph.
+  -- A proposal for a table that the graph call accepts with these entries is accepted exactly when it has N numbers, and equal numbers are
+  -- a bisimulation of the region graph.
   pub proposals : (table entries : List ℕ) (answer : Answer) (entries′ : List ℕ)
       → GraphCall table entries answer entries′ → answer .refusal ≡ 0
       → (m : Model) → readTable table ≡ accepted m
@@ -103,7 +99,6 @@ pub record Demand2 : Type 1 where
       → (judged ≡ resultAs 1 0 0)
       ↔ ((length proposal ≡ answer .value)
       × Bisimulation (graphIn m entries′ (answer .value)) (λ x y. getD proposal x 0 ≡ getD proposal y 0))
-
   -- The listing: part calls with what a partition call answered and left, either list, and buffers of 65,536 bytes; of each buffer so many
   -- bytes as the value says, one after the other, are the listing.
   pub parts : (table entries first second : List ℕ) (answer : Answer) (entries′ first′ second′ : List ℕ)
@@ -113,8 +108,8 @@ pub record Demand2 : Type 1 where
       → ((p : ℕ) → p < partCount (answer .value) (answer .blocks)
       → PartCall table entries′ list (answer .value) (answer .blocks) (answer .rounds) p (buffers p) (answers p) (buffers′ p))
       → ((p : ℕ) → p < partCount (answer .value) (answer .blocks) → mostBytes ≤ length (buffers p))
-      → upTo (λ p. take (answers p .value) (buffers′ p)) (partCount (answer .value) (answer .blocks)) ≡ listing table (roomFor (length entries))
-
+      → upTo (λ p. take (answers p .value) (buffers′ p)) (partCount (answer .value) (answer .blocks))
+      ≡ listing table (roomFor (length entries))
   -- Where the partition call refuses, but for a list that is too short, the line of its refusal is the listing.
   pub refused : (table entries first second : List ℕ) (answer : Answer) (entries′ first′ second′ : List ℕ)
       → ReduceCall table entries first second answer entries′ first′ second′ → ¬ (answer .refusal ≡ 0) → ¬ (answer .refusal ≡ 16)
@@ -175,7 +170,8 @@ demand-2 =
             subst (AllRegions (one .from .model)) (sym (one .entries-hold)) (left-all one),
             subst (InOrder (one .from .model)) (sym (one .entries-hold)) (left-order one),
             made one,
-            subst (λ (x : Model). Blocks (graphIn x entries′ (answer .value)) (answer .value) (answer .blocks) (answer .rounds) second′) same
+            subst
+                (λ (x : Model). Blocks (graphIn x entries′ (answer .value)) (answer .value) (answer .blocks) (answer .rounds) second′) same
                 (made two),
           );
       coarsest = λ table entries first second answer entries′ first′ second′ call none m read R w.

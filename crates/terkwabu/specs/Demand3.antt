@@ -1,8 +1,8 @@
 -- Demand 3: "Let a and b be any two states of any accepted model, their clock values any fractions, both lying in regions of its graph.
 -- Whenever document 01's list finds no refusal for the partition call, both block lists then hold document 01's block numbers, and those of
 -- the two regions differ exactly when no probabilistic time-abstracting bisimulation over all states of the model relates a and b. Whenever
--- that list finds none for the pair call on these two regions, the call says in exactly the same cases that they share no block." One closed
--- statement, and its theorem; and the half that holds for relations at every level.
+-- that list finds none for the pair call on these two regions, the call says in exactly the same cases that they share no block." One
+-- closed statement, and its theorem; and the half that holds for relations at every level.
 --
 -- A premise `ReduceCall table entries first second answer entries′ first′ second′` (Calls) says that the exported function was called with
 -- these, answered `answer`, and left entries′, first′ and second′: it is the function's contract, for all inputs. `answer .refusal ≡ 0`
@@ -19,23 +19,29 @@ use mathlib.Core.List.{List}
 use lib.ListN.{getD}
 use Rattle.regions.specs.Passed.{Model, readTable, accepted, Region}
 use Rattle.regions.specs.Entries.{regionAt}
+use Rattle.regions.specs.Explore.{listed}
 use Rattle.regions.specs.Graph.{Reached}
 use Rattle.states.specs.States.{State, IsState}
 use Rattle.states.specs.Alike.{regionIn}
 use Rattle.states.specs.StateCall.{asked, ownState}
 use Rattle.bisimulation.specs.Structures.{Structure}
 use Rattle.bisimulation.specs.Bisimulations.{Bisimulation}
-use Rattle.partition.specs.Instances.{states, statesZero}
+use Rattle.partition.specs.Instances.{states, statesZero, blockIn}
 use Rattle.terkwabu.specs.Calls.{PlaceCall, ReduceCall, PairCall}
 use Rattle.terkwabu.specs.Laws.Bridges.{reduced-of, first-left, second-left, pair-model, pair-regions, pair-first-left}
 use Rattle.terkwabu.specs.Laws.Bridges.{value-first, value-second, value-together, value-apart}
-use Rattle.terkwabu.specs.Laws.States.{number-of, numbers-differ, numbers-given, numbers-equal, numbers-zero, place-number}
+use Rattle.terkwabu.specs.Laws.States.{number-of, numbers-block, numbers-differ, numbers-given, numbers-equal}
+use Rattle.terkwabu.specs.Laws.States.{numbers-zero, place-number}
 use Rattle.terkwabu.specs.Demand2.{graphIn, Blocks, demand-2}
 use Rattle.terkwabu.specs.declared.answer.Answer.{Answer}
 
 -- Number i is that of region r: it is entry i of the first n, and no other.
 abbrev pub IsNumber : (entries : List ℕ) (n : ℕ) → Region → ℕ → Type 0
 IsNumber entries n r i = (i < n) × (regionAt entries i ≡ r) × ((j : ℕ) → j < n → regionAt entries j ≡ r → j ≡ i)
+
+-- The state that a state call asks for: of four values the model's n.
+abbrev pub stateAsked : Model → (location v₀ v₁ v₂ v₃ denominator : ℕ) → State
+stateAsked m location v₀ v₁ v₂ v₃ denominator = ownState m (asked location v₀ v₁ v₂ v₃ denominator)
 
 -- No bisimulation over a structure of states relates a and b.
 abbrev pub NoneRelates : Structure State → State → State → Type 1
@@ -48,7 +54,6 @@ pub record Demand3 : Type 1 where
       → (m : Model) × (readTable table ≡ accepted m)
       × Blocks (graphIn m entries′ (answer .value)) (answer .value) (answer .blocks) (answer .rounds) first′
       × Blocks (graphIn m entries′ (answer .value)) (answer .value) (answer .blocks) (answer .rounds) second′
-
   -- The two states lie in regions i and j, and the numbers of these differ, in either list, exactly when no bisimulation over all states
   -- relates the two.
   pub partition : (table : List ℕ) (m : Model) → readTable table ≡ accepted m
@@ -59,7 +64,6 @@ pub record Demand3 : Type 1 where
       × IsNumber entries′ (answer .value) (regionIn m a) i × IsNumber entries′ (answer .value) (regionIn m b) j
       × ((¬ (getD first′ i 0 ≡ getD first′ j 0)) ↔ NoneRelates (states m) a b)
       × ((¬ (getD second′ i 0 ≡ getD second′ j 0)) ↔ NoneRelates (states m) a b)
-
   -- The pair call on two regions, r of a and s of b, says 0, that they share no block, in exactly the same cases.
   pub pair : (table : List ℕ) (m : Model) → readTable table ≡ accepted m
       → (a b : State) → IsState m a → IsState m b
@@ -67,25 +71,24 @@ pub record Demand3 : Type 1 where
       → PairCall table entries first second r s answer entries′ first′ second′ → answer .refusal ≡ 0
       → regionAt entries′ r ≡ regionIn m a → regionAt entries′ s ≡ regionIn m b
       → (answer .value ≡ 0) ↔ NoneRelates (states m) a b
-
   -- Where both calls succeed on one table, whatever was lent to each, they say the same.
   pub agree : (table entries first second : List ℕ) (answer : Answer) (entries′ first′ second′ : List ℕ)
       → ReduceCall table entries first second answer entries′ first′ second′ → answer .refusal ≡ 0
       → (entries₂ first₂ second₂ : List ℕ) (r s : ℕ) (answer₂ : Answer) (entries₂′ first₂′ second₂′ : List ℕ)
       → PairCall table entries₂ first₂ second₂ r s answer₂ entries₂′ first₂′ second₂′ → answer₂ .refusal ≡ 0
       → ((answer₂ .value ≡ 1) ↔ (getD first′ r 0 ≡ getD first′ s 0)) × ((answer₂ .value ≡ 1) ↔ (getD second′ r 0 ≡ getD second′ s 0))
-
-  -- From a state to its block: where the state call answers a number, that is the number of the state's region in what the partition call
-  -- left, whatever was lent to each. So number `value` of either list is the block of that state, and of no other region's states.
+  -- From a state to its block: where the state call answers a number, whatever was lent to it, that is the number of the state's region in
+  -- what the partition call left, and number `value` of either list is that state's block.
   pub placed : (table : List ℕ) (m : Model) → readTable table ≡ accepted m
       → (entries first second : List ℕ) (answer : Answer) (entries′ first′ second′ : List ℕ)
       → ReduceCall table entries first second answer entries′ first′ second′ → answer .refusal ≡ 0
       → (entries₁ : List ℕ) (location v₀ v₁ v₂ v₃ denominator : ℕ) (answer₁ : Answer) (entries₁′ : List ℕ)
       → PlaceCall table entries₁ location v₀ v₁ v₂ v₃ denominator answer₁ entries₁′ → answer₁ .refusal ≡ 0
-      → IsState m (ownState m (asked location v₀ v₁ v₂ v₃ denominator))
+      → IsState m (stateAsked m location v₀ v₁ v₂ v₃ denominator)
       × (answer₁ .value < answer .value)
-      × (regionAt entries′ (answer₁ .value) ≡ regionIn m (ownState m (asked location v₀ v₁ v₂ v₃ denominator)))
-
+      × (regionAt entries′ (answer₁ .value) ≡ regionIn m (stateAsked m location v₀ v₁ v₂ v₃ denominator))
+      × (getD first′ (answer₁ .value) 0 ≡ blockIn m (listed entries′ (answer .value)) (stateAsked m location v₀ v₁ v₂ v₃ denominator))
+      × (getD second′ (answer₁ .value) 0 ≡ blockIn m (listed entries′ (answer .value)) (stateAsked m location v₀ v₁ v₂ v₃ denominator))
   -- Where the numbers are equal a bisimulation is given. (What differs not is not only not unrelated.)
   pub given : (table : List ℕ) (m : Model) → readTable table ≡ accepted m
       → (a b : State) → IsState m a → IsState m b
@@ -93,7 +96,6 @@ pub record Demand3 : Type 1 where
       → ReduceCall table entries first second answer entries′ first′ second′ → answer .refusal ≡ 0
       → (i j : ℕ) → i < answer .value → regionAt entries′ i ≡ regionIn m a → j < answer .value → regionAt entries′ j ≡ regionIn m b
       → getD first′ i 0 ≡ getD first′ j 0 → (R : State → State → Type 0) × Bisimulation (states m) R × R a b
-
   -- Whether a state that breaks its invariant has a zero delay, on which document 01's words may be read either way, makes no difference.
   pub zero-delay : (table : List ℕ) (m : Model) → readTable table ≡ accepted m
       → (a b : State) → IsState m a → IsState m b → Reached m (regionIn m a) → Reached m (regionIn m b)
@@ -104,7 +106,7 @@ pub record Demand3 : Type 1 where
 -- Relations at every level: one that is a bisimulation over all states and relates a and b makes their numbers equal in both lists, and the
 -- pair call say 1.
 abbrev pub Demand3At {ℓ} : Type (ℓ + 1)
-Demand3At {ℓ} =
+Demand3At =
     (table : List ℕ) (m : Model) → readTable table ≡ accepted m
     → (a b : State) → IsState m a → IsState m b
     → (R : State → State → Type ℓ) → Bisimulation (states m) R → R a b
@@ -152,8 +154,12 @@ demand-3 =
           );
       placed = λ table m read entries first second answer entries′ first′ second′ call none
           entries₁ location v₀ v₁ v₂ v₃ denominator answer₁ entries₁′ call₁ none₁.
-          place-number (first-left table entries first second answer entries′ first′ second′ call none) entries₁ location v₀ v₁ v₂ v₃
-          denominator answer₁ entries₁′ call₁ none₁ m read;
+          let one = first-left table entries first second answer entries′ first′ second′ call none in
+          let two = second-left table entries first second answer entries′ first′ second′ call none in
+          let s : State = stateAsked m location v₀ v₁ v₂ v₃ denominator in
+          let (is, h, at) =
+          place-number one entries₁ location v₀ v₁ v₂ v₃ denominator answer₁ entries₁′ call₁ none₁ m read in
+          (is, h, at, numbers-block one m read s (answer₁ .value) h at, numbers-block two m read s (answer₁ .value) h at);
       given = λ table m read a b ia ib entries first second answer entries′ first′ second′ call none i j hi at hj bt.
           numbers-given (first-left table entries first second answer entries′ first′ second′ call none) m read a b ia ib i j hi at hj bt;
       zero-delay = λ table m read a b ia ib ra rb entries first second answer entries′ first′ second′ call none.

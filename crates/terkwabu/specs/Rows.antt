@@ -65,7 +65,8 @@ pub data PlaceRows (s : State) (m : Model) (found : List Region) : Answer → Ty
   -- "20. A state's location is not below the count, its denominator is 0 or above 1,000,000, or a clock beyond n is not 0."
   place-row-20 : isNotTaken m s ≡ true → PlaceRows s m found (refusedAs 20 0)
   -- "21. The state's region was not reached."
-  place-row-21 : isNotTaken m s ≡ false → IsState m (ownState m s) → ¬ Reached m (regionIn m (ownState m s)) → PlaceRows s m found (refusedAs 21 0)
+  place-row-21 : isNotTaken m s ≡ false → IsState m (ownState m s) → ¬ Reached m (regionIn m (ownState m s))
+      → PlaceRows s m found (refusedAs 21 0)
   place-result : isNotTaken m s ≡ false → IsState m (ownState m s) → (number : ℕ) → number < length found
       → ((d : Region) → getD found number d ≡ regionIn m (ownState m s)) → PlaceRows s m found (resultAs number 0 0)
 

@@ -21,8 +21,8 @@ use Rattle.bisimulation.specs.Laws.Blocks.{blocks-length}
 use Rattle.partition.specs.Instances.{graph}
 use Rattle.comparison.specs.Held.{Held}
 use Rattle.partition.specs.Laws.Shown.{whole-held}
-use Rattle.partition.specs.Calls.{Accepted}
-use Rattle.partition.specs.Calls.{fromOutcome, afterGraph, isShort, isAskedPast, blocksOf, numberedIn, reduceOf, listAfter, sharedOf, pairOf, pairListAfter, judgedOf, judgeOf}
+use Rattle.partition.specs.Calls.{Accepted, fromOutcome, afterGraph, isShort, isAskedPast, blocksOf, numberedIn}
+use Rattle.partition.specs.Calls.{reduceOf, listAfter, sharedOf, pairOf, pairListAfter, judgedOf, judgeOf}
 use Rattle.partition.specs.declared.calls.Reduction.{Reduction}
 use Rattle.partition.specs.declared.calls.Reduction.the-variants as B
 use Rattle.partition.specs.declared.calls.Pairing.{Pairing}
@@ -134,7 +134,8 @@ module _ (table : List ℕ) (cap : ℕ) (first second : List ℕ) where
   module _ (n b k : ℕ) (e : reduceOf table cap first second ≡ B.Blocks n b k) where
     reduced : (a : Accepted table cap) × (blocksOf first second (a .model) (a .found) ≡ B.Blocks n b k)
     unfolding reduceOf
-    reduced = from-accepted B.Refused (blocksOf first second) table cap (B.Blocks n b k) (λ number place q. omega (arith, ap reductionKind q)) e
+    reduced =
+        from-accepted B.Refused (blocksOf first second) table cap (B.Blocks n b k) (λ number place q. omega (arith, ap reductionKind q)) e
 
     pub reduce-accepted : Accepted table cap
     reduce-accepted = reduced .0
@@ -164,7 +165,8 @@ module _ (table : List ℕ) (cap : ℕ) (first second : List ℕ) where
   module _ (r s : ℕ) (v : Bool) (e : pairOf table cap first second r s ≡ P.Shared v) where
     paired : (a : Accepted table cap) × (sharedOf first second r s (a .model) (a .found) ≡ P.Shared v)
     unfolding pairOf
-    paired = from-accepted P.Refused (sharedOf first second r s) table cap (P.Shared v) (λ number place q. omega (arith, ap pairingKind q)) e
+    paired =
+        from-accepted P.Refused (sharedOf first second r s) table cap (P.Shared v) (λ number place q. omega (arith, ap pairingKind q)) e
 
     pub pair-accepted : Accepted table cap
     pair-accepted = paired .0

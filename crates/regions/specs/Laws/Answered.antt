@@ -61,7 +61,8 @@ flat-listed es zero h = refl
 flat-listed es (suc n) h =
     let more : entryBytes * n + entryBytes ≡ entryBytes * suc n = omega arith in
     flat-append (listed es n) (regionAt es n ∷ [])
-    ∙ ap₂ (λ (x y : List ℕ). x ++ y) (flat-listed es n (omega arith)) (append-nil (bytesOf (regionAt es n)) ∙ entry-bytes es n (omega arith))
+    ∙ ap₂ (λ (x y : List ℕ). x ++ y) (flat-listed es n (omega arith))
+    (append-nil (bytesOf (regionAt es n)) ∙ entry-bytes es n (omega arith))
     ∙ sym (take-add (entryBytes * n) entryBytes es)
     ∙ ap (λ k. take k es) more
 

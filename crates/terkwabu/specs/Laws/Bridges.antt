@@ -29,7 +29,8 @@ use Rattle.partition.specs.Instances.{graph}
 use Rattle.partition.specs.Calls.{Accepted, reduceOf, pairOf}
 use Rattle.partition.specs.Promises.{Reduced, Paired}
 use Rattle.partition.specs.Left.{Left}
-use Rattle.partition.specs.Laws.Calls.{from-accepted, pair-below}
+use Rattle.partition.specs.Laws.Calls.{from-accepted, pair-accepted, pair-below}
+use Rattle.partition.specs.Laws.Success.{one-found}
 use Rattle.partition.specs.Laws.Left.{reduced-first, reduced-second}
 use Rattle.partition.specs.Laws.Promised.{paired-model, pair-leaves, pair-as-first, pair-as-second}
 use Rattle.partition.specs.declared.calls.Reduction.the-variants as B
@@ -69,12 +70,14 @@ module _ (table entries : List ℕ) (answer : Answer) (entries′ : List ℕ) (c
   pub graph-all : AllRegions (graph-accepted .model) (listed entries′ (answer .value))
   graph-all =
       subst (AllRegions (graph-accepted .model)) (sym graph-entries)
-      (whole-model table (roomFor (length entries)) (graph-accepted .found) (graph-accepted .model) (graph-accepted .out) (graph-accepted .read) .0)
+      (whole-model table (roomFor (length entries)) (graph-accepted .found) (graph-accepted .model) (graph-accepted .out)
+      (graph-accepted .read) .0)
 
   pub graph-order : InOrder (graph-accepted .model) (listed entries′ (answer .value))
   graph-order =
       subst (InOrder (graph-accepted .model)) (sym graph-entries)
-      (whole-order table (roomFor (length entries)) (graph-accepted .found) (graph-accepted .model) (graph-accepted .read) (graph-accepted .out))
+      (whole-order table (roomFor (length entries)) (graph-accepted .found) (graph-accepted .model) (graph-accepted .read)
+      (graph-accepted .out))
 
 -- ---- The state call
 
@@ -111,9 +114,13 @@ module _ (table entries : List ℕ) (location v₀ v₁ v₂ v₃ denominator : 
       (sym (place-after table (roomFor (length entries)) given)
       ∙ place-region table entries location v₀ v₁ v₂ v₃ denominator answer entries′ call none) in
       let r : Region = regionIn (a .model) (ownState (a .model) given) in
-      let (taken, below, same) = tests (isNotTaken (a .model) given) (length (a .found)) (numberIn (a .found) r) e in
-      (a, taken, omega (arith, below, same), λ d.
-      ap (λ (x : ℕ). getD (a .found) x d) (sym same) ∙ has-number (a .found) r (number-listed (a .found) r below) .is d)
+      let (taken, below, same) = tests (isNotTaken (a .model) given) (length (a .found)) (numberIn (a .found) r) e in (
+        a,
+        taken,
+        omega (arith, below, same),
+        λ d.
+            ap (λ (x : ℕ). getD (a .found) x d) (sym same) ∙ has-number (a .found) r (number-listed (a .found) r below) .is d,
+      )
     where
       tests : (b : Bool) (n x : ℕ) → cond b (P.Refused 20 0) (numbered n x) ≡ P.Region (answer .value)
           → (b ≡ false) × (x < n) × (x ≡ answer .value)
@@ -147,10 +154,12 @@ module _ (table entries first second : List ℕ) (answer : Answer) (entries′ f
 
   -- So entries and lists hold the graph and the blocks.
   pub first-left : Left table (roomFor (length entries)) (answer .value) (answer .blocks) (answer .rounds) entries′ first′
-  first-left = reduced-first table entries first second (answer .value) (answer .blocks) (answer .rounds) entries′ first′ second′ reduced-of
+  first-left =
+      reduced-first table entries first second (answer .value) (answer .blocks) (answer .rounds) entries′ first′ second′ reduced-of
 
   pub second-left : Left table (roomFor (length entries)) (answer .value) (answer .blocks) (answer .rounds) entries′ second′
-  second-left = reduced-second table entries first second (answer .value) (answer .blocks) (answer .rounds) entries′ first′ second′ reduced-of
+  second-left =
+      reduced-second table entries first second (answer .value) (answer .blocks) (answer .rounds) entries′ first′ second′ reduced-of
 
 -- ---- The pair call
 
@@ -160,7 +169,8 @@ one-if false = (λ e. absurd (omega (arith, e)), λ e. ap oneIf e)
 
 module _ (table entries first second : List ℕ) (r s : ℕ) (answer : Answer) (entries′ first′ second′ : List ℕ)
     (call : PairCall table entries first second r s answer entries′ first′ second′) (none : answer .refusal ≡ 0) where
-  shared-as : (v : Bool) × (pairOf table (roomFor (length entries)) first second r s ≡ S.Shared v)
+  -- It is answered whether they share a block.
+  pub shared-as : (v : Bool) × (pairOf table (roomFor (length entries)) first second r s ≡ S.Shared v)
   shared-as =
       zero-paired table (roomFor (length entries)) first second r s .0 (sym (ap (λ (a : Answer). a .refusal) (call .answer-is)) ∙ none)
 
@@ -185,8 +195,11 @@ module _ (table entries first second : List ℕ) (r s : ℕ) (answer : Answer) (
 
   -- Both numbers are those of regions.
   pub pair-regions : (r < length (pair-model .found)) × (s < length (pair-model .found))
-  unfolding pair-model paired-model
-  pair-regions = pair-below table (roomFor (length entries)) first second r s (shared-as .0) _
+  pair-regions =
+      let cap : ℕ = roomFor (length entries) in
+      let (hr, hs) = pair-below table cap first second r s (shared-as .0) (shared-as .1) in
+      let same = ap length (one-found table cap cap (pair-accepted table cap first second r s (shared-as .0) (shared-as .1)) pair-model) in
+      (omega (arith, hr, same), omega (arith, hs, same))
 
   -- Entries and lists hold the graph and the blocks, as the partition call leaves them.
   abbrev F : Finite
@@ -197,7 +210,8 @@ module _ (table entries first second : List ℕ) (r s : ℕ) (answer : Answer) (
   unfolding pair-model
   pair-reduced = pair-leaves table entries first second r s (S.Shared (shared-as .0)) entries′ first′ second′ paired-of (shared-as .0) refl
 
-  pub pair-first-left : Left table (roomFor (length entries)) (length (pair-model .found)) (blockCount F (rounds F)) (rounds F) entries′ first′
+  pub pair-first-left : Left table (roomFor (length entries)) (length (pair-model .found)) (blockCount F (rounds F)) (rounds F) entries′
+      first′
   pair-first-left = reduced-first table entries first second _ _ _ entries′ first′ second′ pair-reduced
 
   pub pair-second-left : Left table (roomFor (length entries)) (length (pair-model .found)) (blockCount F (rounds F)) (rounds F) entries′
@@ -210,14 +224,14 @@ module _ (table entries first second : List ℕ) (r s : ℕ) (answer : Answer) (
     pub value-first : (answer .value ≡ 1) ↔ (getD first₁′ r 0 ≡ getD first₁′ s 0)
     value-first =
         Iff·trans value-shares
-        (pair-as-first table entries₁ first₁ second₁ (B.Blocks n b k) entries₁′ first₁′ second₁′ reduced n b k refl entries first second r s
-        (S.Shared (shared-as .0)) entries′ first′ second′ paired-of (shared-as .0) refl)
+        (pair-as-first table entries₁ first₁ second₁ (B.Blocks n b k) entries₁′ first₁′ second₁′ reduced n b k refl entries first second
+        r s (S.Shared (shared-as .0)) entries′ first′ second′ paired-of (shared-as .0) refl)
 
     pub value-second : (answer .value ≡ 1) ↔ (getD second₁′ r 0 ≡ getD second₁′ s 0)
     value-second =
         Iff·trans value-shares
-        (pair-as-second table entries₁ first₁ second₁ (B.Blocks n b k) entries₁′ first₁′ second₁′ reduced n b k refl entries first second r s
-        (S.Shared (shared-as .0)) entries′ first′ second′ paired-of (shared-as .0) refl)
+        (pair-as-second table entries₁ first₁ second₁ (B.Blocks n b k) entries₁′ first₁′ second₁′ reduced n b k refl entries first second
+        r s (S.Shared (shared-as .0)) entries′ first′ second′ paired-of (shared-as .0) refl)
 
   -- So in its own lists: 1 where they are equal, 0 where they differ.
   pub value-together : (answer .value ≡ 1) ↔ (getD first′ r 0 ≡ getD first′ s 0)
@@ -228,9 +242,9 @@ module _ (table entries first second : List ℕ) (r s : ℕ) (answer : Answer) (
       let one = value-together in
       let is = ap (λ (a : Answer). a .value) (call .answer-is ∙ ap ofPairing (shared-as .1)) in (
         λ e q. let v = one .1 q in omega (arith, v, e),
-        λ no. is ∙ zero-if (shared-as .0) (λ t. no (one .0 (is ∙ one-if (shared-as .0) .1 t))),
+        λ other. is ∙ zero-if (shared-as .0) (λ t. other (one .0 (is ∙ one-if (shared-as .0) .1 t))),
       )
     where
       zero-if : (v : Bool) → ¬ (v ≡ true) → oneIf v ≡ 0
-      zero-if true no = absurd (no refl)
-      zero-if false no = refl
+      zero-if true other = absurd (other refl)
+      zero-if false other = refl

@@ -29,56 +29,61 @@ use Rattle.terkwabu.specs.declared.answer.Answer.{Answer}
 module _ (table entries first second : List ℕ) (answer : Answer) (entries′ first′ second′ : List ℕ)
     (call : ReduceCall table entries first second answer entries′ first′ second′) where
   module _ (none : answer .refusal ≡ 0) (list : List ℕ) (either : (list ≡ first′) ⊎ (list ≡ second′)) where
-    promised : Reduced table entries first second (B.Blocks (answer .value) (answer .blocks) (answer .rounds)) entries′ first′ second′
+    -- The three counts answered, and how many parts there are.
+    abbrev n : ℕ
+    n = answer .value
+
+    abbrev b : ℕ
+    b = answer .blocks
+
+    abbrev k : ℕ
+    k = answer .rounds
+
+    abbrev count : ℕ
+    count = partCount n b
+
+    promised : Reduced table entries first second (B.Blocks n b k) entries′ first′ second′
     promised = reduced-of table entries first second answer entries′ first′ second′ call none
 
-    -- Part `p` was asked with a buffer of 65,536 bytes or more, for each part before the end: of each buffer as many bytes as the value
+    -- Part p was asked for with a buffer of 65,536 bytes or more, for each part before the end: of each buffer as many bytes as the value
     -- says, one after the other, are the listing. (Buffers may be one and the same, lent again and again.)
     pub host-joined : (buffers : ℕ → List ℕ) (answers : ℕ → Answer) (buffers′ : ℕ → List ℕ)
-        → ((p : ℕ) → p < partCount (answer .value) (answer .blocks)
-        → PartCall table entries′ list (answer .value) (answer .blocks) (answer .rounds) p (buffers p) (answers p) (buffers′ p))
-        → ((p : ℕ) → p < partCount (answer .value) (answer .blocks) → mostBytes ≤ length (buffers p))
-        → upTo (λ p. take (answers p .value) (buffers′ p)) (partCount (answer .value) (answer .blocks)) ≡ listing table (roomFor (length entries))
+        → ((p : ℕ) → p < count → PartCall table entries′ list n b k p (buffers p) (answers p) (buffers′ p))
+        → ((p : ℕ) → p < count → mostBytes ≤ length (buffers p))
+        → upTo (λ p. take (answers p .value) (buffers′ p)) count ≡ listing table (roomFor (length entries))
     host-joined buffers answers buffers′ calls long =
-        upto-same _ _ (partCount (answer .value) (answer .blocks))
+        upto-same _ _ count
         (λ p h.
         ap (λ (j : ℕ). take j (buffers′ p))
-        (ap (λ (a : Answer). a .value) (calls p h .answer-is)
-        ∙ value-part (partOf table entries′ list (answer .value) (answer .blocks) (answer .rounds) p (length (buffers p)))))
-        ∙ joined-most table entries first second (answer .value) (answer .blocks) (answer .rounds) entries′ first′ second′ promised list either
-        buffers (λ p. partOf table entries′ list (answer .value) (answer .blocks) (answer .rounds) p (length (buffers p))) buffers′
-        (λ p h.
-        parted table entries′ list (answer .value) (answer .blocks) (answer .rounds) p (buffers p) _ (buffers′ p) refl
-        (calls p h .buffer-is) (calls p h .enough)) long
+        (ap (λ (a : Answer). a .value) (calls p h .answer-is) ∙ value-part (partOf table entries′ list n b k p (length (buffers p)))))
+        ∙ joined-most table entries first second n b k entries′ first′ second′ promised list either buffers
+        (λ p. partOf table entries′ list n b k p (length (buffers p))) buffers′
+        (λ p h. parted table entries′ list n b k p (buffers p) _ (buffers′ p) refl (calls p h .buffer-is) (calls p h .enough)) long
 
-    -- Past the last part all numbers answered are 0,
-    pub host-end : (p : ℕ) (buffer : List ℕ) (said : Answer) (buffer′ : List ℕ)
-        → PartCall table entries′ list (answer .value) (answer .blocks) (answer .rounds) p buffer said buffer′
-        → partCount (answer .value) (answer .blocks) ≤ p → said ≡ resultAs 0 0 0
-    host-end p buffer said buffer′ asked past =
-        asked .answer-is
-        ∙ ap ofPart
-        (parts-answer table entries first second (answer .value) (answer .blocks) (answer .rounds) entries′ first′ second′ promised list either p
-        (length buffer)
-        ∙ ap (λ (t : List ℕ). fitted t (length buffer))
-        (parts-end table entries first second (answer .value) (answer .blocks) (answer .rounds) entries′ first′ second′ promised list either p
-        past))
+    -- One part call.
+    module _ (p : ℕ) (buffer : List ℕ) (said : Answer) (buffer′ : List ℕ) (asked : PartCall table entries′ list n b k p buffer said buffer′)
+      where
+        said-is : said ≡ ofPart (fitted (textOf table entries′ list n b k p) (length buffer))
+        said-is =
+            asked .answer-is
+            ∙ ap ofPart (parts-answer table entries first second n b k entries′ first′ second′ promised list either p (length buffer))
 
-    -- and before it, where the buffer has 65,536 bytes, the value is not.
-    pub host-some : (p : ℕ) (buffer : List ℕ) (said : Answer) (buffer′ : List ℕ)
-        → PartCall table entries′ list (answer .value) (answer .blocks) (answer .rounds) p buffer said buffer′
-        → p < partCount (answer .value) (answer .blocks) → mostBytes ≤ length buffer → 0 < said .value
-    host-some p buffer said buffer′ asked below long =
-        let some = parts-some table entries first second (answer .value) (answer .blocks) (answer .rounds) entries′ first′ second′ promised
-        list either p below in
-        let value : said .value ≡ length (textOf table entries′ list (answer .value) (answer .blocks) (answer .rounds) p) =
-        ap (λ (a : Answer). a .value) (asked .answer-is)
-        ∙ ap (λ o. ofPart o .value)
-        (parts-answer table entries first second (answer .value) (answer .blocks) (answer .rounds) entries′ first′ second′ promised list either p
-        (length buffer)
-        ∙ fitted-written (textOf table entries′ list (answer .value) (answer .blocks) (answer .rounds) p) (length buffer) some
-        (omega (arith, asked .enough, long))) in
-        omega (arith, some, value)
+        -- Past the last part all numbers answered are 0,
+        pub host-end : count ≤ p → said ≡ resultAs 0 0 0
+        host-end past =
+            said-is
+            ∙ ap (λ (t : List ℕ). ofPart (fitted t (length buffer)))
+            (parts-end table entries first second n b k entries′ first′ second′ promised list either p past)
+
+        -- and before it, where the buffer has 65,536 bytes, the value is not.
+        pub host-some : p < count → mostBytes ≤ length buffer → 0 < said .value
+        host-some below long =
+            let text : List ℕ = textOf table entries′ list n b k p in
+            let some = parts-some table entries first second n b k entries′ first′ second′ promised list either p below in
+            let value : said .value ≡ length text =
+            ap (λ (a : Answer). a .value) said-is
+            ∙ ap (λ o. ofPart o .value) (fitted-written text (length buffer) some (omega (arith, asked .enough, long))) in
+            omega (arith, some, value)
 
   -- The call refused, and not since a lent list is too short: its line is the listing.
   refused-as : ¬ (answer .refusal ≡ 0) → B.Refused (answer .refusal) (answer .place) ≡ reduceOf table (roomFor (length entries)) first second

@@ -44,7 +44,7 @@ use Rattle.partition.specs.declared.calls.Judgement.the-variants as J
 use Rattle.listing.specs.Printed.{refusalLine}
 use Rattle.listing.specs.Parts.{textFrom, textOf, fitted, bufferAfter, partFrom, partOf}
 use Rattle.listing.specs.declared.parts.Part.the-variants as T
-use Rattle.terkwabu.specs.Answers.{refusedAs, resultAs, shortAs, ofGraph, ofPlacing, ofReduction, oneIf, ofPairing, ofJudgement, ofPart}
+use Rattle.terkwabu.specs.Answers.{refusedAs, resultAs, ofGraph, ofPlacing, ofReduction, ofPairing, ofJudgement, ofPart}
 use Rattle.terkwabu.specs.Calls.{GraphCall, PlaceCall, ReduceCall, PairCall, JudgeCall, PartCall, LineCall}
 use Rattle.terkwabu.specs.Rows.{Stopped, row-1-13, row-14, row-15, Held, ByList, stopped, went-on}
 use Rattle.terkwabu.specs.Rows.{GraphRows, graph-result, PlaceRows, place-row-20, place-row-21, place-result}
@@ -87,20 +87,25 @@ module _ (table entries entries′ : List ℕ) (held : entries′ ≡ entriesAft
       by-outcome (refused n p) o = inl (n, p, early n p o, sym (ap graphOf o))
       by-outcome (cut found) o =
           let (b, some) = cut-graph table room found o in
-          inl (15, 0,
-          row-15 (b .read) (b .meets-first) some (cut-order table room found (b .model) (b .read) o) (held ∙ ap (entriesAfter entries) o),
-          sym (ap graphOf o))
+          inl (
+            15,
+            0,
+            row-15 (b .read) (b .meets-first) some (cut-order table room found (b .model) (b .read) o) (held ∙ ap (entriesAfter entries) o),
+            sym (ap graphOf o),
+          )
       by-outcome (whole found) o =
           let (b, all, fits) = whole-graph table room found o in
-          inr (record { model = b .model; read = b .read; found = found; out = o },
-          record {
-            read = b .read;
-            meets-first = b .meets-first;
-            all = all;
-            in-order = whole-order table room found (b .model) (b .read) o;
-            fits = fits;
-            entries-are = held ∙ ap (entriesAfter entries) o;
-          })
+          inr (
+            record { model = b .model; read = b .read; found = found; out = o },
+            record {
+              read = b .read;
+              meets-first = b .meets-first;
+              all = all;
+              in-order = whole-order table room found (b .model) (b .read) o;
+              fits = fits;
+              entries-are = held ∙ ap (entriesAfter entries) o;
+            },
+          )
 
   -- A call that goes on after the graph call: its answer is of one of them, or of its own rows.
   module _ {A : Type 0} (refuse : ℕ → ℕ → A) (go : Model → List Region → A) (of : A → Answer) (unchanged : Type 0)
@@ -181,7 +186,8 @@ place-own table cap s four a = by-taken (isNotTaken (a .model) s) refl
     by-number taken is false e =
         let above = ltb-false number (length (a .found)) e in
         place-row-21 taken is (λ r.
-        let below = call-placed table cap (a .found) (a .out) (a .model) (a .read) (ownState (a .model) s) .1 r in omega (arith, below, above))
+        let below = call-placed table cap (a .found) (a .out) (a .model) (a .read) (ownState (a .model) s) .1 r in
+        omega (arith, below, above))
 
     by-taken : (b : Bool) → isNotTaken (a .model) s ≡ b
         → PlaceRows s (a .model) (a .found) (ofPlacing (cond b (P.Refused 20 0) (numbered (length (a .found)) number)))
@@ -194,7 +200,8 @@ pub place-rows : (table entries : List ℕ) (location v₀ v₁ v₂ v₃ denomi
     → ByList table entries entries′ Unit (PlaceRows (asked location v₀ v₁ v₂ v₃ denominator)) answer
 place-rows table entries location v₀ v₁ v₂ v₃ denominator answer entries′ call =
     let s : State = asked location v₀ v₁ v₂ v₃ denominator in
-    by-list table entries entries′ (call .entries-are) P.Refused (placedIn s) ofPlacing Unit (PlaceRows s) (λ n p. refl) answer (call .answer-is ∙ ap ofPlacing (place-after table (roomFor (length entries)) s)) (λ n p e. tt)
+    by-list table entries entries′ (call .entries-are) P.Refused (placedIn s) ofPlacing Unit (PlaceRows s) (λ n p. refl) answer
+    (call .answer-is ∙ ap ofPlacing (place-after table (roomFor (length entries)) s)) (λ n p e. tt)
     (place-own table (roomFor (length entries)) s refl)
 
 -- ---- The partition call
@@ -222,8 +229,8 @@ module _ (table entries first second : List ℕ) where
   kept-list : (list : List ℕ) (n p : ℕ) → G.Refused n p ≡ graphOf (outcomeOf table lent) → listAfter table lent first second list ≡ list
   unfolding listAfter
   kept-list list n p e =
-      sym (on-refused (λ number place. list) (λ m found. cond (isShort (length found) first second) list (numberedIn list m found)) table lent
-      n p e)
+      sym (on-refused (λ number place. list) (λ m found. cond (isShort (length found) first second) list (numberedIn list m found)) table
+      lent n p e)
 
   after-list : (list : List ℕ) (a : Accepted table lent) → listAfter table lent first second list
       ≡ cond (isShort (length (a .found)) first second) list (numberedIn list (a .model) (a .found))
@@ -238,7 +245,8 @@ module _ (table entries first second : List ℕ) where
       by-length (isShort (length (a .found)) first second) refl (f ∙ after-list first a) (s ∙ after-list second a)
     where
       by-length : (b : Bool) → isShort (length (a .found)) first second ≡ b
-          → first′ ≡ cond b first (numberedIn first (a .model) (a .found)) → second′ ≡ cond b second (numberedIn second (a .model) (a .found))
+          → first′ ≡ cond b first (numberedIn first (a .model) (a .found))
+          → second′ ≡ cond b second (numberedIn second (a .model) (a .found))
           → ReduceRows first second first′ second′ (a .model) (a .found)
           (ofReduction (cond b (B.Refused 16 0)
           (B.Blocks (length (a .found)) (blockCount (graph (a .model) (a .found)) (rounds (graph (a .model) (a .found))))
@@ -361,13 +369,13 @@ judge-rows table entries proposal answer entries′ call =
 pub judge-iff : (table entries proposal : List ℕ) (answer : Answer) (entries′ : List ℕ) → JudgeCall table entries proposal answer entries′
     → (a : Accepted table (roomFor (length entries)))
     → (answer ≡ resultAs 1 0 0) ↔ ((length proposal ≡ length (a .found)) × Proposed (a .model) (a .found) proposal)
+unfolding judgeOf
 judge-iff table entries proposal answer entries′ call a =
     let own = judge-own table (roomFor (length entries)) proposal a in
     let is : answer ≡ ofJudgement (judgedOf proposal (a .model) (a .found)) = judge-is in
     (λ e. accepted-row (subst (JudgeRows proposal (a .model) (a .found)) (sym is ∙ e) own), λ t. is ∙ judged-one t)
   where
     judge-is : answer ≡ ofJudgement (judgedOf proposal (a .model) (a .found))
-    unfolding judgeOf
     judge-is = call .answer-is ∙ ap ofJudgement (on-accepted J.Refused (judgedOf proposal) table (roomFor (length entries)) a)
 
     accepted-row : JudgeRows proposal (a .model) (a .found) (resultAs 1 0 0)
@@ -382,7 +390,8 @@ judge-iff table entries proposal answer entries′ call a =
 
 -- ---- Text in a buffer
 
-given : (text buffer buffer′ : List ℕ) → buffer′ ≡ bufferAfter text buffer → Given text buffer buffer′ (ofPart (fitted text (length buffer)))
+given : (text buffer buffer′ : List ℕ) → buffer′ ≡ bufferAfter text buffer
+    → Given text buffer buffer′ (ofPart (fitted text (length buffer)))
 given [] buffer buffer′ e = no-text refl (e ∙ empty (leb 0 (length buffer)))
   where
     empty : (b : Bool) → cond b buffer buffer ≡ buffer

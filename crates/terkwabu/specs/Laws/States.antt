@@ -1,6 +1,6 @@
--- From a state to its block, by what a C host sees: the state call's value is the number of the state's region in what a partition call left
--- (`place-number`); numbers of two states' regions, in either list, say whether some bisimulation over all states relates them; and so does
--- the pair call's value.
+-- From a state to its block: the state call's value is the number of the state's region in what a partition call left (`place-number`); the
+-- numbers of two states' regions, in the list that a call left, say whether some bisimulation over all states relates them
+-- (`numbers-differ`, `numbers-given`, `numbers-equal`).
 use Prim.Native.Nat.{ℕ, _<_}
 use native.Mathlib.Omega.{arith}
 use mathlib.Core.Path.{_≡_, refl, sym, _∙_, ap, subst}
@@ -11,16 +11,18 @@ use lib.ListN.{length, getD}
 use Rattle.regions.specs.Passed.{Model, Answer as Read, refusal, readTable, accepted, Region}
 use Rattle.regions.specs.Call.{roomFor}
 use Rattle.regions.specs.Entries.{regionAt}
+use Rattle.regions.specs.Explore.{listed}
 use Rattle.regions.specs.Graph.{first, Reached}
 use Rattle.states.specs.States.{State, IsState}
 use Rattle.states.specs.Alike.{regionIn}
 use Rattle.states.specs.StateCall.{asked, ownState}
 use Rattle.states.specs.Laws.Placed.{own-state}
 use Rattle.bisimulation.specs.Bisimulations.{Bisimulation}
-use Rattle.partition.specs.Instances.{states, statesZero}
+use Rattle.partition.specs.Instances.{states, statesZero, blockIn}
 use Rattle.partition.specs.Left.{Left}
 use Rattle.partition.specs.Laws.Success.{one-found}
-use Rattle.partition.specs.Laws.LeftStates.{left-entry, left-lies, left-lies-one, left-given, left-equal, left-differ, left-zero}
+use Rattle.partition.specs.Laws.LeftStates.{left-entry, left-lies, left-lies-one, left-number}
+use Rattle.partition.specs.Laws.LeftStates.{left-given, left-equal, left-differ, left-zero}
 use Rattle.terkwabu.specs.Calls.{PlaceCall}
 use Rattle.terkwabu.specs.Laws.Bridges.{place-found}
 use Rattle.terkwabu.specs.declared.answer.Answer.{Answer}
@@ -61,6 +63,16 @@ module _ {table : List ℕ} {cap n b k : ℕ} {entries list : List ℕ} (left : 
       subst (λ (x : Model). (s : State) (i : ℕ) → i < n → regionAt entries i ≡ regionIn x s → Reached x (regionIn x s))
       (model-one left m read) (λ s i h e. left-lies left s .1 (i, (h, e)))
 
+  -- Its number in the list is the state's block.
+  pub numbers-block : (s : State) (i : ℕ) → i < n → regionAt entries i ≡ regionIn m s → getD list i 0 ≡ blockIn m (listed entries n) s
+  numbers-block =
+      subst
+      (λ (x : Model).
+      (s : State) (i : ℕ) → i < n → regionAt entries i ≡ regionIn x s → getD list i 0 ≡ blockIn x (listed entries n) s)
+      (model-one left m read)
+      (λ s i h e.
+      left-number left s i (h, e) ∙ ap (λ (found : List Region). blockIn (left .from .model) found s) (sym (left .entries-hold)))
+
   module _ (s t : State) (is : IsState m s) (it : IsState m t) (i j : ℕ) (hi : i < n) (at : regionAt entries i ≡ regionIn m s)
       (hj : j < n) (bt : regionAt entries j ≡ regionIn m t) where
     -- The numbers of their regions differ exactly when no bisimulation over all states relates the two.
@@ -84,7 +96,7 @@ module _ {table : List ℕ} {cap n b k : ℕ} {entries list : List ℕ} (left : 
 
     -- Where one relates the two, at any level, they are equal.
     pub numbers-equal {ℓ} : (R : State → State → Type ℓ) → Bisimulation (states m) R → R s t → getD list i 0 ≡ getD list j 0
-    numbers-equal {ℓ} =
+    numbers-equal =
         subst
         (λ (x : Model).
         IsState x s → IsState x t → regionAt entries i ≡ regionIn x s → regionAt entries j ≡ regionIn x t
@@ -104,8 +116,8 @@ module _ {table : List ℕ} {cap n b k : ℕ} {entries list : List ℕ} (left : 
 
 -- ---- The state call and what a partition call left
 
--- Where the state call answers a number and the partition call succeeds, whatever was lent to each: it takes a state of the model, and entry
--- `value` of what the partition call left, and no other, is the state's region. So number `value` of the list is its block.
+-- Where the state call answers a number and the partition call succeeds, whatever was lent to each: it takes a state of the model, and
+-- entry `value` of what the partition call left is the state's region. So number `value` of the list is its block (`numbers-block`).
 pub place-number : {table : List ℕ} {cap n b k : ℕ} {entries list : List ℕ} (left : Left table cap n b k entries list)
     → (entries₁ : List ℕ) (location v₀ v₁ v₂ v₃ denominator : ℕ) (answer : Answer) (entries₁′ : List ℕ)
     → PlaceCall table entries₁ location v₀ v₁ v₂ v₃ denominator answer entries₁′ → answer .refusal ≡ 0

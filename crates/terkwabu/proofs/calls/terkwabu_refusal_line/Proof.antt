@@ -19,8 +19,8 @@ returns c =
     let done = c .before .before .before .refusal-line .ensures in
     record {
       answer-is = c .of-part .ensures ∙ ap ofPart (done .0);
-      buffer-is = done .1;
-      enough = done .2;
+      buffer-is = done .1 .0;
+      enough = done .1 .1;
     }
 
 pub terkwabu-refusal-line-spec : {M : Type 1} → statement M
