@@ -4,8 +4,10 @@
 --   Rows     the answer of each call is by document 01's list
 --   States   from a state to its block: what the state call, the partition call and the pair call say together
 --   Listing  what the part calls of a host left in its buffers, joined, is the listing
+--   Example  the demands at document 01's printed model: their hypotheses are met
 pub mod Host
 pub mod Bridges
 pub mod Rows
 pub mod States
 pub mod Listing
+pub mod Example

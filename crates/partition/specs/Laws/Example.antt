@@ -68,23 +68,33 @@ places : (placeIn printedModel printedRegions clockAtZero ≡ 0) × (placeIn pri
 unfolding largestConstant boundsOf stateCell placed sameRegion numberIn
 places = (refl, refl, refl)
 
+pub printed-states : IsState printedModel clockAtZero × IsState printedModel clockAtHalf × IsState printedModel clockAtOne
+printed-states = (is-state 0 1 (omega arith), is-state 1 2 (omega arith), is-state 1 1 (omega arith))
+
 of-graph : (s : State) → placeIn printedModel printedRegions s < 5 → Reached printedModel (regionIn printedModel s)
 of-graph s h = call-placed printed 5 printedRegions printed-whole printedModel printed-read s .0 h
+
+-- All three lie in regions of the graph.
+pub printed-reached : Reached printedModel (regionIn printedModel clockAtZero) × Reached printedModel (regionIn printedModel clockAtHalf)
+    × Reached printedModel (regionIn printedModel clockAtOne)
+printed-reached = (
+  of-graph clockAtZero (omega (arith, places .0)),
+  of-graph clockAtHalf (omega (arith, places .1)),
+  of-graph clockAtOne (omega (arith, places .2)),
+)
 
 -- A bisimulation over all states relates the clock at 0 and at 1/2.
 pub printed-related : (R : State → State → Type 0) × Bisimulation (states printedModel) R × R clockAtZero clockAtHalf
 printed-related =
     related-states printed 5 printedRegions printed-whole printedModel printed-read clockAtZero clockAtHalf
-    (is-state 0 1 (omega arith)) (is-state 1 2 (omega arith))
-    (of-graph clockAtZero (omega (arith, places .0))) (of-graph clockAtHalf (omega (arith, places .1)))
+    (printed-states .0) (printed-states .1) (printed-reached .0) (printed-reached .1)
     (rw (printed-numbers, places .0, places .1) refl)
 
 -- None, at any level, relates the clock at 0 and at 1.
 pub printed-parted {ℓ} : (R : State → State → Type ℓ) → Bisimulation (states printedModel) R → ¬ R clockAtZero clockAtOne
 printed-parted R w =
     states-differ-any printed 5 printedRegions printed-whole printedModel printed-read clockAtZero clockAtOne
-    (is-state 0 1 (omega arith)) (is-state 1 1 (omega arith))
-    (of-graph clockAtZero (omega (arith, places .0))) (of-graph clockAtOne (omega (arith, places .2)))
+    (printed-states .0) (printed-states .2) (printed-reached .0) (printed-reached .2)
     (λ e. let z : _≡_ {A = ℕ} 0 1 = rw (printed-numbers, places .0, places .2) at e in omega arith) R w
 
 -- ---- The calls on it, with 5 entries and two lists of 5 numbers
@@ -92,7 +102,7 @@ printed-parted R w =
 pub printed-accepted : Accepted printed 5
 printed-accepted = record { model = printedModel; read = printed-read; found = printedRegions; out = printed-whole }
 
-abbrev fiveZeros : List ℕ
+abbrev pub fiveZeros : List ℕ
 fiveZeros = 0 ∷ 0 ∷ 0 ∷ 0 ∷ 0 ∷ []
 
 counts : (blockCount (graph printedModel printedRegions) (rounds (graph printedModel printedRegions)) ≡ 3)

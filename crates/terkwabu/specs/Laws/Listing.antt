@@ -86,7 +86,8 @@ module _ (table entries first second : List ℕ) (answer : Answer) (entries′ f
             omega (arith, some, value)
 
   -- The call refused, and not since a lent list is too short: its line is the listing.
-  refused-as : ¬ (answer .refusal ≡ 0) → B.Refused (answer .refusal) (answer .place) ≡ reduceOf table (roomFor (length entries)) first second
+  refused-as : ¬ (answer .refusal ≡ 0)
+      → B.Refused (answer .refusal) (answer .place) ≡ reduceOf table (roomFor (length entries)) first second
   refused-as some = by-answer (reduceOf table (roomFor (length entries)) first second) refl
     where
       by-answer : (o : Reduction) → reduceOf table (roomFor (length entries)) first second ≡ o
@@ -100,7 +101,8 @@ module _ (table entries first second : List ℕ) (answer : Answer) (entries′ f
       → take (said .value) buffer′ ≡ listing table (roomFor (length entries))
   host-refused some other buffer said buffer′ line long =
       ap (λ (j : ℕ). take j buffer′)
-      (ap (λ (a : Answer). a .value) (line .answer-is) ∙ value-part (fitted (refusalLine (answer .refusal) (answer .place)) (length buffer)))
+      (ap (λ (a : Answer). a .value) (line .answer-is)
+      ∙ value-part (fitted (refusalLine (answer .refusal) (answer .place)) (length buffer)))
       ∙ refused-joined table entries first second (answer .refusal) (answer .place) entries′ first′ second′
       (record { answer-is = refused-as some; entries-are = call .entries-are; first-is = call .first-is; second-is = call .second-is })
       other buffer (fitted (refusalLine (answer .refusal) (answer .place)) (length buffer)) buffer′ refl (line .buffer-is)
