@@ -280,16 +280,13 @@ fn is_roomy(names: &[u16], index: &[u16], numbers: &[u32], memo: &[u16], items: 
 }
 
 // Gives each item of a list the id of its signature over names. In a closed structure, with items below the count and right ways along the
-// delays,
-// ids are equal exactly for items that the next round relates (`pass-tells`). An item whose lists find no room in the dictionary gets
-// 65,535, and
-// is related to none that has an id (`pass-apart`); the first item always gets one (`pass-first`).
+// delays, ids are equal exactly for items that the next round relates (`pass-tells`). An item whose lists find no room in the dictionary
+// gets 65,535, and is related to none that has an id (`pass-apart`); the first item always gets one (`pass-first`).
 //
 // names has two halves: the names of the items, and for each item where to go on along its delays. index, numbers and memo are work memory
-// of
-// INDEX, NUMBERS and MEMO numbers: what stood there does not matter, and what stands there afterwards is unspecified. If they have other
-// sizes,
-// there are more than 4,096 items in the list or more than 8,192 numbers in names, the items stay as they are and the answer is false.
+// of INDEX, NUMBERS and MEMO numbers: what stood there does not matter, and what stands there afterwards is a choice of the code, which
+// nothing may rest on. If they have other sizes, there are more than 4,096 items in the list or more than 8,192 numbers in names, all that
+// was lent stays as it is and the answer is false.
 pub fn sign(
     graph: &[u16],
     edges: &[u32],
@@ -303,7 +300,8 @@ pub fn sign(
         (now (items .entry))) ⌝ }
     ensures { λ r. ⌜ (r ≡ true → Passed (now (graph .entry)) (now (edges .entry)) (now (names .entry)) (now (items .entry))
         (now (items .exit)))
-        × (r ≡ false → now (items .exit) ≡ now (items .entry)) ⌝ }
+        × (r ≡ false → (now (items .exit) ≡ now (items .entry)) × (now (index .exit) ≡ now (index .entry))
+        × (now (numbers .exit) ≡ now (numbers .entry)) × (now (memo .exit) ≡ now (memo .entry))) ⌝ }
 {
     if !is_roomy(names, index, numbers, memo, items) {
         return false;

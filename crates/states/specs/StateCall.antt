@@ -20,8 +20,8 @@ abbrev pub asked : (location v₀ v₁ v₂ v₃ d : ℕ) → State
 asked location v₀ v₁ v₂ v₃ d = record { location = location; values = v₀ ∷ v₁ ∷ v₂ ∷ v₃ ∷ []; denominator = d }
 
 -- The largest denominator that the call takes.
-abbrev pub mostParts : ℕ
-mostParts = 1000000
+abbrev pub mostDenominator : ℕ
+mostDenominator = 1000000
 
 -- "A clock beyond n is not 0", among the values from clock i on.
 abbrev pub strays : (n i : ℕ) → List ℕ → Bool
@@ -33,7 +33,7 @@ strays n i (v ∷ vs) = (leb n i && not (eqb v 0)) || strays n (suc i) vs
 unfoldable pub isNotTaken : Model → State → Bool
 isNotTaken m s =
     leb (m .locations) (s .location)
-    || (eqb (s .denominator) 0 || (ltb mostParts (s .denominator) || strays (m .clocks) 0 (s .values)))
+    || (eqb (s .denominator) 0 || (ltb mostDenominator (s .denominator) || strays (m .clocks) 0 (s .values)))
 
 -- The state that is asked for: the call takes four values, and the model has n clocks.
 unfoldable pub ownState : Model → State → State

@@ -17,7 +17,7 @@ ghost use Rattle.regions.specs.Call.{roomFor, fromAnswer, outcomeOf, entriesAft
 ghost use Rattle.states.specs.States.{State};
 ghost use Rattle.states.specs.Placing.{placed};
 ghost use Rattle.regions.specs.View.{numberIn};
-ghost use Rattle.states.specs.StateCall.{asked, mostParts, strays, isNotTaken, numbered, placedAmong, placeOf};
+ghost use Rattle.states.specs.StateCall.{asked, mostDenominator, strays, isNotTaken, numbered, placedAmong, placeOf};
 ghost use Rattle.states.specs.declared.states.Placing.the-variants.{Refused};
 ghost use Rattle.states.specs.Spots.{valueAt, SpotIs, SpotsAre, spotWholes, spotRanks, freshCount};
 use clocks::Bounds;
@@ -60,7 +60,7 @@ pub(crate) struct Spots {
 
 // Clock i at v/d. A clock beyond the count takes no part: it counts as over.
 fn spot_of(bounds: Bounds, i: usize, v: u64, d: u64) -> Spot
-    requires { ⌜ (0 < d) × (d ≤ mostParts) ⌝ }
+    requires { ⌜ (0 < d) × (d ≤ mostDenominator) ⌝ }
     ensures { λ r. ⌜ SpotIs r (valueAt bounds d i v) ⌝ }
 {
     let count = bounds.count as usize;
@@ -85,7 +85,7 @@ fn spot_of(bounds: Bounds, i: usize, v: u64, d: u64) -> Spot
 }
 
 fn spots_of(bounds: Bounds, v0: u64, v1: u64, v2: u64, v3: u64, d: u64) -> Spots
-    requires { ⌜ (0 < d) × (d ≤ mostParts) ⌝ }
+    requires { ⌜ (0 < d) × (d ≤ mostDenominator) ⌝ }
     ensures { λ r. ⌜ SpotsAre r (valueAt bounds d 0 v0) (valueAt bounds d 1 v1) (valueAt bounds d 2 v2) (valueAt bounds d 3 v3) ⌝ }
 {
     Spots {
@@ -160,7 +160,7 @@ fn rank_bytes(count: u8, s: Spots) -> [u8; 4]
 
 // The region of a state.
 fn region_at(bounds: Bounds, location: u8, v0: u64, v1: u64, v2: u64, v3: u64, d: u64) -> Region
-    requires { ⌜ (0 < d) × (d ≤ mostParts) ⌝ }
+    requires { ⌜ (0 < d) × (d ≤ mostDenominator) ⌝ }
     ensures { λ r. ⌜ r ≡ placed bounds (asked location v0 v1 v2 v3 d) ⌝ }
 {
     let count = bounds.count;
@@ -194,7 +194,7 @@ fn some_stray(n: u8, v0: u64, v1: u64, v2: u64, v3: u64) -> bool
 fn is_not_taken(shape: Shape, location: u64, v0: u64, v1: u64, v2: u64, v3: u64, d: u64) -> bool
     ensures { λ r. ⌜ ((m : Model) → shape .locations ≡ m .locations → shape .clocks ≡ m .clocks
         → r ≡ isNotTaken m (asked location v0 v1 v2 v3 d)) ⌝ }
-    ensures { λ r. ⌜ (r ≡ false → (location < 256) × (0 < d) × (d ≤ mostParts)) ⌝ }
+    ensures { λ r. ⌜ (r ≡ false → (location < 256) × (0 < d) × (d ≤ mostDenominator)) ⌝ }
 {
     if (shape.locations as u64) <= location {
         return true;

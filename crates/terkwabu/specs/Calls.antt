@@ -1,6 +1,7 @@
 -- What a C host sees of each exported call: what was lent, what was answered, and what the lent memory then holds (with a stroke). Each
--- record is, as it stands, the contract of the function of src/calls.rt that is named with it, for all bytes, numbers and lent lengths.
--- What is only read (the table, a proposal, a list to print from) stays as it was.
+-- record is, as it stands, the contract of the function of src/calls.rt that is named with it, for all bytes, numbers and lent lengths. A
+-- contract also says that the call returns. What is only read (the table, a proposal, a list to print from) is lent as a slice that cannot
+-- be written, so it stays as it was.
 use Prim.Native.Nat.{ℕ, _≤_}
 use mathlib.Core.Path.{_≡_}
 use mathlib.Core.List.{List}

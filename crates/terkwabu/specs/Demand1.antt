@@ -1,9 +1,13 @@
 -- Demand 1: "The answer to every call, on any bytes and numbers, is the first refusal that document 01's list finds or, where it finds
 -- none, the result; every lent table then holds what document 01 says." One closed statement, and its theorem.
 --
--- A premise `GraphCall table entries answer entries′` (Calls) says that the exported function was called with this table and these entries,
--- answered `answer`, and left `entries′`: it is the function's contract, for all inputs. What is said then is in Rows: the list row by row.
--- `resultAs` and `refusedAs` (Answers) are the five numbers answered. (`terkwabu_version` takes nothing; its contract is its number.)
+-- A premise `GraphCall table entries answer entries′` (Calls) is what the contract of terkwabu_graph says of every call with this table and
+-- these entries that answers `answer` and leaves entries′. With this file five say what is claimed:
+--   Rows                          the list as each call goes through it, and what the lent memory then holds
+--   Answers                       `refusedAs`, `resultAs`: the five numbers answered
+--   Refusals, Reading (of table)  rows 1 to 13
+--   Order (of regions)            all regions that are reached, and their order
+-- (terkwabu_version takes nothing, and answers the version.)
 use Prim.Native.Nat.{ℕ}
 use mathlib.Core.Path.{_≡_}
 use mathlib.Core.List.{List}

@@ -3,28 +3,30 @@
 -- clock values, does so under the automaton's own rules. A proposed partition is accepted exactly when it is a probabilistic
 -- time-abstracting bisimulation of the region graph." One closed statement, and its theorem. Document 01 stands as document 02 amends it.
 --
--- A premise `ReduceCall table entries first second answer entries′ first′ second′` (Calls) says that the exported function was called with
--- these, answered `answer`, and left entries′, first′ and second′: it is the function's contract, for all inputs. `answer .refusal ≡ 0`
--- says that it refused nothing. The words of document 01 are in
+-- A premise `ReduceCall table entries first second answer entries′ first′ second′` (Calls) is what the contract of terkwabu_reduce says of
+-- every call with these that answers `answer` and leaves entries′, first′ and second′. `answer .refusal ≡ 0` says that it refused nothing,
+-- and `readTable table ≡ accepted m` that refusals 1 to 13 find nothing and m is the model that was read. With this file five say what is
+-- claimed:
 --   Graph, Order (of regions)         what a region leads to, what is reached; all regions, and their order
---   States, Alike (of states)         states with fractions as clock values, and how they move; the region of a state
 --   Bisimulations (of bisimulation)   bisimulations and rounds
 --   Instances (of partition)          `graph m found`: the region graph as a structure, where found are the regions by number
 --   Printed (of listing)              the listing
+-- States and their regions are those of Demand3. What these files rest on is named in their first lines.
 use Prim.Native.Nat.{ℕ, suc, _≤_, _<_}
 use mathlib.Core.Path.{_≡_, sym, ap₂, subst}
 use mathlib.Core.Logic.{_↔_, _⊎_}
 use mathlib.Core.List.{List}
 use lib.ListN.{length, getD, take}
 use Rattle.regions.specs.Passed.{Model, readTable, accepted, Region}
-use Rattle.regions.specs.Graph.{Reached}
+use Rattle.regions.specs.Entries.{regionAt}
+use Rattle.regions.specs.Graph.{DelaysTo, Reached}
 use Rattle.regions.specs.Order.{AllRegions, InOrder}
 use Rattle.regions.specs.Call.{roomFor}
 use Rattle.regions.specs.Explore.{listed}
 use Rattle.regions.specs.Laws.Order.{order-one}
 use Rattle.states.specs.States.{State, IsState}
-use Rattle.states.specs.Alike.{regionIn, RegionLeads, StateLeads}
-use Rattle.states.specs.Laws.RegionTheorem.{reached-state, each-state-leads}
+use Rattle.states.specs.Alike.{regionIn, LeadsAlike, RegionLeads, StateLeads}
+use Rattle.states.specs.Laws.RegionTheorem.{region-theorem, reached-state, each-state-leads}
 use Rattle.bisimulation.specs.Structures.{Structure}
 use Rattle.bisimulation.specs.Bisimulations.{Bisimulation, Round}
 use Rattle.bisimulation.specs.Finite.{structure}
@@ -38,7 +40,8 @@ use Rattle.listing.specs.Printed.{listing}
 use Rattle.listing.specs.Parts.{partCount, mostBytes}
 use Rattle.terkwabu.specs.Answers.{resultAs}
 use Rattle.terkwabu.specs.Calls.{GraphCall, ReduceCall, JudgeCall, PartCall, LineCall}
-use Rattle.terkwabu.specs.Laws.Bridges.{graph-accepted, graph-value, graph-entries, graph-all, graph-order, first-left, second-left}
+use Rattle.terkwabu.specs.Laws.Bridges.{graph-accepted, graph-value, graph-entries, graph-all, graph-order}
+use Rattle.terkwabu.specs.Laws.Bridges.{graph-delays, first-left, second-left}
 use Rattle.terkwabu.specs.Laws.Rows.{judge-iff}
 use Rattle.terkwabu.specs.Laws.States.{read-one, model-one}
 use Rattle.terkwabu.specs.Laws.Listing.{host-joined, host-refused}
@@ -72,10 +75,17 @@ pub record Demand2 : Type 1 where
       → (m : Model) × (readTable table ≡ accepted m)
       × AllRegions m (listed entries′ (answer .value)) × InOrder m (listed entries′ (answer .value))
       × ((other : List Region) → InOrder m other → other ≡ listed entries′ (answer .value))
-  -- A region of the graph leads by some delay or edge to a region exactly when each of its states does; and it has a state.
+  -- A region of the graph leads by some delay or edge to a region exactly when each of its states does. More than that: it leads as each of
+  -- its states does, by delay to the same regions, and by each branch of each edge to the same region. And it has a state.
   pub leads : (table : List ℕ) (m : Model) → readTable table ≡ accepted m → (r : Region) → Reached m r
       → ((q : Region) → RegionLeads m r q ↔ ((s : State) → IsState m s → regionIn m s ≡ r → StateLeads m s q))
+      × ((s : State) → IsState m s → regionIn m s ≡ r → LeadsAlike m r s)
       × ((s : State) × IsState m s × (regionIn m s ≡ r))
+  -- The structure that the blocks are of has, by number, the delays of the regions.
+  pub delays : (table entries : List ℕ) (answer : Answer) (entries′ : List ℕ)
+      → GraphCall table entries answer entries′ → answer .refusal ≡ 0
+      → (m : Model) → readTable table ≡ accepted m → (x y : ℕ) → x < answer .value → y < answer .value
+      → graphIn m entries′ (answer .value) .Delay x y ↔ DelaysTo m (regionAt entries′ x) (regionAt entries′ y)
   -- The blocks, their numbers, their count and the count of rounds: in both lists, of the graph in the entries.
   pub blocks : (table entries first second : List ℕ) (answer : Answer) (entries′ first′ second′ : List ℕ)
       → ReduceCall table entries first second answer entries′ first′ second′ → answer .refusal ≡ 0
@@ -160,7 +170,17 @@ demand-2 =
           let a = graph-accepted table entries answer entries′ call none in
           let order = graph-order table entries answer entries′ call none in
           (a .model, a .read, graph-all table entries answer entries′ call none, order, λ other o. order-one (a .model) other _ o order);
-      leads = λ table m read r h. (each-state-leads table m read r h, reached-state table m read r h);
+      leads = λ table m read r h. (
+        each-state-leads table m read r h,
+        λ s is e. region-theorem table m read s is r e,
+        reached-state table m read r h,
+      );
+      delays = λ table entries answer entries′ call none m read x y hx hy.
+          let a = graph-accepted table entries answer entries′ call none in
+          subst
+          (λ (k : Model).
+          graphIn k entries′ (answer .value) .Delay x y ↔ DelaysTo k (regionAt entries′ x) (regionAt entries′ y))
+          (read-one table (a .model) m (a .read) read) (graph-delays table entries answer entries′ call none x y hx hy);
       blocks = λ table entries first second answer entries′ first′ second′ call none.
           let one = first-left table entries first second answer entries′ first′ second′ call none in
           let two = second-left table entries first second answer entries′ first′ second′ call none in

@@ -4,23 +4,24 @@
 -- that list finds none for the pair call on these two regions, the call says in exactly the same cases that they share no block." One
 -- closed statement, and its theorem; and the half that holds for relations at every level.
 --
--- A premise `ReduceCall table entries first second answer entries′ first′ second′` (Calls) says that the exported function was called with
--- these, answered `answer`, and left entries′, first′ and second′: it is the function's contract, for all inputs. `answer .refusal ≡ 0`
--- says that the list found no refusal (Demand1). The words of document 01 are in
---   States (of states)                states with fractions as clock values, and how they move
---   Alike, Placing (of states)        `regionIn m s`: the region of a state
---   Graph (of regions)                `Reached`: the regions of the graph
+-- A premise `ReduceCall table entries first second answer entries′ first′ second′` (Calls) is what the contract of terkwabu_reduce says of
+-- every call with these that answers `answer` and leaves entries′, first′ and second′. `answer .refusal ≡ 0` says that the list found no
+-- refusal (Demand1), so that the model is accepted; `readTable table ≡ accepted m` says which model it is. With this file five say what is
+-- claimed:
+--   Demand2                           `Blocks`: document 01's block numbers
+--   States, Placing (of states)       states with fractions as clock values, and how they move; the region of a state (`regionIn`)
 --   Bisimulations (of bisimulation)   bisimulations over any structure
 --   Instances (of partition)          `states m`: all states of the model as a structure
 use Prim.Native.Nat.{ℕ, _<_}
 use mathlib.Core.Path.{_≡_}
-use mathlib.Core.Logic.{_↔_, Iff·trans}
+use mathlib.Core.Logic.{_↔_, _⊎_, ⊎-elim, Iff·trans}
 use mathlib.Core.List.{List}
 use lib.ListN.{getD}
 use Rattle.regions.specs.Passed.{Model, readTable, accepted, Region}
 use Rattle.regions.specs.Entries.{regionAt}
 use Rattle.regions.specs.Explore.{listed}
 use Rattle.regions.specs.Graph.{Reached}
+use Rattle.regions.specs.Order.{AllRegions, InOrder}
 use Rattle.states.specs.States.{State, IsState}
 use Rattle.states.specs.Alike.{regionIn}
 use Rattle.states.specs.StateCall.{asked, ownState}
@@ -43,15 +44,16 @@ IsNumber entries n r i = (i < n) × (regionAt entries i ≡ r) × ((j : ℕ) →
 abbrev pub stateAsked : Model → (location v₀ v₁ v₂ v₃ denominator : ℕ) → State
 stateAsked m location v₀ v₁ v₂ v₃ denominator = ownState m (asked location v₀ v₁ v₂ v₃ denominator)
 
--- No bisimulation over a structure of states relates a and b.
+-- No bisimulation over a structure of states relates a and b. (Of Type 0 here; relations at every level are in `Demand3At`.)
 abbrev pub NoneRelates : Structure State → State → State → Type 1
 NoneRelates S a b = (R : State → State → Type 0) → Bisimulation S R → ¬ R a b
 
 pub record Demand3 : Type 1 where
-  -- Both lists hold document 01's block numbers.
+  -- Both lists hold document 01's block numbers, of the graph that stands in the entries.
   pub lists : (table entries first second : List ℕ) (answer : Answer) (entries′ first′ second′ : List ℕ)
       → ReduceCall table entries first second answer entries′ first′ second′ → answer .refusal ≡ 0
       → (m : Model) × (readTable table ≡ accepted m)
+      × AllRegions m (listed entries′ (answer .value)) × InOrder m (listed entries′ (answer .value))
       × Blocks (graphIn m entries′ (answer .value)) (answer .value) (answer .blocks) (answer .rounds) first′
       × Blocks (graphIn m entries′ (answer .value)) (answer .value) (answer .blocks) (answer .rounds) second′
   -- The two states lie in regions i and j, and the numbers of these differ, in either list, exactly when no bisimulation over all states
@@ -89,13 +91,14 @@ pub record Demand3 : Type 1 where
       × (regionAt entries′ (answer₁ .value) ≡ regionIn m (stateAsked m location v₀ v₁ v₂ v₃ denominator))
       × (getD first′ (answer₁ .value) 0 ≡ blockIn m (listed entries′ (answer .value)) (stateAsked m location v₀ v₁ v₂ v₃ denominator))
       × (getD second′ (answer₁ .value) 0 ≡ blockIn m (listed entries′ (answer .value)) (stateAsked m location v₀ v₁ v₂ v₃ denominator))
-  -- Where the numbers are equal a bisimulation is given. (What differs not is not only not unrelated.)
+  -- Where the numbers are equal, in either list, a bisimulation over all states that relates the two is given.
   pub given : (table : List ℕ) (m : Model) → readTable table ≡ accepted m
       → (a b : State) → IsState m a → IsState m b
       → (entries first second : List ℕ) (answer : Answer) (entries′ first′ second′ : List ℕ)
       → ReduceCall table entries first second answer entries′ first′ second′ → answer .refusal ≡ 0
       → (i j : ℕ) → i < answer .value → regionAt entries′ i ≡ regionIn m a → j < answer .value → regionAt entries′ j ≡ regionIn m b
-      → getD first′ i 0 ≡ getD first′ j 0 → (R : State → State → Type 0) × Bisimulation (states m) R × R a b
+      → (getD first′ i 0 ≡ getD first′ j 0) ⊎ (getD second′ i 0 ≡ getD second′ j 0)
+      → (R : State → State → Type 0) × Bisimulation (states m) R × R a b
   -- Whether a state that breaks its invariant has a zero delay, on which document 01's words may be read either way, makes no difference.
   pub zero-delay : (table : List ℕ) (m : Model) → readTable table ≡ accepted m
       → (a b : State) → IsState m a → IsState m b → Reached m (regionIn m a) → Reached m (regionIn m b)
@@ -123,10 +126,7 @@ Demand3At =
 pub demand-3 : Demand3
 demand-3 =
     record {
-      lists = λ table entries first second answer entries′ first′ second′ call none.
-          let (m, read, all, order, one, two) =
-          demand-2 .blocks table entries first second answer entries′ first′ second′ call none in
-          (m, read, one, two);
+      lists = demand-2 .blocks;
       partition = λ table m read a b ia ib ra rb entries first second answer entries′ first′ second′ call none.
           let one = first-left table entries first second answer entries′ first′ second′ call none in
           let two = second-left table entries first second answer entries′ first′ second′ call none in
@@ -161,7 +161,9 @@ demand-3 =
           place-number one entries₁ location v₀ v₁ v₂ v₃ denominator answer₁ entries₁′ call₁ none₁ m read in
           (is, h, at, numbers-block one m read s (answer₁ .value) h at, numbers-block two m read s (answer₁ .value) h at);
       given = λ table m read a b ia ib entries first second answer entries′ first′ second′ call none i j hi at hj bt.
-          numbers-given (first-left table entries first second answer entries′ first′ second′ call none) m read a b ia ib i j hi at hj bt;
+          ⊎-elim
+          (numbers-given (first-left table entries first second answer entries′ first′ second′ call none) m read a b ia ib i j hi at hj bt)
+          (numbers-given (second-left table entries first second answer entries′ first′ second′ call none) m read a b ia ib i j hi at hj bt);
       zero-delay = λ table m read a b ia ib ra rb entries first second answer entries′ first′ second′ call none.
           let left = first-left table entries first second answer entries′ first′ second′ call none in
           let (i, hi, at, only-i) = number-of left m read a ra in

@@ -1,6 +1,7 @@
--- Document 01's refusal list as each call goes through it, and what the lent memory then holds. A constructor stands for each row, with
--- its sentence, and one for the result. Each asks that no row before it is met: "the first record meeting a condition decides, and within
--- it the lowest number"; "from 14 on the lowest number that fits the call decides".
+-- Document 01's refusal list as each call goes through it, and what the lent memory then holds. One constructor stands for rows 1 to 13, as
+-- reading the table finds them: "the first record meeting a condition decides, and within it the lowest number". From 14 on there is one
+-- for each row, with its sentence, and one for the result, and each asks that no row before it is met: "the lowest number that fits the
+-- call decides". So at most one answer fits (`only-answer` of Laws.Only).
 use Prim.Native.Nat.{ℕ, _*_, _≤_, _<_}
 use mathlib.Core.Path.{_≡_}
 use mathlib.Core.Logic.{_⊎_}

@@ -19,7 +19,7 @@ use Rattle.regions.specs.Explore.{listed}
 use Rattle.regions.specs.Entries.{Tells, maxEntries}
 use Rattle.regions.specs.Call.{Outcome, refused, cut, whole, fromAnswer, outcomeOf, graphOf, entriesAfter}
 use Rattle.regions.specs.View.{numberIn}
-use Rattle.states.specs.StateCall.{mostParts, strays, isNotTaken, ownState, numbered, placedAmong}
+use Rattle.states.specs.StateCall.{mostDenominator, strays, isNotTaken, ownState, numbered, placedAmong}
 use Rattle.regions.specs.Laws.Bytes.{listed-whole}
 use Rattle.regions.specs.Laws.Call.{whole-graph}
 use Rattle.regions.specs.declared.call.Graph.{Graph}
@@ -47,15 +47,15 @@ module _ (m : Model) (s : State) where
     no-parts e = rw (lt-leb (m .locations) (s .location) here, eq-eqb (s .denominator) 0 e) refl
 
     module _ (some : s .denominator ≡ 0 → ⊥) where
-      pub many-parts : mostParts < s .denominator → true ≡ isNotTaken m s
+      pub many-parts : mostDenominator < s .denominator → true ≡ isNotTaken m s
       unfolding isNotTaken
       many-parts h =
-          rw (lt-leb (m .locations) (s .location) here, ne-eqb (s .denominator) 0 some, lt-ltb mostParts (s .denominator) h) refl
+          rw (lt-leb (m .locations) (s .location) here, ne-eqb (s .denominator) 0 some, lt-ltb mostDenominator (s .denominator) h) refl
 
-      pub by-strays : s .denominator ≤ mostParts → strays (m .clocks) 0 (s .values) ≡ isNotTaken m s
+      pub by-strays : s .denominator ≤ mostDenominator → strays (m .clocks) 0 (s .values) ≡ isNotTaken m s
       unfolding isNotTaken
       by-strays h =
-          rw (lt-leb (m .locations) (s .location) here, ne-eqb (s .denominator) 0 some, le-ltb mostParts (s .denominator) h) refl
+          rw (lt-leb (m .locations) (s .location) here, ne-eqb (s .denominator) 0 some, le-ltb mostDenominator (s .denominator) h) refl
 
 -- ---- The region of a state depends on the values of the model's clocks alone
 

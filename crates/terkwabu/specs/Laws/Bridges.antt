@@ -8,11 +8,13 @@ use mathlib.Core.Logic.{_↔_, Iff·trans}
 use mathlib.Core.Bool.{Bool, true, false, cond}
 use lib.Dec.{ltb}
 use borrow.Author.Tests.{ltb-true}
-use mathlib.Core.List.{List}
+use mathlib.Core.List.{List, List·Memᴰ}
 use lib.ListN.{length, getD}
 use Rattle.regions.specs.Passed.{Model, Region}
 use Rattle.regions.specs.Call.{whole, roomFor, outcomeOf}
-use Rattle.regions.specs.Explore.{listed}
+use Rattle.regions.specs.Entries.{regionAt}
+use Rattle.regions.specs.Explore.{listed, listed-length, listed-at}
+use Rattle.regions.specs.Graph.{first, DelaysTo}
 use Rattle.regions.specs.Order.{AllRegions, InOrder}
 use Rattle.regions.specs.Laws.Call.{whole-graph, whole-model}
 use Rattle.regions.specs.Laws.Order.{whole-order}
@@ -25,7 +27,8 @@ use Rattle.states.specs.StateCall.{asked, isNotTaken, ownState, numbered, place
 use Rattle.states.specs.declared.states.Placing.{Placing}
 use Rattle.states.specs.declared.states.Placing.the-variants as P
 use Rattle.bisimulation.specs.Finite.{Finite, blockCount, rounds}
-use Rattle.partition.specs.Instances.{graph}
+use Rattle.partition.specs.Instances.{regionOf, graph}
+use Rattle.partition.specs.Laws.Delays.{delays-are}
 use Rattle.partition.specs.Calls.{Accepted, reduceOf, pairOf}
 use Rattle.partition.specs.Promises.{Reduced, Paired}
 use Rattle.partition.specs.Left.{Left}
@@ -78,6 +81,27 @@ module _ (table entries : List ℕ) (answer : Answer) (entries′ : List ℕ) (c
       subst (InOrder (graph-accepted .model)) (sym graph-entries)
       (whole-order table (roomFor (length entries)) (graph-accepted .found) (graph-accepted .model) (graph-accepted .read)
       (graph-accepted .out))
+
+  -- By number, a region reaches by delay what it delays to.
+  pub graph-delays : (x y : ℕ) → x < answer .value → y < answer .value
+      → List·Memᴰ y (graph (graph-accepted .model) (listed entries′ (answer .value)) .delays x)
+      ↔ DelaysTo (graph-accepted .model) (regionAt entries′ x) (regionAt entries′ y)
+  graph-delays x y hx hy =
+      let m = graph-accepted .model in
+      let found : List Region = listed entries′ (answer .value) in
+      let fine = whole-model table (roomFor (length entries)) (graph-accepted .found) m (graph-accepted .out) (graph-accepted .read) .1 in
+      let long : length found ≡ answer .value = listed-length entries′ (answer .value) in
+      let at : (z : ℕ) → z < answer .value → regionOf m found z ≡ regionAt entries′ z =
+      λ z h. listed-at entries′ (answer .value) z (first m) h in
+      let are = delays-are m found graph-all fine x y (omega (arith, hx, long)) in (
+        λ n. subst (λ (r : Region). DelaysTo m r (regionAt entries′ y)) (at x hx)
+            (subst (λ (r : Region). DelaysTo m (regionOf m found x) r) (at y hy) (are .0 n .1)),
+        λ d. are .1 (
+          omega (arith, hy, long),
+          subst (λ (r : Region). DelaysTo m r (regionOf m found y)) (sym (at x hx))
+              (subst (λ (r : Region). DelaysTo m (regionAt entries′ x) r) (sym (at y hy)) d),
+        ),
+      )
 
 -- ---- The state call
 

@@ -1,4 +1,5 @@
--- `sign` meets its contract. Assumes nothing.
+-- Where the memory has not the sizes that a pass asks, nothing is changed. Otherwise dictionary and memo are emptied, so that the one is empty
+-- and the other notes nothing, and the pass is that of `sign_all`.
 use Prim.Native.Nat.{ℕ, _+_, _-_, _*_, _/_, _≤_, _<_}
 use mathlib.Core.Path.{_≡_, refl, sym, _∙_, ap, ap₂, subst}
 use native.Mathlib.Omega.{arith}
@@ -19,55 +20,45 @@ use Rattle.signatures.proofs.memo.clear_memo.Reads as clear-memo-reads
 use Rattle.signatures.proofs.signature.is_roomy.Reads as is-roomy-reads
 use Rattle.signatures.proofs.signature.sign_all.Reads as sign-all-reads
 
--- src/signature.rt:297:9
 is-roomy-requires : tie.Need-is-roomy-requires
 is-roomy-requires c κs = search needs
 
--- src/signature.rt:298:9
 same-length : tie.Need-same-length
 same-length c = search needs
 
--- src/signature.rt:298:9
 same-length-2 : tie.Need-same-length-2
 same-length-2 c = search needs
 
--- src/signature.rt:298:9
 same-length-3 : tie.Need-same-length-3
 same-length-3 c = search needs
 
--- src/signature.rt:298:9
 same-length-4 : tie.Need-same-length-4
 same-length-4 c = search needs
 
--- src/signature.rt:298:9
 returns : tie.Need-returns
 returns c = (
   record {
     holds = λ e. absurd (false≢true e);
     fails = λ e roomy. (c .before .is-roomy) .ensures .fails (not-true _ ((c .if1) .taken)) roomy;
   },
-  (λ e. absurd (false≢true e), λ e. refl),
+  (λ e. absurd (false≢true e), λ e. (refl, refl, refl, refl)),
 )
 
--- src/signature.rt:300:5
 clear-requires : tie.Need-clear-requires
 clear-requires c κs =
     let is-roomy = c .before .before .before .is-roomy in
     let if1 = c .before .before .if1 in
     let roomy = is-roomy.ensures.holds (not-false _ if1.left) in (roomy .indexed, roomy .numbered)
 
--- src/signature.rt:301:5
 clear-memo-requires : tie.Need-clear-memo-requires
 clear-memo-requires c κs =
     let is-roomy = c .before .before .before .before .before .before .before .is-roomy in
     let if1 = c .before .before .before .before .before .before .if1 in
     is-roomy.ensures.holds (not-false _ if1.left) .memoed
 
--- src/signature.rt:303:57
 slice-aggregate-sign-all : tie.Need-slice-aggregate-sign-all
 slice-aggregate-sign-all c = search needs
 
--- src/signature.rt:303:5
 sign-all-requires : tie.Need-sign-all-requires
 unfolding itemsIn
 sign-all-requires c κs =
@@ -87,23 +78,18 @@ sign-all-requires c κs =
       ),
     )
 
--- src/signature.rt:284:1
 same-length-5 : tie.Need-same-length-5
 same-length-5 c = search needs
 
--- src/signature.rt:284:1
 same-length-6 : tie.Need-same-length-6
 same-length-6 c = search needs
 
--- src/signature.rt:284:1
 same-length-7 : tie.Need-same-length-7
 same-length-7 c = search needs
 
--- src/signature.rt:284:1
 same-length-8 : tie.Need-same-length-8
 same-length-8 c = search needs
 
--- src/signature.rt:284:1
 returns-2 : tie.Need-returns-2
 returns-2 c =
     let back10 = c .before .before .before .before .before .before .before .before .before .before in
