@@ -52,7 +52,7 @@ abbrev pub graphIn : Model → (entries : List ℕ) (n : ℕ) → Structure ℕ
 graphIn m entries n = structure (graph m (listed entries n))
 
 -- Document 01's blocks of a structure with n items, in a list: so many blocks, after so many rounds.
-pub record Blocks (S : Structure ℕ) (n blocks rounds : ℕ) (list : List ℕ) : Type 0 where
+pub record BlockNumbers (S : Structure ℕ) (n blocks rounds : ℕ) (list : List ℕ) : Type 0 where
   -- "The reported count is the least k whose round equals the next; it is at most N - 1."
   pub rests : (x y : ℕ) → x < n → y < n → Round S rounds x y ↔ Round S (suc rounds) x y
   pub least : (k : ℕ) → k < rounds → ¬ ((x y : ℕ) → x < n → y < n → Round S k x y ↔ Round S (suc k) x y)
@@ -91,8 +91,8 @@ pub record Demand2 : Type 1 where
       → ReduceCall table entries first second answer entries′ first′ second′ → answer .refusal ≡ 0
       → (m : Model) × (readTable table ≡ accepted m)
       × AllRegions m (listed entries′ (answer .value)) × InOrder m (listed entries′ (answer .value))
-      × Blocks (graphIn m entries′ (answer .value)) (answer .value) (answer .blocks) (answer .rounds) first′
-      × Blocks (graphIn m entries′ (answer .value)) (answer .value) (answer .blocks) (answer .rounds) second′
+      × BlockNumbers (graphIn m entries′ (answer .value)) (answer .value) (answer .blocks) (answer .rounds) first′
+      × BlockNumbers (graphIn m entries′ (answer .value)) (answer .value) (answer .blocks) (answer .rounds) second′
   -- No bisimulation of the region graph relates more.
   pub coarsest : (table entries first second : List ℕ) (answer : Answer) (entries′ first′ second′ : List ℕ)
       → ReduceCall table entries first second answer entries′ first′ second′ → answer .refusal ≡ 0
@@ -130,9 +130,9 @@ pub record Demand2 : Type 1 where
 
 module _ {table : List ℕ} {cap n b k : ℕ} {entries list : List ℕ} (left : Left table cap n b k entries list) where
   -- What a partition call left is such.
-  made : Blocks (graphIn (left .from .model) entries n) n b k list
+  made : BlockNumbers (graphIn (left .from .model) entries n) n b k list
   made =
-      subst (λ (found : List Region). Blocks (structure (graph (left .from .model) found)) n b k list) (sym (left .entries-hold))
+      subst (λ (found : List Region). BlockNumbers (structure (graph (left .from .model) found)) n b k list) (sym (left .entries-hold))
       (record {
         rests = left-rests left;
         least = left-least left;
@@ -191,7 +191,8 @@ demand-2 =
             subst (InOrder (one .from .model)) (sym (one .entries-hold)) (left-order one),
             made one,
             subst
-                (λ (x : Model). Blocks (graphIn x entries′ (answer .value)) (answer .value) (answer .blocks) (answer .rounds) second′) same
+                (λ (x : Model).
+                BlockNumbers (graphIn x entries′ (answer .value)) (answer .value) (answer .blocks) (answer .rounds) second′) same
                 (made two),
           );
       coarsest = λ table entries first second answer entries′ first′ second′ call none m read R w.

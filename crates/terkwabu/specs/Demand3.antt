@@ -8,7 +8,7 @@
 -- every call with these that answers `answer` and leaves entries′, first′ and second′. `answer .refusal ≡ 0` says that the list found no
 -- refusal (Demand1), so that the model is accepted; `readTable table ≡ accepted m` says which model it is. With this file five say what is
 -- claimed:
---   Demand2                           `Blocks`: document 01's block numbers
+--   Demand2                           `BlockNumbers`: document 01's block numbers
 --   States, Placing (of states)       states with fractions as clock values, and how they move; the region of a state (`regionIn`)
 --   Bisimulations (of bisimulation)   bisimulations over any structure
 --   Instances (of partition)          `states m`: all states of the model as a structure
@@ -33,7 +33,7 @@ use Rattle.terkwabu.specs.Laws.Bridges.{reduced-of, first-left, second-l
 use Rattle.terkwabu.specs.Laws.Bridges.{value-first, value-second, value-together, value-apart}
 use Rattle.terkwabu.specs.Laws.States.{number-of, numbers-block, numbers-differ, numbers-given, numbers-equal}
 use Rattle.terkwabu.specs.Laws.States.{numbers-zero, place-number}
-use Rattle.terkwabu.specs.Demand2.{graphIn, Blocks, demand-2}
+use Rattle.terkwabu.specs.Demand2.{graphIn, BlockNumbers, demand-2}
 use Rattle.terkwabu.specs.declared.answer.Answer.{Answer}
 
 -- Number i is that of region r: it is entry i of the first n, and no other.
@@ -54,8 +54,8 @@ pub record Demand3 : Type 1 where
       → ReduceCall table entries first second answer entries′ first′ second′ → answer .refusal ≡ 0
       → (m : Model) × (readTable table ≡ accepted m)
       × AllRegions m (listed entries′ (answer .value)) × InOrder m (listed entries′ (answer .value))
-      × Blocks (graphIn m entries′ (answer .value)) (answer .value) (answer .blocks) (answer .rounds) first′
-      × Blocks (graphIn m entries′ (answer .value)) (answer .value) (answer .blocks) (answer .rounds) second′
+      × BlockNumbers (graphIn m entries′ (answer .value)) (answer .value) (answer .blocks) (answer .rounds) first′
+      × BlockNumbers (graphIn m entries′ (answer .value)) (answer .value) (answer .blocks) (answer .rounds) second′
   -- The two states lie in regions i and j, and the numbers of these differ, in either list, exactly when no bisimulation over all states
   -- relates the two.
   pub partition : (table : List ℕ) (m : Model) → readTable table ≡ accepted m
@@ -81,7 +81,7 @@ pub record Demand3 : Type 1 where
       → ((answer₂ .value ≡ 1) ↔ (getD first′ r 0 ≡ getD first′ s 0)) × ((answer₂ .value ≡ 1) ↔ (getD second′ r 0 ≡ getD second′ s 0))
   -- From a state to its block: where the state call answers a number, whatever was lent to it, that is the number of the state's region in
   -- what the partition call left, and number `value` of either list is that state's block.
-  pub placed : (table : List ℕ) (m : Model) → readTable table ≡ accepted m
+  pub place : (table : List ℕ) (m : Model) → readTable table ≡ accepted m
       → (entries first second : List ℕ) (answer : Answer) (entries′ first′ second′ : List ℕ)
       → ReduceCall table entries first second answer entries′ first′ second′ → answer .refusal ≡ 0
       → (entries₁ : List ℕ) (location v₀ v₁ v₂ v₃ denominator : ℕ) (answer₁ : Answer) (entries₁′ : List ℕ)
@@ -152,7 +152,7 @@ demand-3 =
             value-second table entries₂ first₂ second₂ r s answer₂ entries₂′ first₂′ second₂′ call₂ none₂ entries first second
                 (answer .value) (answer .blocks) (answer .rounds) entries′ first′ second′ reduced,
           );
-      placed = λ table m read entries first second answer entries′ first′ second′ call none
+      place = λ table m read entries first second answer entries′ first′ second′ call none
           entries₁ location v₀ v₁ v₂ v₃ denominator answer₁ entries₁′ call₁ none₁.
           let one = first-left table entries first second answer entries′ first′ second′ call none in
           let two = second-left table entries first second answer entries′ first′ second′ call none in
@@ -163,7 +163,8 @@ demand-3 =
       given = λ table m read a b ia ib entries first second answer entries′ first′ second′ call none i j hi at hj bt.
           ⊎-elim
           (numbers-given (first-left table entries first second answer entries′ first′ second′ call none) m read a b ia ib i j hi at hj bt)
-          (numbers-given (second-left table entries first second answer entries′ first′ second′ call none) m read a b ia ib i j hi at hj bt);
+          (numbers-given (second-left table entries first second answer entries′ first′ second′ call none) m read a b ia ib i j hi at hj
+          bt);
       zero-delay = λ table m read a b ia ib ra rb entries first second answer entries′ first′ second′ call none.
           let left = first-left table entries first second answer entries′ first′ second′ call none in
           let (i, hi, at, only-i) = number-of left m read a ra in

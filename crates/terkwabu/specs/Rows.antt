@@ -40,7 +40,7 @@ pub data Stopped (table entries entries′ : List ℕ) : (number place : ℕ) �
 
 -- None of them is met: the table is read as m, found are all its regions, by number, and there is room for them. "Otherwise the first N
 -- entries hold the graph."
-pub record Held (table entries entries′ : List ℕ) (m : Model) (found : List Region) : Type 0 where
+pub record GraphHeld (table entries entries′ : List ℕ) (m : Model) (found : List Region) : Type 0 where
   pub read : readTable table ≡ accepted m
   pub meets-first : meets (boundsOf m) (m .invariants) (first m) ≡ true
   pub all : AllRegions m found
@@ -52,7 +52,7 @@ pub record Held (table entries entries′ : List ℕ) (m : Model) (found : List 
 pub data ByList (table entries entries′ : List ℕ) (unchanged : Type 0) (own : Model → List Region → Answer → Type 0) : Answer → Type 0 where
   stopped : {number place : ℕ} → Stopped table entries entries′ number place → unchanged
       → ByList table entries entries′ unchanged own (refusedAs number place)
-  went-on : {m : Model} {found : List Region} {answer : Answer} → Held table entries entries′ m found → own m found answer
+  went-on : {m : Model} {found : List Region} {answer : Answer} → GraphHeld table entries entries′ m found → own m found answer
       → ByList table entries entries′ unchanged own answer
 
 -- ---- The own rows of each call, and its result. N is `length found`

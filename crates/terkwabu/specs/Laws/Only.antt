@@ -18,7 +18,7 @@ use Rattle.regions.specs.Laws.Worklist.{different-grown, no-more, member}
 use Rattle.states.specs.States.{State}
 use Rattle.states.specs.StateCall.{isNotTaken, ownState}
 use Rattle.terkwabu.specs.Answers.{refusedAs, resultAs}
-use Rattle.terkwabu.specs.Rows.{Stopped, row-1-13, row-14, row-15, Held, ByList, stopped, went-on}
+use Rattle.terkwabu.specs.Rows.{Stopped, row-1-13, row-14, row-15, GraphHeld, ByList, stopped, went-on}
 use Rattle.terkwabu.specs.Rows.{GraphRows, graph-result, PlaceRows, place-row-20, place-row-21, place-result}
 use Rattle.terkwabu.specs.Rows.{ReduceRows, reduce-row-16, reduce-result, PairRows, pair-row-16, pair-row-19, pair-shared, pair-apart}
 use Rattle.terkwabu.specs.Rows.{JudgeRows, judge-row-17, judge-row-18, judge-result}
@@ -87,15 +87,16 @@ module _ (table entries : List ℕ) where
       omega (arith, most, length-append some (few .another ∷ []), few .fills, fits)
 
   pub not-both : {left left′ : List ℕ} {n p : ℕ} {m : Model} {found : List Region} → Stopped table entries left n p
-      → Held table entries left′ m found → ⊥
+      → GraphHeld table entries left′ m found → ⊥
   not-both (row-1-13 e _) held = refused-or-read e (held .read)
   not-both (row-14 e b _) held = meets-or-breaks e b (held .read) (held .meets-first)
   not-both {m = m} {found} (row-15 {m = x} {found = some} e _ few _ _) held =
       crowded m (roomFor (length entries)) some found
-      (subst (λ (k : Model). FirstRegions k (roomFor (length entries)) some) (read-one table x m e (held .read)) few) (held .all) (held .fits)
+      (subst (λ (k : Model). FirstRegions k (roomFor (length entries)) some) (read-one table x m e (held .read)) few) (held .all)
+      (held .fits)
 
-  pub held-one : {left left′ : List ℕ} {m m′ : Model} {found found′ : List Region} → Held table entries left m found
-      → Held table entries left′ m′ found′ → (m ≡ m′) × (found ≡ found′)
+  pub held-one : {left left′ : List ℕ} {m m′ : Model} {found found′ : List Region} → GraphHeld table entries left m found
+      → GraphHeld table entries left′ m′ found′ → (m ≡ m′) × (found ≡ found′)
   held-one {m = m} {m′} {found} {found′} one two =
       let same = read-one table m m′ (one .read) (two .read) in
       (same, order-one m′ found found′ (subst (λ (k : Model). InOrder k found) same (one .in-order)) (two .in-order))
@@ -198,6 +199,7 @@ module _ (table entries : List ℕ) {left left′ : List ℕ} {a b : Answer} whe
         → ByList table entries left′ ((first″ ≡ first) × (second″ ≡ second)) (ReduceRows first second first″ second″) b → a ≡ b
     reduce-answer = only-answer table entries (λ m found a b. reduce-only)
 
-    pub pair-answer : (r s : ℕ) → ByList table entries left ((first′ ≡ first) × (second′ ≡ second)) (PairRows first second r s first′ second′) a
+    pub pair-answer : (r s : ℕ)
+        → ByList table entries left ((first′ ≡ first) × (second′ ≡ second)) (PairRows first second r s first′ second′) a
         → ByList table entries left′ ((first″ ≡ first) × (second″ ≡ second)) (PairRows first second r s first″ second″) b → a ≡ b
     pair-answer r s = only-answer table entries (λ m found a b. pair-only)

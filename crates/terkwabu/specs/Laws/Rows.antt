@@ -46,7 +46,7 @@ use Rattle.listing.specs.Parts.{textFrom, textOf, fitted, bufferAfter, partFrom
 use Rattle.listing.specs.declared.parts.Part.the-variants as T
 use Rattle.terkwabu.specs.Answers.{refusedAs, resultAs, ofGraph, ofPlacing, ofReduction, ofPairing, ofJudgement, ofPart}
 use Rattle.terkwabu.specs.Calls.{GraphCall, PlaceCall, ReduceCall, PairCall, JudgeCall, PartCall, LineCall}
-use Rattle.terkwabu.specs.Rows.{Stopped, row-1-13, row-14, row-15, Held, ByList, stopped, went-on}
+use Rattle.terkwabu.specs.Rows.{Stopped, row-1-13, row-14, row-15, GraphHeld, ByList, stopped, went-on}
 use Rattle.terkwabu.specs.Rows.{GraphRows, graph-result, PlaceRows, place-row-20, place-row-21, place-result}
 use Rattle.terkwabu.specs.Rows.{ReduceRows, reduce-row-16, reduce-result, PairRows, pair-row-16, pair-row-19, pair-shared, pair-apart}
 use Rattle.terkwabu.specs.Rows.{Proposed, JudgeRows, judge-row-17, judge-row-18, judge-result}
@@ -63,7 +63,7 @@ module _ (table entries entries′ : List ℕ) (held : entries′ ≡ entriesAft
   Rows : Type 0
   Rows =
       ((number : ℕ) × (place : ℕ) × Stopped table entries entries′ number place × (G.Refused number place ≡ graphOf (outcomeOf table room)))
-      ⊎ ((a : Accepted table room) × Held table entries entries′ (a .model) (a .found))
+      ⊎ ((a : Accepted table room) × GraphHeld table entries entries′ (a .model) (a .found))
 
   rows : Rows
   unfolding Rows
@@ -83,7 +83,7 @@ module _ (table entries entries′ : List ℕ) (held : entries′ ≡ entriesAft
       by-outcome : (o : Outcome) → outcomeOf table room ≡ o
           → ((number : ℕ) × (place : ℕ) × Stopped table entries entries′ number place
           × (G.Refused number place ≡ graphOf (outcomeOf table room)))
-          ⊎ ((a : Accepted table room) × Held table entries entries′ (a .model) (a .found))
+          ⊎ ((a : Accepted table room) × GraphHeld table entries entries′ (a .model) (a .found))
       by-outcome (refused n p) o = inl (n, p, early n p o, sym (ap graphOf o))
       by-outcome (cut found) o =
           let (b, some) = cut-graph table room found o in
