@@ -303,6 +303,7 @@ static void try_states(struct subject *s) {
     uint64_t initial = s->table_len > 3 ? s->table[3] : 0, clocks = s->table_len > 1 ? s->table[1] : 0;
     try_place(s, all, (uint64_t[6]){initial, 0, 0, 0, 0, 1000000}, TERKWABU_NO_REFUSAL, 0);
     try_place(s, all + 5, (uint64_t[6]){UINT64_MAX, 0, 0, 0, 0, 1}, TERKWABU_STATE, 0);
+    try_place(s, all + 5, (uint64_t[6]){UINT64_C(1) << 32, 0, 0, 0, 0, 1}, TERKWABU_STATE, 0);
     try_place(s, all, (uint64_t[6]){initial, 0, 0, 0, 0, 0}, TERKWABU_STATE, 0);
     try_place(s, all + 9, (uint64_t[6]){initial, 0, 0, 0, 0, 1000001}, TERKWABU_STATE, 0);
     if (clocks < 4) try_place(s, all, (uint64_t[6]){initial, 0, 0, 0, UINT64_MAX, 1}, TERKWABU_STATE, 0);

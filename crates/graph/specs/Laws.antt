@@ -7,8 +7,12 @@
 --   Bounds     what is read is within bounds
 --   Stores     what each writer stores, and what it leaves as it was
 --   Chains     chains by buckets; the index of clock classes
+--   Keys       the slots by mask and target
 --   Prepared   what a prepared model stores is read back
+--   Others     what a prepared model stores leaves every other location, edge, branch and slot
+--   Kept       a column that is kept is read as before
 --   Sources    the resets backwards
+--   Resets     the resets both ways
 pub mod Columns
 pub mod Latest
 pub mod Index
@@ -18,4 +22,8 @@ pub mod Bounds
 pub mod Stores
 pub mod Sources
 pub mod Prepared
+pub mod Others
+pub mod Kept
 pub mod Chains
+pub mod Keys
+pub mod Resets

@@ -54,6 +54,15 @@ keyHead graph mask target = load keyHeads graph (keyOf mask target)
 unfoldable pub keyLink : List ℕ → (slot : ℕ) → ℕ
 keyLink graph slot = load keyLinks graph (slot % mostSlots)
 
+-- What is met from a number on along links. (Any slice may hold a cycle: the walk has so many steps.)
+unfoldable pub along : (link : ℕ → ℕ) → (steps x : ℕ) → List ℕ
+along link zero x = []
+along link (suc steps) x = cond (eqb x nothing) [] (x ∷ along link steps (link x))
+
+-- The slots with a mask and a target, the last one first.
+unfoldable pub keysOf : List ℕ → (mask target : ℕ) → List ℕ
+keysOf graph mask target = along (keyLink graph) mostSlots (keyHead graph mask target)
+
 -- ---- Of an edge
 
 unfoldable pub branchCount : List ℕ → (edge : ℕ) → ℕ

@@ -86,12 +86,13 @@ withAvailable graph region rank =
 unfoldable pub withClassDelay : List ℕ → (class after : ℕ) → List ℕ
 withClassDelay graph class after = store classDelays graph (class % mostRegions) after
 
--- The class after a reset, noted both ways: unless it is known already. A mask of 0 leads from each class to itself: it has no way back.
+-- The reset of a class by a mask, now the last that leads to the class after it.
 unfoldable pub withSource : List ℕ → (class mask after : ℕ) → List ℕ
 withSource graph class mask after =
     store sourceHeads (store sourceLinks graph (resetNumber class mask) (sourceHead graph after))
     (after % mostRegions) (resetNumber class mask)
 
+-- The class after a reset, noted both ways unless it is known already. A mask of 0 leads from each class to itself: it has no way back.
 unfoldable pub withReset : List ℕ → (class mask after : ℕ) → List ℕ
 withReset graph class mask after =
     cond (eqb (resetClass graph class mask) nothing)

@@ -23,7 +23,7 @@ unfoldable pub last : (ℕ → Bool) → ℕ → ℕ
 last p zero = 0
 last p (suc j) = cond (p j) (suc j) (last p j)
 
--- Is list j in a bucket?
+-- Tells whether list j is in a bucket.
 abbrev pub inBucket : (ℕ → List ℕ) → ℕ → ℕ → Bool
 inBucket entry bucket j = eqb (hashOf (entry j)) bucket
 

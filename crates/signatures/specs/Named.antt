@@ -1,6 +1,5 @@
--- Signatures over a dictionary: each step of an item is a list and has an id, so is the set of names that it reaches by delay, and the
--- signature is
--- the list of the set of the steps' ids, with the name and the id of the delays behind it, which has an id too.
+-- Signatures over a dictionary. Each step of an item is a list with an id, and so is the set of names that the item reaches by delay. The
+-- signature is a list with an id too: the set of the steps' ids, then the item's name and the id of the names reached by delay.
 use Prim.Native.Nat.{ℕ, _+_, _*_, _/_, _≤_, _<_}
 use mathlib.Core.Path.{_≡_}
 use mathlib.Core.List.{List, [], _∷_, _++_, List·Memᴰ}
@@ -11,7 +10,7 @@ use Rattle.signatures.specs.declared.dictionary.Interned.the-variants.{I
 use mathlib.Core.Bool.{true, cond}
 use lib.Dec.{ltb}
 use mathlib.Core.Logic.{_⊎_}
-use Rattle.graph.specs.Readers.{isAvailable}
+use Rattle.graph.specs.Readers.{delayOf, isAvailable}
 use Rattle.signatures.specs.declared.signature.Gathered.{Gathered}
 use Rattle.signatures.specs.declared.signature.Gathered.the-variants.{Ids, Short}
 use Rattle.signatures.specs.Sets.{setOf}
@@ -71,14 +70,24 @@ Signed held held′ name delays steps Full = Refused held′ name delays steps �
 
 -- ---- Names, and where to go on along the delays
 
--- The first half of a list are names of items; the second half says for each item where to go on along its delays: to what follows, or to
--- the
--- next that has another name.
+-- The first half of a list holds the names of items. The second half says for each item where to go on along its delays: to what follows,
+-- or past items of the same name (`Skips`).
 unfoldable pub itemsIn : List ℕ → ℕ
 itemsIn names = length names / 2
 
 unfoldable pub jumpOf : List ℕ → ℕ → ℕ
 jumpOf names y = getD names (itemsIn names + y) 0
+
+-- A way along delays, of at least one, on which all items passed have one name. Where nothing follows, it leads to no item.
+pub data Way (graph names : List ℕ) (name : ℕ) : (from to : ℕ) → Type 0 where
+  by-delay : {y to : ℕ} → nameOf names y ≡ name → to ≡ delayOf graph y → Way graph names name y to
+  past-end : {y to : ℕ} → nameOf names y ≡ name → itemsIn names ≤ delayOf graph y → itemsIn names ≤ to → Way graph names name y to
+  passing : {y to : ℕ} → nameOf names y ≡ name → delayOf graph y < itemsIn names → Way graph names name (delayOf graph y) to
+      → Way graph names name y to
+
+-- Each item's jump is such a way past items of its own name: a walk by jumps then meets the same names as one by delays (`jumps-skip`).
+abbrev pub Skips : (graph names : List ℕ) → Type 0
+Skips graph names = (y : ℕ) → y < itemsIn names → Way graph names (nameOf names y) y (jumpOf names y)
 
 -- The names met on the way.
 unfoldable pub reachedFrom : List ℕ → ℕ → List ℕ
@@ -141,7 +150,7 @@ pub record Signs (graph edges names : List ℕ) (x : ℕ) (index numbers list in
 
 -- ---- A pass
 
--- No id: the lists of the item found no room.
+-- What stands in the place of an id where an item has none.
 abbrev pub noId : ℕ
 noId = 65535
 
@@ -150,7 +159,7 @@ abbrev pub numberOf : Interned → ℕ
 numberOf (Id id) = cond (ltb id noId) id noId
 numberOf Full = noId
 
--- The items before k have their ids, or found no room; the others stand as they were.
+-- The items before k have their ids, or none; the others stand as they were.
 pub record Passing (graph edges names items items′ : List ℕ) (held : List (List ℕ)) (k : ℕ) : Type 0 where
   pub size : length items′ ≡ length items
   pub id : (j : ℕ) → j < k → (getD items′ j 0 ≡ noId → ⊥)
@@ -170,7 +179,9 @@ pub record Signing (graph edges names items list index numbers memo list′ item
   pub empty : k ≡ 0 → entriesOf index numbers ≡ []
   pub within : k ≤ length items
 
--- After a pass each item has the id of its signature, or found no room; the first always has one.
+-- After a pass each item has the id of its signature, or none. Which items have none is unspecified: `held` may be full of lists that no
+-- item asks for. Every choice has in common that the first item has an id (`pass-first`), and, in a closed structure, that an item without
+-- one is related to none that has one (`pass-apart`).
 pub record Passed (graph edges names items items′ : List ℕ) : Type 0 where
   pub held : List (List ℕ)
   pub different : Different held

@@ -1,5 +1,4 @@
--- The raw form of a step: an edge, and the names that its branches land in, in the edge's order. It says all that the step's list is made
--- of.
+-- The raw form of a step: an edge, and the names that its branches land in, in the edge's order. It determines the step's list.
 use Prim.Native.Nat.{ℕ, zero, suc, _+_, _-_, _≤_, _<_}
 use mathlib.Core.Path.{_≡_}
 use mathlib.Core.List.{List, [], _∷_}

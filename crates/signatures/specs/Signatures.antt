@@ -1,6 +1,5 @@
--- The signature of an item over names of blocks: its name, the names reached by delay, and its steps. Items of a closed structure are
--- related in
--- the next round exactly where their signatures are equal (`signature-tells`).
+-- The signature of an item over names of blocks: its name, the names reached by delay, and its steps. In a closed structure whose
+-- denominators are below 2^30 the next round relates two items exactly if their signatures are equal (`signature-tells`).
 use Prim.Native.Nat.{ℕ, zero, suc}
 use mathlib.Core.Path.{_≡_}
 use mathlib.Core.Bool.{cond}

@@ -41,6 +41,7 @@ unfoldable pub stepList : (action denominator : ℕ) → List (Branch ℕ) → L
 stepList action denominator branches =
     action ∷ sharesOver (λ name. massOf name branches) denominator (setOf (targetNames branches))
 
--- The step of an edge from an item: in a closed structure equal lists exactly where edges are alike (`step-alike`, `alike-step`).
+-- The step of an edge from an item. In a closed structure whose denominators are below 2^30 steps are equal lists exactly if the edges are
+-- alike (`step-alike`, `alike-step`).
 unfoldable pub stepOf : Finite → List ℕ → (x e : ℕ) → List ℕ
 stepOf F names x e = stepList (F .action x e) (F .whole x e) (named names (F .branches x e))

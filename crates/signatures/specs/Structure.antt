@@ -1,5 +1,5 @@
 -- The slices of a graph as a finite structure, read off the readers of `graph`: for any contents.
-use Prim.Native.Nat.{ℕ, zero, suc}
+use Prim.Native.Nat.{ℕ, zero, suc, _<_}
 use mathlib.Core.Bool.{Bool, cond, _&&_}
 use mathlib.Core.List.{List, [], _∷_}
 use lib.Dec.{ltb}
@@ -15,11 +15,17 @@ abbrev pub chainFrom : (next : ℕ → ℕ) (n steps x : ℕ) → List ℕ
 chainFrom next n zero x = []
 chainFrom next n (suc steps) x = cond (ltb x n) (x ∷ chainFrom next n steps (next x)) []
 
+-- A successor function leads from one item below n to another, in any number of steps, by items below n alone.
+pub data Reaches (next : ℕ → ℕ) (n : ℕ) : (x y : ℕ) → Type 0 where
+  here : {x : ℕ} → x < n → Reaches next n x x
+  onward : {x y : ℕ} → x < n → Reaches next n (next x) y → Reaches next n x y
+
 -- The edge of a rank at a region.
 abbrev pub edgeOf : List ℕ → (x rank : ℕ) → ℕ
 edgeOf graph x rank = edgeAt graph (locationOf graph x) rank
 
--- The branches of an edge from one on, in the edge's order, from the regions of a class.
+-- The branches of an edge from one on, in the edge's order, from the regions of a class. Of a branch's two weights the low one is taken:
+-- in a plain edge low and high are equal.
 abbrev pub branchesFrom : (graph edges : List ℕ) → (class edge i left : ℕ) → List (Branch ℕ)
 branchesFrom graph edges class edge i zero = []
 branchesFrom graph edges class edge i (suc left) =
@@ -27,7 +33,7 @@ branchesFrom graph edges class edge i (suc left) =
     ∷ branchesFrom graph edges class edge (suc i) left
 
 -- Edges are numbered by rank among those of the region's location. Any slice may hold a cycle of delays: n steps are enough for all that
--- is reached.
+-- is reached (`reach-in`, `reach-from`).
 unfoldable pub structureOf : ℕ → (graph edges : List ℕ) → Finite
 structureOf n graph edges =
     record {

@@ -64,7 +64,7 @@ pub(crate) fn hash_of(list: &[u32]) -> usize
     (h / 524288 % 8192) as usize
 }
 
-// Are two lists equal?
+// Tells whether two lists are equal.
 pub(crate) fn same_list(a: &[u32], b: &[u32]) -> bool
     ensures { λ r. ⌜ Tells r (now (a .entry) ≡ now (b .entry)) ⌝ }
 {
@@ -81,7 +81,7 @@ pub(crate) fn same_list(a: &[u32], b: &[u32]) -> bool
     true
 }
 
-// Does the list have the id j?
+// Tells whether the list has the id j.
 fn is_entry(j: usize, list: &[u32], index: &[u16], numbers: &[u32]) -> bool
     requires { ⌜ Dictionary (now index) (now numbers) ⌝ }
     requires { ⌜ j < countOf (now index) ⌝ }

@@ -5,13 +5,13 @@ ghost use lib.ListN.{length, getD};
 ghost use lib.Seq.{paste};
 ghost use Rattle.signatures.specs.Dictionary.{Dictionary, Interns, Tells, entriesOf};
 ghost use Rattle.signatures.specs.Raw.{rawStep};
-ghost use Rattle.signatures.specs.Memo.{slots, memoSize, maxRaw, Noted, Holds, Notes, written};
+ghost use Rattle.signatures.specs.Memo.{cells, memoSize, maxRaw, Noted, Holds, Notes, written};
 use crate::dictionary::Interned;
 use crate::dictionary::intern;
 use crate::dictionary::load;
 use crate::steps::list_step;
 
-const SLOT: usize = 11;
+const CELL: usize = 11;
 
 fn wide(x: u16) -> u64
     ensures { λ r. ⌜ (r ≡ x) × (r < 65536) ⌝ }
@@ -19,9 +19,9 @@ fn wide(x: u16) -> u64
     x as u64
 }
 
-// Returns the slot of a raw form.
-fn slot_of(raw: &[u16]) -> usize
-    ensures { λ r. ⌜ r < slots ⌝ }
+// Returns the cell of a raw form.
+fn cell_of(raw: &[u16]) -> usize
+    ensures { λ r. ⌜ r < cells ⌝ }
 {
     let mut h: u64 = 0;
     let mut i = 0;
@@ -32,7 +32,7 @@ fn slot_of(raw: &[u16]) -> usize
     (h / 1048576 % 4096) as usize
 }
 
-// Are two raw forms equal?
+// Tells whether two raw forms are equal.
 fn same_raw(a: &[u16], b: &[u16]) -> bool
     ensures { λ r. ⌜ Tells r (now (a .entry) ≡ now (b .entry)) ⌝ }
 {
@@ -49,16 +49,16 @@ fn same_raw(a: &[u16], b: &[u16]) -> bool
     true
 }
 
-// Does a slot hold this raw form?
-fn is_noted(raw: &[u16], slot: usize, memo: &[u16]) -> bool
-    requires { ⌜ (slot < slots) × (length (now memo) ≡ memoSize) × (getD (now memo) (11 * slot) 0 ≤ maxRaw + 1) ⌝ }
-    ensures { λ r. ⌜ Tells r (Holds (now (memo .entry)) slot (now (raw .entry))) ⌝ }
+// Tells whether a cell holds a raw form.
+fn is_noted(raw: &[u16], cell: usize, memo: &[u16]) -> bool
+    requires { ⌜ (cell < cells) × (length (now memo) ≡ memoSize) × (getD (now memo) (11 * cell) 0 ≤ maxRaw + 1) ⌝ }
+    ensures { λ r. ⌜ Tells r (Holds (now (memo .entry)) cell (now (raw .entry))) ⌝ }
 {
-    let size = load(memo, SLOT * slot);
+    let size = load(memo, CELL * cell);
     if size == 0 {
         return false;
     }
-    let start = SLOT * slot + 2;
+    let start = CELL * cell + 2;
     let end = start + (size - 1);
     same_raw(&memo[start..end], raw)
 }
@@ -75,14 +75,14 @@ fn copy_raw(raw: &[u16], start: usize, memo: &mut [u16])
     }
 }
 
-// Writes a raw form and its id into a slot.
-fn note(raw: &[u16], id: usize, slot: usize, memo: &mut [u16])
-    requires { ⌜ (slot < slots) × (length (now memo) ≡ memoSize) × (length (now raw) ≤ maxRaw) × (id < 8192) ⌝ }
-    ensures { λ _. ⌜ now (memo .exit) ≡ written (now (memo .entry)) slot (now (raw .entry)) id ⌝ }
+// Writes a raw form and its id into a cell.
+fn note(raw: &[u16], id: usize, cell: usize, memo: &mut [u16])
+    requires { ⌜ (cell < cells) × (length (now memo) ≡ memoSize) × (length (now raw) ≤ maxRaw) × (id < 8192) ⌝ }
+    ensures { λ _. ⌜ now (memo .exit) ≡ written (now (memo .entry)) cell (now (raw .entry)) id ⌝ }
 {
-    memo[SLOT * slot] = (raw.len() + 1) as u16;
-    memo[SLOT * slot + 1] = id as u16;
-    copy_raw(raw, SLOT * slot + 2, memo);
+    memo[CELL * cell] = (raw.len() + 1) as u16;
+    memo[CELL * cell + 1] = id as u16;
+    copy_raw(raw, CELL * cell + 2, memo);
 }
 
 // Returns the id of the step of a raw form, listing the step only if it was not noted.
@@ -99,14 +99,14 @@ pub(crate) fn noted_id(
     ensures { λ r. ⌜ Notes (rawStep (now (edges .entry))) (now (raw .entry)) (now (index .entry)) (now (numbers .entry))
         (now (index .exit)) (now (numbers .exit)) (now (memo .exit)) r ⌝ }
 {
-    let slot = slot_of(raw);
-    if is_noted(raw, slot, memo) {
-        return Interned::Id(load(memo, SLOT * slot + 1));
+    let cell = cell_of(raw);
+    if is_noted(raw, cell, memo) {
+        return Interned::Id(load(memo, CELL * cell + 1));
     }
     let answer = intern_step(raw, edges, index, numbers);
     match answer {
         Interned::Id(id) => {
-            note(raw, id, slot, memo);
+            note(raw, id, cell, memo);
             Interned::Id(id)
         }
         Interned::Full => Interned::Full,
@@ -128,11 +128,11 @@ fn intern_step(raw: &[u16], edges: &[u32], index: &mut [u16], numbers: &mut [u32
 // Empties the memo.
 pub(crate) fn clear_memo(memo: &mut [u16])
     requires { ⌜ length (now memo) ≡ memoSize ⌝ }
-    ensures { λ _. ⌜ (length (now (memo .exit)) ≡ memoSize) × ((s : ℕ) → s < slots → getD (now (memo .exit)) (11 * s) 0 ≡ 0) ⌝ }
+    ensures { λ _. ⌜ (length (now (memo .exit)) ≡ memoSize) × ((c : ℕ) → c < cells → getD (now (memo .exit)) (11 * c) 0 ≡ 0) ⌝ }
 {
-    let mut slot = 0;
-    while slot < 4096 {
-        memo[SLOT * slot] = 0;
-        slot += 1;
+    let mut cell = 0;
+    while cell < 4096 {
+        memo[CELL * cell] = 0;
+        cell += 1;
     }
 }

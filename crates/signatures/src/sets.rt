@@ -28,7 +28,7 @@ fn place_of(v: usize, len: usize, list: &[u32]) -> usize
     i
 }
 
-// Does the number stand just before a place?
+// Tells whether the number stands just before a place.
 fn is_before(v: usize, place: usize, list: &[u32]) -> bool
     requires { ⌜ place ≤ length (now list) ⌝ }
     ensures { λ r. ⌜ Tells r ((0 < place) × (getD (now (list .entry)) (place - 1) 0 ≡ v)) ⌝ }

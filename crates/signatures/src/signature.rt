@@ -1,5 +1,5 @@
-// The signature of an item: the ids of its steps, its name, and the id of the names that it reaches by delay; and a pass that gives items
-// ids.
+// The signature of an item: the set of the ids of its steps, its name, and the id of the set of names that it reaches by delay. A pass
+// gives each item of a list the id of its signature.
 ghost use Prim.Native.Nat.{ℕ, _+_, _/_, _≤_, _<_};
 ghost use mathlib.Core.Path.{_≡_};
 ghost use mathlib.Core.Bool.{Bool, true, false};
@@ -259,7 +259,7 @@ fn sign_all(
     }
 }
 
-// Has the memory the sizes that a pass asks?
+// Tells whether the slices have the sizes that a pass asks for.
 fn is_roomy(names: &[u16], index: &[u16], numbers: &[u32], memo: &[u16], items: &[u16]) -> bool
     ensures { λ r. ⌜ Tells r (Roomy (now (names .entry)) (now (index .entry)) (now (numbers .entry)) (now (memo .entry))
         (now (items .entry))) ⌝ }
@@ -279,14 +279,14 @@ fn is_roomy(names: &[u16], index: &[u16], numbers: &[u32], memo: &[u16], items: 
     memo.len() == MEMO
 }
 
-// Gives each item of a list the id of its signature over names. In a closed structure, with items below the count and right ways along the
-// delays, ids are equal exactly for items that the next round relates (`pass-tells`). An item whose lists find no room in the dictionary
-// gets 65,535, and is related to none that has an id (`pass-apart`); the first item always gets one (`pass-first`).
+// Gives each item of a list the id of its signature over names, or 65,535. Which items get 65,535 is unspecified, but the first always gets
+// an id (`pass-first`). In a closed structure, with items below the count and right ways along the delays, ids are equal exactly for items
+// that the next round relates (`pass-tells`), and an item without an id is related to none that has one (`pass-apart`).
 //
 // names has two halves: the names of the items, and for each item where to go on along its delays. index, numbers and memo are work memory
-// of INDEX, NUMBERS and MEMO numbers: what stood there does not matter, and what stands there afterwards is a choice of the code, which
-// nothing may rest on. If they have other sizes, there are more than 4,096 items in the list or more than 8,192 numbers in names, all that
-// was lent stays as it is and the answer is false.
+// of INDEX, NUMBERS and MEMO numbers. Their contents do not matter; afterwards they are unspecified. If they have other sizes, or the list
+// has more than 4,096 items, or names more than 8,192 numbers, the answer is false and all that was lent stays as it is. Otherwise the
+// answer is true.
 pub fn sign(
     graph: &[u16],
     edges: &[u32],

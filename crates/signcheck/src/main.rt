@@ -1,6 +1,5 @@
 // A test program for signatures: reads graphs and namings of their regions from standard input, and prints for each naming which regions
-// have
-// the same signature. Its input and the expected output are made by the independent implementation, whose README gives their format.
+// have the same signature. The independent implementation makes its input and the expected output; the README there gives their format.
 mod input;
 mod model;
 mod naming;

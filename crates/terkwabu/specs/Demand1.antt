@@ -2,16 +2,16 @@
 -- none, the result; every lent table then holds what document 01 says." One closed statement, and its theorem.
 --
 -- A premise `GraphCall table entries answer entries′` (Calls) is what the contract of terkwabu_graph says of every call with this table and
--- these entries that answers `answer` and leaves entries′. With this file five say what is claimed:
+-- these entries that answers `answer` and leaves entries′ (src/calls.rt). With this file five say what is claimed:
 --   Rows                          the list as each call goes through it, and what the lent memory then holds
 --   Answers                       `refusedAs`, `resultAs`: the five numbers answered
 --   Refusals, Reading (of table)  rows 1 to 13
 --   Order (of regions)            all regions that are reached, and their order
 -- (terkwabu_version takes nothing, and answers the version.)
 use Prim.Native.Nat.{ℕ}
-use mathlib.Core.Path.{_≡_}
-use mathlib.Core.List.{List}
-use Rattle.states.specs.StateCall.{asked}
+use mathlib.Core.Path.{_≡_, refl}
+use mathlib.Core.List.{List, [], _∷_}
+use Rattle.regions.specs.Call.{flat}
 use Rattle.listing.specs.Printed.{refusalLine}
 use Rattle.listing.specs.Parts.{textOf}
 use Rattle.terkwabu.specs.Calls.{GraphCall, PlaceCall, ReduceCall, PairCall, JudgeCall, PartCall, LineCall}
@@ -20,6 +20,10 @@ use Rattle.terkwabu.specs.Laws.Rows.{graph-rows, place-rows, reduce-rows
 use Rattle.terkwabu.specs.declared.answer.Answer.{Answer}
 
 pub record Demand1 : Type 0 where
+  -- "An entry is nine bytes: location, four integer parts (16 for over), four ranks (0 for over)."
+  pub entry : (l w₀ w₁ w₂ w₃ k₀ k₁ k₂ k₃ : ℕ)
+      → flat (record { location = l; whole = w₀ ∷ w₁ ∷ w₂ ∷ w₃ ∷ []; rank = k₀ ∷ k₁ ∷ k₂ ∷ k₃ ∷ [] } ∷ [])
+      ≡ l ∷ w₀ ∷ w₁ ∷ w₂ ∷ w₃ ∷ k₀ ∷ k₁ ∷ k₂ ∷ k₃ ∷ []
   -- The graph call.
   pub graph : (table entries : List ℕ) (answer : Answer) (entries′ : List ℕ)
       → GraphCall table entries answer entries′
@@ -27,7 +31,7 @@ pub record Demand1 : Type 0 where
   -- The state call, for a location, four values and a denominator.
   pub place : (table entries : List ℕ) (location v₀ v₁ v₂ v₃ denominator : ℕ) (answer : Answer) (entries′ : List ℕ)
       → PlaceCall table entries location v₀ v₁ v₂ v₃ denominator answer entries′
-      → ByList table entries entries′ Unit (PlaceRows (asked location v₀ v₁ v₂ v₃ denominator)) answer
+      → ByList table entries entries′ Unit (PlaceRows location v₀ v₁ v₂ v₃ denominator) answer
   -- The partition call.
   pub reduce : (table entries first second : List ℕ) (answer : Answer) (entries′ first′ second′ : List ℕ)
       → ReduceCall table entries first second answer entries′ first′ second′
@@ -53,6 +57,7 @@ pub record Demand1 : Type 0 where
 pub demand-1 : Demand1
 demand-1 =
     record {
+      entry = λ l w₀ w₁ w₂ w₃ k₀ k₁ k₂ k₃. refl;
       graph = graph-rows;
       place = place-rows;
       reduce = reduce-rows;

@@ -4,7 +4,7 @@
 -- time-abstracting bisimulation of the region graph." One closed statement, and its theorem. Document 01 stands as document 02 amends it.
 --
 -- A premise `ReduceCall table entries first second answer entries′ first′ second′` (Calls) is what the contract of terkwabu_reduce says of
--- every call with these that answers `answer` and leaves entries′, first′ and second′. `answer .refusal ≡ 0` says that it refused nothing,
+-- every call with these that answers `answer` and leaves entries′, first′ and second′ (src/calls.rt). `answer .refusal ≡ 0` says that it refused nothing,
 -- and `readTable table ≡ accepted m` that refusals 1 to 13 find nothing and m is the model that was read. With this file five say what is
 -- claimed:
 --   Graph, Order (of regions)         what a region leads to, what is reached; all regions, and their order
@@ -13,15 +13,16 @@
 --   Printed (of listing)              the listing
 -- States and their regions are those of Demand3. What these files rest on is named in their first lines.
 use Prim.Native.Nat.{ℕ, suc, _≤_, _<_}
-use mathlib.Core.Path.{_≡_, sym, ap₂, subst}
+use mathlib.Core.Path.{_≡_, refl, sym, ap, ap₂, subst}
+use mathlib.Core.Bool.{Bool, true}
 use mathlib.Core.Logic.{_↔_, _⊎_}
-use mathlib.Core.List.{List}
+use mathlib.Core.List.{List, map}
 use lib.ListN.{length, getD, take}
-use Rattle.regions.specs.Passed.{Model, readTable, accepted, Region}
+use Rattle.regions.specs.Passed.{Model, edgeOf, readTable, accepted, Region}
 use Rattle.regions.specs.Entries.{regionAt}
-use Rattle.regions.specs.Graph.{DelaysTo, Reached}
+use Rattle.regions.specs.Graph.{boundsOf, landing, available, DelaysTo, Reached}
+use Rattle.regions.specs.View.{numberIn}
 use Rattle.regions.specs.Order.{AllRegions, InOrder}
-use Rattle.regions.specs.Call.{roomFor}
 use Rattle.regions.specs.Explore.{listed}
 use Rattle.regions.specs.Laws.Order.{order-one}
 use Rattle.states.specs.States.{State, IsState}
@@ -37,19 +38,32 @@ use Rattle.partition.specs.Laws.LeftBlocks.{left-bisimulation, left-coarsest}
 use Rattle.partition.specs.Laws.LeftStates.{left-all, left-order}
 use Rattle.text.specs.Text.{upTo}
 use Rattle.listing.specs.Printed.{listing}
-use Rattle.listing.specs.Parts.{partCount, mostBytes}
+use Rattle.listing.specs.Parts.{partCount}
 use Rattle.terkwabu.specs.Answers.{resultAs}
 use Rattle.terkwabu.specs.Calls.{GraphCall, ReduceCall, JudgeCall, PartCall, LineCall}
+use Rattle.terkwabu.specs.Rows.{entriesLent}
 use Rattle.terkwabu.specs.Laws.Bridges.{graph-accepted, graph-value, graph-entries, graph-all, graph-order}
-use Rattle.terkwabu.specs.Laws.Bridges.{graph-delays, first-left, second-left}
+use Rattle.terkwabu.specs.Laws.Bridges.{graph-label, graph-available, graph-branches, graph-delays, first-left, second-left}
 use Rattle.terkwabu.specs.Laws.Rows.{judge-iff}
 use Rattle.terkwabu.specs.Laws.States.{read-one, model-one}
-use Rattle.terkwabu.specs.Laws.Listing.{host-joined, host-refused}
+use Rattle.terkwabu.specs.Laws.Listing.{host-joined, host-end, host-some, host-refused}
 use Rattle.terkwabu.specs.declared.answer.Answer.{Answer}
 
 -- The region graph that a call left in the entries, n of them, as a structure: items are the numbers of regions.
 abbrev pub graphIn : Model → (entries : List ℕ) (n : ℕ) → Structure ℕ
 graphIn m entries n = structure (graph m (listed entries n))
+
+-- What it has at item x: the label of the region's location; in table order, the edges available at the region; and of each edge action,
+-- denominator, and its branches, each with its weight and the number of the region that it lands in.
+abbrev pub StructureAt : Model → (entries : List ℕ) (n x : ℕ) → Type 1
+StructureAt m entries n x =
+    (graphIn m entries n .label x ≡ getD (m .labels) (regionAt entries x .location) 0)
+    × ((e : ℕ) → graphIn m entries n .Edge x e ≡ ((e < length (m .edges)) × (available m (edgeOf m e) (regionAt entries x) ≡ true)))
+    × ((e : ℕ) → graphIn m entries n .action x e ≡ edgeOf m e .action)
+    × ((e : ℕ) → graphIn m entries n .whole x e ≡ edgeOf m e .denominator)
+    × ((e : ℕ) → graphIn m entries n .branches x e
+    ≡ map (λ b. record { weight = b .weight; target = numberIn (listed entries n) (landing (boundsOf m) (regionAt entries x) b) })
+    (edgeOf m e .branches))
 
 -- Document 01's blocks of a structure with n items, in a list: so many blocks, after so many rounds.
 pub record BlockNumbers (S : Structure ℕ) (n blocks rounds : ℕ) (list : List ℕ) : Type 0 where
@@ -81,7 +95,12 @@ pub record Demand2 : Type 1 where
       → ((q : Region) → RegionLeads m r q ↔ ((s : State) → IsState m s → regionIn m s ≡ r → StateLeads m s q))
       × ((s : State) → IsState m s → regionIn m s ≡ r → LeadsAlike m r s)
       × ((s : State) × IsState m s × (regionIn m s ≡ r))
-  -- The structure that the blocks are of has, by number, the delays of the regions.
+  -- The structure that the blocks are of is the region graph, by number.
+  pub structure-is : (table entries : List ℕ) (answer : Answer) (entries′ : List ℕ)
+      → GraphCall table entries answer entries′ → answer .refusal ≡ 0
+      → (m : Model) → readTable table ≡ accepted m → (x : ℕ) → x < answer .value
+      → StructureAt m entries′ (answer .value) x
+  -- It has, by number, the delays of the regions.
   pub delays : (table entries : List ℕ) (answer : Answer) (entries′ : List ℕ)
       → GraphCall table entries answer entries′ → answer .refusal ≡ 0
       → (m : Model) → readTable table ≡ accepted m → (x y : ℕ) → x < answer .value → y < answer .value
@@ -117,14 +136,22 @@ pub record Demand2 : Type 1 where
       → (buffers : ℕ → List ℕ) (answers : ℕ → Answer) (buffers′ : ℕ → List ℕ)
       → ((p : ℕ) → p < partCount (answer .value) (answer .blocks)
       → PartCall table entries′ list (answer .value) (answer .blocks) (answer .rounds) p (buffers p) (answers p) (buffers′ p))
-      → ((p : ℕ) → p < partCount (answer .value) (answer .blocks) → mostBytes ≤ length (buffers p))
+      → ((p : ℕ) → p < partCount (answer .value) (answer .blocks) → 65536 ≤ length (buffers p))
       → upTo (λ p. take (answers p .value) (buffers′ p)) (partCount (answer .value) (answer .blocks))
-      ≡ listing table (roomFor (length entries))
+      ≡ listing table (entriesLent entries)
+  -- The host sees where the parts end: past the last all five numbers are 0, and before it the value is not.
+  pub ends : (table entries first second : List ℕ) (answer : Answer) (entries′ first′ second′ : List ℕ)
+      → ReduceCall table entries first second answer entries′ first′ second′ → answer .refusal ≡ 0
+      → (list : List ℕ) → (list ≡ first′) ⊎ (list ≡ second′)
+      → (p : ℕ) (buffer : List ℕ) (said : Answer) (buffer′ : List ℕ)
+      → PartCall table entries′ list (answer .value) (answer .blocks) (answer .rounds) p buffer said buffer′
+      → (partCount (answer .value) (answer .blocks) ≤ p → said ≡ resultAs 0 0 0)
+      × (p < partCount (answer .value) (answer .blocks) → 65536 ≤ length buffer → 0 < said .value)
   -- Where the partition call refuses, but for a list that is too short, the line of its refusal is the listing.
   pub refused : (table entries first second : List ℕ) (answer : Answer) (entries′ first′ second′ : List ℕ)
       → ReduceCall table entries first second answer entries′ first′ second′ → ¬ (answer .refusal ≡ 0) → ¬ (answer .refusal ≡ 16)
       → (buffer : List ℕ) (said : Answer) (buffer′ : List ℕ) → LineCall (answer .refusal) (answer .place) buffer said buffer′
-      → 128 ≤ length buffer → take (said .value) buffer′ ≡ listing table (roomFor (length entries))
+      → 128 ≤ length buffer → take (said .value) buffer′ ≡ listing table (entriesLent entries)
 
 -- ---- It holds
 
@@ -175,6 +202,16 @@ demand-2 =
         λ s is e. region-theorem table m read s is r e,
         reached-state table m read r h,
       );
+      structure-is = λ table entries answer entries′ call none m read x hx.
+          let a = graph-accepted table entries answer entries′ call none in
+          subst (λ (k : Model). StructureAt k entries′ (answer .value) x) (read-one table (a .model) m (a .read) read) (
+            graph-label table entries answer entries′ call none x hx,
+            λ e. ap (λ (b : Bool). (e < length (a .model .edges)) × (b ≡ true))
+                (graph-available table entries answer entries′ call none x e hx),
+            λ e. refl,
+            λ e. refl,
+            λ e. graph-branches table entries answer entries′ call none x e hx,
+          );
       delays = λ table entries answer entries′ call none m read x y hx hy.
           let a = graph-accepted table entries answer entries′ call none in
           subst
@@ -219,6 +256,10 @@ demand-2 =
           (sym (graph-value table entries answer entries′ call none)) (judge-iff table entries proposal judged entries″ judge a)));
       parts = λ table entries first second answer entries′ first′ second′ call none list either.
           host-joined table entries first second answer entries′ first′ second′ call none list either;
+      ends = λ table entries first second answer entries′ first′ second′ call none list either p buffer said buffer′ asked. (
+        host-end table entries first second answer entries′ first′ second′ call none list either p buffer said buffer′ asked,
+        host-some table entries first second answer entries′ first′ second′ call none list either p buffer said buffer′ asked,
+      );
       refused = λ table entries first second answer entries′ first′ second′ call.
           host-refused table entries first second answer entries′ first′ second′ call;
     }

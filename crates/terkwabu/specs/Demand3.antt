@@ -5,7 +5,7 @@
 -- closed statement, and its theorem; and the half that holds for relations at every level.
 --
 -- A premise `ReduceCall table entries first second answer entries′ first′ second′` (Calls) is what the contract of terkwabu_reduce says of
--- every call with these that answers `answer` and leaves entries′, first′ and second′. `answer .refusal ≡ 0` says that the list found no
+-- every call with these that answers `answer` and leaves entries′, first′ and second′ (src/calls.rt). `answer .refusal ≡ 0` says that the list found no
 -- refusal (Demand1), so that the model is accepted; `readTable table ≡ accepted m` says which model it is. With this file five say what is
 -- claimed:
 --   Demand2                           `BlockNumbers`: document 01's block numbers
@@ -24,11 +24,11 @@ use Rattle.regions.specs.Graph.{Reached}
 use Rattle.regions.specs.Order.{AllRegions, InOrder}
 use Rattle.states.specs.States.{State, IsState}
 use Rattle.states.specs.Alike.{regionIn}
-use Rattle.states.specs.StateCall.{asked, ownState}
 use Rattle.bisimulation.specs.Structures.{Structure}
 use Rattle.bisimulation.specs.Bisimulations.{Bisimulation}
 use Rattle.partition.specs.Instances.{states, statesZero, blockIn}
 use Rattle.terkwabu.specs.Calls.{PlaceCall, ReduceCall, PairCall}
+use Rattle.terkwabu.specs.Rows.{stateAsked}
 use Rattle.terkwabu.specs.Laws.Bridges.{reduced-of, first-left, second-left, pair-model, pair-regions, pair-first-left}
 use Rattle.terkwabu.specs.Laws.Bridges.{value-first, value-second, value-together, value-apart}
 use Rattle.terkwabu.specs.Laws.States.{number-of, numbers-block, numbers-differ, numbers-given, numbers-equal}
@@ -39,10 +39,6 @@ use Rattle.terkwabu.specs.declared.answer.Answer.{Answer}
 -- Number i is that of region r: it is entry i of the first n, and no other.
 abbrev pub IsNumber : (entries : List ℕ) (n : ℕ) → Region → ℕ → Type 0
 IsNumber entries n r i = (i < n) × (regionAt entries i ≡ r) × ((j : ℕ) → j < n → regionAt entries j ≡ r → j ≡ i)
-
--- The state that a state call asks for: of four values the model's n.
-abbrev pub stateAsked : Model → (location v₀ v₁ v₂ v₃ denominator : ℕ) → State
-stateAsked m location v₀ v₁ v₂ v₃ denominator = ownState m (asked location v₀ v₁ v₂ v₃ denominator)
 
 -- No bisimulation over a structure of states relates a and b. (Of Type 0 here; relations at every level are in `Demand3At`.)
 abbrev pub NoneRelates : Structure State → State → State → Type 1

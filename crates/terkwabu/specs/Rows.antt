@@ -2,26 +2,31 @@
 -- reading the table finds them: "the first record meeting a condition decides, and within it the lowest number". From 14 on there is one
 -- for each row, with its sentence, and one for the result, and each asks that no row before it is met: "the lowest number that fits the
 -- call decides". So at most one answer fits (`only-answer` of Laws.Only).
-use Prim.Native.Nat.{ℕ, _*_, _≤_, _<_}
+use Prim.Native.Nat.{ℕ, _*_, _/_, _≤_, _<_, min}
 use mathlib.Core.Path.{_≡_}
 use mathlib.Core.Logic.{_⊎_}
 use mathlib.Core.Bool.{true, false}
-use mathlib.Core.List.{List, [], _++_}
-use lib.ListN.{length, getD, drop}
+use mathlib.Core.List.{List, [], _∷_, _++_}
+use lib.ListN.{length, getD, take, drop}
 use Rattle.regions.specs.Passed.{Model, readTable, refusal, accepted, Region}
 use Rattle.regions.specs.Graph.{boundsOf, meets, first, Reached}
 use Rattle.regions.specs.Order.{AllRegions, FirstRegions, InOrder, FirstInOrder}
-use Rattle.regions.specs.Entries.{entryBytes}
-use Rattle.regions.specs.Call.{roomFor, flat}
+use Rattle.regions.specs.Call.{flat}
 use Rattle.states.specs.States.{State, IsState}
 use Rattle.states.specs.Alike.{regionIn}
-use Rattle.states.specs.StateCall.{isNotTaken, ownState}
 use Rattle.bisimulation.specs.Bisimulations.{Bisimulation}
 use Rattle.bisimulation.specs.Finite.{structure, rounds, lastBlocks, blockCount}
 use Rattle.partition.specs.Instances.{graph}
-use Rattle.partition.specs.Calls.{numberedIn}
 use Rattle.terkwabu.specs.Answers.{refusedAs, resultAs, shortAs}
 use Rattle.terkwabu.specs.declared.answer.Answer.{Answer}
+
+-- How many entries count: "N exceeds 4,096 or the whole entries lent", of nine bytes each.
+abbrev pub entriesLent : List ℕ → ℕ
+entriesLent entries = min 4096 (length entries / 9)
+
+-- Entries that hold some regions, and after them what was there. (An entry's nine bytes are said by `entry` of Demand1.)
+abbrev pub withRegions : List Region → List ℕ → List ℕ
+withRegions found entries = flat found ++ drop (9 * length found) entries
 
 -- ---- Rows 1 to 15, which every call that takes a table and lent entries has, and what they leave in the entries
 
@@ -35,8 +40,8 @@ pub data Stopped (table entries entries′ : List ℕ) : (number place : ℕ) �
   -- "15. N exceeds 4,096 or the whole entries lent": another region is reached than fit. "15 leaves the first regions, as many as fit (at
   -- most 4,096)." "Bytes after the entries never change."
   row-15 : {m : Model} {found : List Region} → readTable table ≡ accepted m → meets (boundsOf m) (m .invariants) (first m) ≡ true
-      → FirstRegions m (roomFor (length entries)) found → FirstInOrder m found
-      → entries′ ≡ flat found ++ drop (entryBytes * length found) entries → Stopped table entries entries′ 15 0
+      → FirstRegions m (entriesLent entries) found → FirstInOrder m found
+      → entries′ ≡ withRegions found entries → Stopped table entries entries′ 15 0
 
 -- None of them is met: the table is read as m, found are all its regions, by number, and there is room for them. "Otherwise the first N
 -- entries hold the graph."
@@ -45,8 +50,8 @@ pub record GraphHeld (table entries entries′ : List ℕ) (m : Model) (found : 
   pub meets-first : meets (boundsOf m) (m .invariants) (first m) ≡ true
   pub all : AllRegions m found
   pub in-order : InOrder m found
-  pub fits : length found ≤ roomFor (length entries)
-  pub entries-are : entries′ ≡ flat found ++ drop (entryBytes * length found) entries
+  pub fits : length found ≤ entriesLent entries
+  pub entries-are : entries′ ≡ withRegions found entries
 
 -- The answer by the list: that of rows 1 to 15, where what else was lent is unchanged, or that of the call's own rows.
 pub data ByList (table entries entries′ : List ℕ) (unchanged : Type 0) (own : Model → List Region → Answer → Type 0) : Answer → Type 0 where
@@ -61,15 +66,34 @@ pub data ByList (table entries entries′ : List ℕ) (unchanged : Type 0) (own 
 pub data GraphRows (m : Model) (found : List Region) : Answer → Type 0 where
   graph-result : GraphRows m found (resultAs (length found) 0 0)
 
+-- The state that a call asks for: of the four values the model's n.
+abbrev pub stateAsked : Model → (location v₀ v₁ v₂ v₃ denominator : ℕ) → State
+stateAsked m location v₀ v₁ v₂ v₃ denominator =
+    record { location = location; values = take (m .clocks) (v₀ ∷ v₁ ∷ v₂ ∷ v₃ ∷ []); denominator = denominator }
+
+-- What the call takes, so that row 20 is not met.
+pub record Takes (m : Model) (location v₀ v₁ v₂ v₃ denominator : ℕ) : Type 0 where
+  pub there : location < m .locations
+  pub some : 1 ≤ denominator
+  pub most : denominator ≤ 1000000
+  pub beyond : (i : ℕ) → m .clocks ≤ i → getD (v₀ ∷ v₁ ∷ v₂ ∷ v₃ ∷ []) i 0 ≡ 0
+
 -- The state call: "the region's number".
-pub data PlaceRows (s : State) (m : Model) (found : List Region) : Answer → Type 0 where
+pub data PlaceRows (location v₀ v₁ v₂ v₃ denominator : ℕ) (m : Model) (found : List Region) : Answer → Type 0 where
   -- "20. A state's location is not below the count, its denominator is 0 or above 1,000,000, or a clock beyond n is not 0."
-  place-row-20 : isNotTaken m s ≡ true → PlaceRows s m found (refusedAs 20 0)
+  place-row-20 : ¬ Takes m location v₀ v₁ v₂ v₃ denominator → PlaceRows location v₀ v₁ v₂ v₃ denominator m found (refusedAs 20 0)
   -- "21. The state's region was not reached."
-  place-row-21 : isNotTaken m s ≡ false → IsState m (ownState m s) → ¬ Reached m (regionIn m (ownState m s))
-      → PlaceRows s m found (refusedAs 21 0)
-  place-result : isNotTaken m s ≡ false → IsState m (ownState m s) → (number : ℕ) → number < length found
-      → ((d : Region) → getD found number d ≡ regionIn m (ownState m s)) → PlaceRows s m found (resultAs number 0 0)
+  place-row-21 : Takes m location v₀ v₁ v₂ v₃ denominator → IsState m (stateAsked m location v₀ v₁ v₂ v₃ denominator)
+      → ¬ Reached m (regionIn m (stateAsked m location v₀ v₁ v₂ v₃ denominator))
+      → PlaceRows location v₀ v₁ v₂ v₃ denominator m found (refusedAs 21 0)
+  place-result : Takes m location v₀ v₁ v₂ v₃ denominator → IsState m (stateAsked m location v₀ v₁ v₂ v₃ denominator)
+      → (number : ℕ) → number < length found
+      → ((d : Region) → getD found number d ≡ regionIn m (stateAsked m location v₀ v₁ v₂ v₃ denominator))
+      → PlaceRows location v₀ v₁ v₂ v₃ denominator m found (resultAs number 0 0)
+
+-- A list that holds the blocks in its first N entries and is unchanged after them.
+abbrev pub withBlocks : Model → List Region → List ℕ → List ℕ
+withBlocks m found list = lastBlocks (graph m found) ++ drop (length found) list
 
 -- The partition call: "N, the count of blocks and the count of rounds". "Block lists change only on success of partition and pair calls:
 -- both then hold the blocks in their first N entries and are unchanged after them."
@@ -78,7 +102,7 @@ pub data ReduceRows (first second first′ second′ : List ℕ) (m : Model) (fo
   reduce-row-16 : (length first < length found) ⊎ (length second < length found) → (first′ ≡ first) × (second′ ≡ second)
       → ReduceRows first second first′ second′ m found (refusedAs 16 0)
   reduce-result : (length found ≤ length first) × (length found ≤ length second)
-      → (first′ ≡ numberedIn first m found) × (second′ ≡ numberedIn second m found)
+      → (first′ ≡ withBlocks m found first) × (second′ ≡ withBlocks m found second)
       → ReduceRows first second first′ second′ m found
       (resultAs (length found) (blockCount (graph m found) (rounds (graph m found))) (rounds (graph m found)))
 
@@ -90,11 +114,11 @@ pub data PairRows (first second : List ℕ) (r s : ℕ) (first′ second′ : Li
   pair-row-19 : (length found ≤ length first) × (length found ≤ length second) → (length found ≤ r) ⊎ (length found ≤ s)
       → (first′ ≡ first) × (second′ ≡ second) → PairRows first second r s first′ second′ m found (refusedAs 19 0)
   pair-shared : (length found ≤ length first) × (length found ≤ length second) → (r < length found) × (s < length found)
-      → (first′ ≡ numberedIn first m found) × (second′ ≡ numberedIn second m found)
+      → (first′ ≡ withBlocks m found first) × (second′ ≡ withBlocks m found second)
       → getD (lastBlocks (graph m found)) r 0 ≡ getD (lastBlocks (graph m found)) s 0
       → PairRows first second r s first′ second′ m found (resultAs 1 0 0)
   pair-apart : (length found ≤ length first) × (length found ≤ length second) → (r < length found) × (s < length found)
-      → (first′ ≡ numberedIn first m found) × (second′ ≡ numberedIn second m found)
+      → (first′ ≡ withBlocks m found first) × (second′ ≡ withBlocks m found second)
       → ¬ (getD (lastBlocks (graph m found)) r 0 ≡ getD (lastBlocks (graph m found)) s 0)
       → PairRows first second r s first′ second′ m found (resultAs 0 0 0)
 

@@ -2,7 +2,7 @@
 use Prim.Native.Nat.{ℕ, zero, suc, _+_, _*_, _-_, _/_, _%_, _^_, _≤_, _<_}
 use native.Mathlib.Omega.{arith}
 use native.Mathlib.Nat.{mod-lt, mod-eq-of-lt, pow-le-pow-right, div-eq-of-lt, mul-div-cancel, mul-mod-left, zero-div}
-use native.Mathlib.Nat.{pow-suc, one-le-pow, mul-assoc}
+use native.Mathlib.Nat.{pow-suc, one-le-pow, mul-assoc, div-add-mod, mul-add-div, mul-add-mod-self-left}
 use mathlib.Core.Path.{_≡_, refl, sym, _∙_, ap, ap₂, subst}
 use mathlib.Core.Bool.{Bool, true, false}
 use mathlib.Core.List.{List}
@@ -10,11 +10,12 @@ use mathlib.Core.Logic.{_⊎_, inl, inr}
 use lib.Dec.{eqb}
 use lib.ListN.{length}
 use Rattle.graph.specs.Laws.Latest.{decide, cases}
-use lib.Bits.{bitOr, or-shr, or-mod, or-lt, or-zero-l, or-zero-r, or-self}
-use Rattle.graph.specs.Columns.{Column, load, store, mostRegions, available}
+use lib.Bits.{bitOr, or-shr, or-mod, or-zero-l, or-zero-r, or-self}
+use Rattle.graph.specs.Columns.{Column, load, store, mostRegions, mostEdges, available}
 use Rattle.graph.specs.Readers.{availableWord, bitOf, isAvailable}
 use Rattle.graph.specs.Writers.{clearedWords, withNoneAvailable, withAvailable}
-use Rattle.graph.specs.Laws.Columns.{Lent, Kept, apart, kept-same, kept-then, store-length, load-stored, load-other, store-keeps}
+use Rattle.graph.specs.Laws.Columns.{Lent, Kept, apart, kept-same, kept-then, store-length, load-stored, load-modulo, load-other}
+use Rattle.graph.specs.Laws.Columns.{store-keeps}
 
 -- A bit of a word is below its end.
 pub bit-small : (k : ℕ) → k < 16 → 2 ^ k < 65536
@@ -79,6 +80,24 @@ bit-kept w k j other =
     none (inr (inl e)) = absurd (other e)
     none (inr (inr h)) = power-below k j h
 
+-- The bits below 16 of a number are those of its lowest sixteen.
+bit-modulo : (w k : ℕ) → k < 16 → bitOf (w % 65536) k ≡ bitOf w k
+unfolding bitOf
+bit-modulo w k h =
+    let most : k + suc (15 - k) ≡ 16 = omega (arith, h) in
+    let power : 2 ^ 16 ≡ 2 ^ (15 - k) * 2 * 2 ^ k =
+    ap (λ (n : ℕ). 2 ^ n) (sym most) ∙ pow-split k (suc (15 - k)) ∙ ap (λ (n : ℕ). n * 2 ^ k) (pow-suc 2 (15 - k)) in
+    let whole : w ≡ 2 ^ k * (2 * (2 ^ (15 - k) * (w / 65536))) + w % 65536 =
+    sym (div-add-mod w 65536) ∙ ap (λ (n : ℕ). n * (w / 65536) + w % 65536) power
+    ∙ ap (λ (n : ℕ). n + w % 65536) (turned (2 ^ (15 - k)) (2 ^ k) (w / 65536)) in
+    ap (λ (n : ℕ). eqb n 1)
+    (sym (mul-add-mod-self-left 2 (2 ^ (15 - k) * (w / 65536)) (w % 65536 / 2 ^ k))
+    ∙ ap (λ (n : ℕ). n % 2) (sym (mul-add-div {m = 2 ^ k} (one-le-pow k 2 (omega arith)) (2 * (2 ^ (15 - k) * (w / 65536))) (w % 65536)))
+    ∙ ap (λ (n : ℕ). n / 2 ^ k % 2) (sym whole))
+  where
+    turned : (a b c : ℕ) → a * 2 * b * c ≡ b * (2 * (a * c))
+    turned a b c = omega arith
+
 -- ---- Available edges
 
 word-place : ℕ → ℕ → ℕ
@@ -102,22 +121,26 @@ module _ (graph : List ℕ) (x rank : ℕ) where
       (bitOr (availableWord graph x (rank / 16)) (2 ^ (rank % 16))) other is
       (place-inside x (rank / 16))
 
-  pub available-marked : Lent available graph → availableWord graph x (rank / 16) < 65536 → isAvailable
-      (withAvailable graph x rank) x rank ≡ true
-  unfolding withAvailable isAvailable availableWord word-place
-  available-marked lent small =
-      ap (λ (w : ℕ). bitOf w (rank % 16))
-      (load-stored available graph (8 * (x % mostRegions) + rank / 16 % 8) (bitOr (availableWord graph x (rank / 16)) (2 ^ (rank % 16)))
-      (place-inside x (rank / 16)) lent
-      (or-lt 16 (availableWord graph x (rank / 16)) (2 ^ (rank % 16)) small (bit-small (rank % 16) (mod-lt rank {m = 16} (omega arith)))))
+  stored-word : Lent available graph → load available (withAvailable graph x rank) (8 * (x % mostRegions) + rank / 16 % 8)
+      ≡ bitOr (availableWord graph x (rank / 16)) (2 ^ (rank % 16)) % 65536
+  unfolding withAvailable word-place
+  stored-word lent =
+      load-modulo available graph (8 * (x % mostRegions) + rank / 16 % 8)
+      (bitOr (availableWord graph x (rank / 16)) (2 ^ (rank % 16))) (place-inside x (rank / 16)) lent
+
+  pub available-marked : Lent available graph → isAvailable (withAvailable graph x rank) x rank ≡ true
+  unfolding isAvailable availableWord
+  available-marked lent =
+      ap (λ (w : ℕ). bitOf w (rank % 16)) (stored-word lent)
+      ∙ bit-modulo (bitOr (availableWord graph x (rank / 16)) (2 ^ (rank % 16))) (rank % 16) (mod-lt rank {m = 16} (omega arith))
       ∙ bit-set (availableWord graph x (rank / 16)) (rank % 16)
 
   -- Every other rank of every region stays.
-  pub available-other : (y other : ℕ) → Lent available graph → availableWord graph x (rank / 16) < 65536 → x < 4096 → y < 4096
-      → rank < 128 → other < 128
-      → ((y ≡ x) × (other ≡ rank) → ⊥) → isAvailable (withAvailable graph x rank) y other ≡ isAvailable graph y other
+  pub available-other : (y other : ℕ) → Lent available graph
+      → ((y % mostRegions ≡ x % mostRegions) × (other % mostEdges ≡ rank % mostEdges) → ⊥)
+      → isAvailable (withAvailable graph x rank) y other ≡ isAvailable graph y other
   unfolding withAvailable isAvailable availableWord word-place
-  available-other y other lent small hx hy hr ho differs = go (decide (word-place y (other / 16)) (word-place x (rank / 16)))
+  available-other y other lent differs = go (decide (word-place y (other / 16)) (word-place x (rank / 16)))
     where
       go : (word-place y (other / 16) ≡ word-place x (rank / 16)) ⊎ (word-place y (other / 16) ≡ word-place x (rank / 16) → ⊥)
           → isAvailable (withAvailable graph x rank) y other ≡ isAvailable graph y other
@@ -126,15 +149,12 @@ module _ (graph : List ℕ) (x rank : ℕ) where
           (load-other available graph (8 * (x % mostRegions) + rank / 16 % 8) (bitOr (availableWord graph x (rank / 16)) (2 ^ (rank % 16)))
           (8 * (y % mostRegions) + other / 16 % 8) away)
       go (inl same) =
-          let fx : x % mostRegions ≡ x = mod-eq-of-lt hx in
-          let fy : y % mostRegions ≡ y = mod-eq-of-lt hy in
-          let bits : other % 16 ≡ rank % 16 → ⊥ = λ e. differs (omega (arith, same, fx, fy), omega (arith, same, fx, fy, e, hr, ho)) in
+          let regions : y % mostRegions ≡ x % mostRegions = omega (arith, same) in
+          let words : other / 16 % 8 ≡ rank / 16 % 8 = omega (arith, same) in
+          let bits : other % 16 ≡ rank % 16 → ⊥ = λ e. differs (regions, omega (arith, words, e)) in
           ap (λ (n : ℕ). bitOf (load available (withAvailable graph x rank) n) (other % 16)) same
-          ∙ ap (λ (w : ℕ). bitOf w (other % 16))
-          (load-stored available graph (8 * (x % mostRegions) + rank / 16 % 8) (bitOr (availableWord graph x (rank / 16)) (2 ^ (rank % 16)))
-          (place-inside x (rank / 16)) lent
-          (or-lt 16 (availableWord graph x (rank / 16)) (2 ^ (rank % 16)) small
-          (bit-small (rank % 16) (mod-lt rank {m = 16} (omega arith)))))
+          ∙ ap (λ (w : ℕ). bitOf w (other % 16)) (stored-word lent)
+          ∙ bit-modulo (bitOr (availableWord graph x (rank / 16)) (2 ^ (rank % 16))) (other % 16) (mod-lt other {m = 16} (omega arith))
           ∙ bit-kept (availableWord graph x (rank / 16)) (rank % 16) (other % 16) bits
           ∙ sym (ap (λ (n : ℕ). bitOf (load available graph n) (other % 16)) same)
 

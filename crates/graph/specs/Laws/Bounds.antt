@@ -28,6 +28,10 @@ pub denominator-small : (edges : List ℕ) (edge : ℕ) → denominatorOf edges 
 unfolding denominatorOf
 denominator-small edges edge = mod-lt (getD edges (edgePlace edge + 1) 0) {m = 1073741824} (omega arith)
 
+pub reset-again : (reset : ℕ) → reset < 61440 → resetNumber (resetSource reset) (resetMask reset) ≡ reset
+unfolding resetNumber resetSource resetMask
+reset-again reset h = omega (arith, h)
+
 -- A reset is told by its class and its mask, and these by it.
 module _ (class mask : ℕ) (hc : class < mostRegions) (some : 0 < mask) (hm : mask < 16) where
   reset-number : resetNumber class mask ≡ mostRegions * (mask - 1) + class

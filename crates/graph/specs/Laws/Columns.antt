@@ -57,6 +57,10 @@ module _ (column : Column) (graph : List ℕ) (i v : ℕ) where
   pub store-lent : (other : Column) → Lent other graph → Lent other (store column graph i v)
   store-lent other lent = omega (arith, store-length, lent)
 
+  pub load-modulo : i < column .size → Lent column graph → load column (store column graph i v) i ≡ v % 65536
+  unfolding load store
+  load-modulo h lent = getD-set-same graph (column .from + i) (v % 65536) nothing (omega (arith, h, lent))
+
   pub load-stored : i < column .size → Lent column graph → v < 65536 → load column (store column graph i v) i ≡ v
   unfolding load store
   load-stored h lent small =

@@ -1,10 +1,10 @@
--- The resets backwards: each reset that was noted is among those that lead to its class.
+-- The resets backwards: the resets that lead to a class are those that were noted with it.
 use Prim.Native.Nat.{ℕ, zero, suc, _+_, _%_, _≤_, _<_}
 use native.Mathlib.Omega.{arith}
 use native.Mathlib.Nat.{eq-or-lt-of-le, mod-eq-of-lt, mod-lt}
 use mathlib.Core.Path.{_≡_, refl, sym, _∙_, ap, ap₂, subst}
 use mathlib.Core.Bool.{Bool, true, false, cond}
-use mathlib.Core.List.{List, [], _∷_, List·Memᴰ, List·Memᴰ·head, List·Memᴰ·tail}
+use mathlib.Core.List.{List, [], _∷_, List·Memᴰ, List·Memᴰ·head, List·Memᴰ·tail, List·Memᴰ·not-nil, List·Memᴰ·cases-cons}
 use mathlib.Core.Logic.{_⊎_, inl, inr}
 use lib.Dec.{eqb}
 use lib.ListN.{length}
@@ -12,7 +12,7 @@ use borrow.Author.Tests.{eqb-true, eqb-false, eq-eqb, ne-eqb}
 use Rattle.graph.specs.Columns.{nothing, load, store, long, mostRegions, sourceHeads, sourceLinks}
 use Rattle.graph.specs.Readers.{resetNumber, sourceHead, sourceLink, sourcesFrom, sourcesOf}
 use Rattle.graph.specs.Writers.{withSource}
-use Rattle.graph.specs.Laws.Columns.{store-length, load-stored, load-other, store-keeps}
+use Rattle.graph.specs.Laws.Columns.{Kept, store-length, load-stored, load-other, store-keeps}
 use Rattle.graph.specs.Laws.Latest.{latest, both, decide, latest-none, latest-here, latest-past, latest-ways, latest-misses}
 use Rattle.graph.specs.Laws.Latest.{latest-covers}
 use Rattle.graph.specs.Laws.Stores.{region-below, number-below}
@@ -100,6 +100,65 @@ module _ {graph : List ℕ} {number target : ℕ → ℕ} {n : ℕ} (back : Back
       subst (λ (r : ℕ). List·Memᴰ (number t) (sourcesFrom graph 61440 r))
       (sym (ap (load sourceHeads graph) (mod-eq-of-lt small) ∙ back .head-is (target t) small))
       (walk-has (target t) 61440 n t (back .few) (omega arith) h refl)
+
+  walk-only : (class steps m r : ℕ) → m ≤ n → List·Memᴰ r (sourcesFrom graph steps (numberAt number (latest (leadsTo target class) m)))
+      → (t : ℕ) × (t < m) × (number t ≡ r) × (target t ≡ class)
+  unfolding sourcesFrom sourceLink
+  walk-only class zero m r within met = absurd (List·Memᴰ·not-nil met)
+  walk-only class (suc steps) m r within met = go (walk-only class steps) (latest-ways p m)
+    where
+      p : ℕ → Bool
+      p = leadsTo target class
+
+      small : m ≤ nothing
+      small = omega (arith, within, back .few)
+
+      found : ((j s : ℕ) → j ≤ n → List·Memᴰ s (sourcesFrom graph steps (numberAt number (latest p j)))
+          → (t : ℕ) × (t < j) × (number t ≡ s) × (target t ≡ class))
+          → (u : ℕ) → (u < m) × (p u ≡ true) → (r ≡ number u) ⊎ List·Memᴰ r (sourcesFrom graph steps (sourceLink graph (number u)))
+          → (t : ℕ) × (t < m) × (number t ≡ r) × (target t ≡ class)
+      found rest u s (inl e) = (u, s .0, sym e, eqb-true (target u) class (s .1))
+      found rest u s (inr later) =
+          let link : sourceLink graph (number u) ≡ numberAt number (latest p u) =
+          ap (load sourceLinks graph) (mod-eq-of-lt (back .below u (omega (arith, s .0, within))))
+          ∙ back .link-is u (omega (arith, s .0, within))
+          ∙ ap (λ (k : ℕ). numberAt number (latest (leadsTo target k) u)) (eqb-true (target u) class (s .1)) in
+          let is = rest u r (omega (arith, s .0, within)) (subst (λ (k : ℕ). List·Memᴰ r (sourcesFrom graph steps k)) link later) in
+          (is .0, omega (arith, is .1, s .0), is .2, is .3)
+
+      go : ((j s : ℕ) → j ≤ n → List·Memᴰ s (sourcesFrom graph steps (numberAt number (latest p j)))
+          → (t : ℕ) × (t < j) × (number t ≡ s) × (target t ≡ class))
+          → (latest p m ≡ nothing) ⊎ ((latest p m < m) × (p (latest p m) ≡ true))
+          → (t : ℕ) × (t < m) × (number t ≡ r) × (target t ≡ class)
+      go rest (inl none) =
+          absurd (List·Memᴰ·not-nil (subst (λ (k : ℕ). List·Memᴰ r (sourcesFrom graph (suc steps) (numberAt number k))) none met))
+      go rest (inr some) =
+          let at : numberAt number (latest p m) ≡ number (latest p m) = number-some number (latest p m) (omega (arith, some .0, small)) in
+          let inside : number (latest p m) < 61440 = back .below (latest p m) (omega (arith, some .0, within)) in
+          found rest (latest p m) some (List·Memᴰ·cases-cons (subst (λ (l : List ℕ). List·Memᴰ r l)
+          (ap (λ (k : ℕ). sourcesFrom graph (suc steps) k) at
+          ∙ ap (λ (b : Bool). cond b [] (number (latest p m) ∷ sourcesFrom graph steps (sourceLink graph (number (latest p m)))))
+          (ne-eqb (number (latest p m)) nothing (λ e. absurd (omega (arith, e, inside))))) met))
+
+  -- And what is among those that lead to a class was noted.
+  pub sources-only : (class r : ℕ) → class < 4096 → List·Memᴰ r (sourcesOf graph class)
+      → (t : ℕ) × (t < n) × (number t ≡ r) × (target t ≡ class)
+  unfolding sourcesOf sourceHead
+  sources-only class r small met =
+      walk-only class 61440 n r (omega arith) (subst (λ (k : ℕ). List·Memᴰ r (sourcesFrom graph 61440 k))
+      (ap (load sourceHeads graph) (mod-eq-of-lt small) ∙ back .head-is class small) met)
+
+  -- What keeps the two columns keeps the way back.
+  pub backward-kept : (graph′ : List ℕ) → length graph ≤ length graph′ → Kept sourceHeads graph graph′ → Kept sourceLinks graph graph′
+      → Backward graph′ number target n
+  backward-kept graph′ longer heads links =
+      record {
+        lent = omega (arith, back .lent, longer);
+        few = back .few;
+        below = back .below;
+        head-is = λ k h. heads k h ∙ back .head-is k h;
+        link-is = λ t h. links (number t) (back .below t h) ∙ back .link-is t h;
+      }
 
 -- One note more.
 module _ {graph : List ℕ} {number target : ℕ → ℕ} {n : ℕ} (back : Backward graph number target n) where

@@ -22,7 +22,7 @@ use Rattle.graph.specs.Writers.{withWeight, withRegion, withClass, withL
 use Rattle.graph.specs.Writers.{withNoneAvailable, withAvailable, withClassDelay, withSource, withReset}
 use Rattle.graph.specs.Laws.Columns.{Lent, Kept, apart, kept-same, kept-then, store-length, load-stored, load-other, store-keeps}
 use mathlib.Core.Logic.{_⊎_, inl, inr}
-use Rattle.graph.specs.Laws.Latest.{decide}
+use Rattle.graph.specs.Laws.Latest.{decide, cases}
 use Rattle.graph.specs.Laws.Walks.{reset-known, reset-plain, reset-both}
 use Rattle.graph.specs.Laws.Index.{bucket-below}
 
@@ -287,13 +287,27 @@ module _ (graph : List ℕ) (class mask after : ℕ) where
       (store-keeps resets graph (16 * (class % mostRegions) + mask % 16) after other a (reset-below class mask))
       (source-keeps (store resets graph (16 * (class % mostRegions) + mask % 16) after) class (mask % 16) after other b c))
 
-  pub reset-other : (place : ℕ) → place < 65536 → (place ≡ 16 * (class % mostRegions) + mask % 16 → ⊥)
+  place-other : (place : ℕ) → place < 65536 → (place ≡ 16 * (class % mostRegions) + mask % 16 → ⊥)
       → load resets (withReset graph class mask after) place ≡ load resets graph place
-  reset-other place h differs =
+  place-other place h differs =
       let first = load-other resets graph (16 * (class % mostRegions) + mask % 16) after place differs in
       reset-ways (λ (g : List ℕ). load resets g place ≡ load resets graph place) refl first
       (source-keeps (store resets graph (16 * (class % mostRegions) + mask % 16) after) class (mask % 16) after resets refl refl place h
       ∙ first)
+
+  pub reset-other : (other by : ℕ) → ((other % mostRegions ≡ class % mostRegions) × (by % 16 ≡ mask % 16) → ⊥)
+      → resetClass (withReset graph class mask after) other by ≡ resetClass graph other by
+  unfolding resetClass
+  reset-other other by differs =
+      place-other (16 * (other % mostRegions) + by % 16) (reset-below other by)
+      (λ e. away e (cases (other % mostRegions) (class % mostRegions)))
+    where
+      away : 16 * (other % mostRegions) + by % 16 ≡ 16 * (class % mostRegions) + mask % 16
+          → (other % mostRegions < class % mostRegions)
+          ⊎ ((other % mostRegions ≡ class % mostRegions) ⊎ (class % mostRegions < other % mostRegions)) → ⊥
+      away e (inl h) = absurd (omega (arith, e, h, mod-lt by {m = 16} (omega arith)))
+      away e (inr (inl h)) = differs (h, omega (arith, e, h))
+      away e (inr (inr h)) = absurd (omega (arith, e, h, mod-lt mask {m = 16} (omega arith)))
 
   pub reset-stored : resetClass graph class mask ≡ nothing → Lent resets graph → after < 65536 → resetClass
       (withReset graph class mask after) class mask ≡ after

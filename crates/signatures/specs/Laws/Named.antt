@@ -1,5 +1,4 @@
--- What ids of signatures tell: equal ids exactly for equal names, delays and sets of steps; and what is refused is like nothing that has an
--- id.
+-- Ids of signatures are equal exactly if names, delays and sets of steps are equal. What is refused is like nothing that has an id.
 use Prim.Native.Nat.{ℕ, zero, suc, _+_, _-_, _*_, _≤_, _<_}
 use native.Mathlib.Omega.{arith}
 use native.Mathlib.Numerals.{add-one}

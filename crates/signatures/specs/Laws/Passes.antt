@@ -1,4 +1,4 @@
--- A pass: one item more has its id, or found no room.
+-- A pass, item by item: one more has its id, or none.
 use Prim.Native.Nat.{ℕ, zero, suc, _+_, _≤_, _<_}
 use native.Mathlib.Omega.{arith}
 use mathlib.Core.Path.{_≡_, refl, sym, _∙_, ap, subst}

@@ -1,5 +1,4 @@
--- Shares as two numbers are equal exactly where the cross products are: denominators are below 2^30, so that different shares differ by
--- more
+-- Shares as two numbers are equal exactly if the cross products are. Denominators are below 2^30, so that different shares differ by more
 -- than 2^-60.
 use Prim.Native.Nat.{ℕ, _+_, _*_, _/_, _%_, _≤_, _<_}
 use native.Mathlib.Omega.{arith}

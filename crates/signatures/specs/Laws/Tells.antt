@@ -1,6 +1,5 @@
--- What the ids of a pass tell of the next round, in a closed structure: items have equal ids exactly where it relates them; and an item
--- that
--- found no room is related to none that has an id.
+-- What the ids of a pass tell of the next round in a closed structure: items have equal ids exactly if it relates them, and an item without
+-- an id is related to none that has one.
 use Prim.Native.Nat.{ℕ, zero, suc, _≤_, _<_}
 use native.Mathlib.Omega.{arith}
 use mathlib.Core.Path.{_≡_, refl, sym, _∙_, ap, ap₂, subst}
@@ -19,7 +18,9 @@ use Rattle.signatures.specs.Sets.{setOf}
 use Rattle.signatures.specs.Steps.{nameOf}
 use Rattle.signatures.specs.Signatures.{namesOf, SameSignature}
 use Rattle.signatures.specs.Structure.{chainFrom, edgeOf, structureOf}
-use Rattle.signatures.specs.Named.{Alike, itemsIn, jumpOf, reachedFrom, stepsFrom, noId, Passed}
+use Rattle.signatures.specs.Named.{Alike, itemsIn, jumpOf, Skips, reachedFrom, stepsFrom, noId, Passed}
+use Rattle.signatures.specs.Laws.Sets.{set-same}
+use Rattle.signatures.specs.Laws.Reached.{skip-to, skip-from}
 use Rattle.signatures.specs.Laws.Signatures.{Small, signature-tells}
 use Rattle.signatures.specs.Laws.Named.{named-same, named-alike, refused-apart}
 
@@ -43,6 +44,14 @@ pub jumps-plain : (graph edges names : List ℕ) → ((y : ℕ) → y < itemsIn 
 unfolding reachedFrom structureOf
 jumps-plain graph edges names same x h =
     ap (λ (l : List ℕ). setOf (namesOf names l)) (chain-same (jumpOf names) (delayOf graph) (itemsIn names) same (itemsIn names) x)
+
+-- It is too, where each item's jump passes items of its own name alone.
+pub jumps-skip : (graph edges names : List ℕ) → Skips graph names → Jumps graph edges names
+unfolding reachedFrom structureOf
+jumps-skip graph edges names skips x h =
+    set-same (namesOf names (chainFrom (jumpOf names) (itemsIn names) (itemsIn names) x))
+    (namesOf names (chainFrom (delayOf graph) (itemsIn names) (itemsIn names) x))
+    (skip-to graph names skips x) (skip-from graph names skips x)
 
 -- Denominators are below 2^30 in any slices.
 pub slices-small : (n : ℕ) (graph edges : List ℕ) → Small (structureOf n graph edges)

@@ -8,17 +8,17 @@ use mathlib.Core.Logic.{_↔_, Iff·trans}
 use mathlib.Core.Bool.{Bool, true, false, cond}
 use lib.Dec.{ltb}
 use borrow.Author.Tests.{ltb-true}
-use mathlib.Core.List.{List, List·Memᴰ}
+use mathlib.Core.List.{List, map, List·Memᴰ}
 use lib.ListN.{length, getD}
-use Rattle.regions.specs.Passed.{Model, Region}
+use Rattle.regions.specs.Passed.{Model, edgeOf, Region}
 use Rattle.regions.specs.Call.{whole, roomFor, outcomeOf}
 use Rattle.regions.specs.Entries.{regionAt}
 use Rattle.regions.specs.Explore.{listed, listed-length, listed-at}
-use Rattle.regions.specs.Graph.{first, DelaysTo}
+use Rattle.regions.specs.Graph.{available, first, DelaysTo}
 use Rattle.regions.specs.Order.{AllRegions, InOrder}
 use Rattle.regions.specs.Laws.Call.{whole-graph, whole-model}
 use Rattle.regions.specs.Laws.Order.{whole-order}
-use Rattle.regions.specs.View.{numberIn}
+use Rattle.regions.specs.View.{numberIn, labelOf}
 use Rattle.regions.specs.Laws.Bytes.{listed-whole}
 use Rattle.regions.specs.Laws.View.{has-number, number-listed}
 use Rattle.states.specs.States.{State}
@@ -27,7 +27,7 @@ use Rattle.states.specs.StateCall.{asked, isNotTaken, ownState, numbered, place
 use Rattle.states.specs.declared.states.Placing.{Placing}
 use Rattle.states.specs.declared.states.Placing.the-variants as P
 use Rattle.bisimulation.specs.Finite.{Finite, blockCount, rounds}
-use Rattle.partition.specs.Instances.{regionOf, graph}
+use Rattle.partition.specs.Instances.{regionOf, landsAt, graph}
 use Rattle.partition.specs.Laws.Delays.{delays-are}
 use Rattle.partition.specs.Calls.{Accepted, reduceOf, pairOf}
 use Rattle.partition.specs.Promises.{Reduced, Paired}
@@ -82,6 +82,31 @@ module _ (table entries : List ℕ) (answer : Answer) (entries′ : List ℕ) (c
       (whole-order table (roomFor (length entries)) (graph-accepted .found) (graph-accepted .model) (graph-accepted .read)
       (graph-accepted .out))
 
+  -- Region x of the graph, by number, is entry x: so are its label, its edges and their branches.
+  region-is : (x : ℕ) → x < answer .value → regionOf (graph-accepted .model) (listed entries′ (answer .value)) x ≡ regionAt entries′ x
+  region-is x h = listed-at entries′ (answer .value) x (first (graph-accepted .model)) h
+
+  pub graph-label : (x : ℕ) → x < answer .value
+      → graph (graph-accepted .model) (listed entries′ (answer .value)) .label x
+      ≡ getD (graph-accepted .model .labels) (regionAt entries′ x .location) 0
+  unfolding labelOf
+  graph-label x h = ap (λ (r : Region). getD (graph-accepted .model .labels) (r .location) 0) (region-is x h)
+
+  pub graph-available : (x e : ℕ) → x < answer .value
+      → graph (graph-accepted .model) (listed entries′ (answer .value)) .available x e
+      ≡ available (graph-accepted .model) (edgeOf (graph-accepted .model) e) (regionAt entries′ x)
+  graph-available x e h = ap (available (graph-accepted .model) (edgeOf (graph-accepted .model) e)) (region-is x h)
+
+  pub graph-branches : (x e : ℕ) → x < answer .value
+      → graph (graph-accepted .model) (listed entries′ (answer .value)) .branches x e
+      ≡ map (landsAt (graph-accepted .model) (listed entries′ (answer .value)) (regionAt entries′ x))
+      (edgeOf (graph-accepted .model) e .branches)
+  graph-branches x e h =
+      ap
+      (λ (r : Region).
+      map (landsAt (graph-accepted .model) (listed entries′ (answer .value)) r) (edgeOf (graph-accepted .model) e .branches))
+      (region-is x h)
+
   -- By number, a region reaches by delay what it delays to.
   pub graph-delays : (x y : ℕ) → x < answer .value → y < answer .value
       → List·Memᴰ y (graph (graph-accepted .model) (listed entries′ (answer .value)) .delays x)
@@ -91,8 +116,7 @@ module _ (table entries : List ℕ) (answer : Answer) (entries′ : List ℕ) (c
       let found : List Region = listed entries′ (answer .value) in
       let fine = whole-model table (roomFor (length entries)) (graph-accepted .found) m (graph-accepted .out) (graph-accepted .read) .1 in
       let long : length found ≡ answer .value = listed-length entries′ (answer .value) in
-      let at : (z : ℕ) → z < answer .value → regionOf m found z ≡ regionAt entries′ z =
-      λ z h. listed-at entries′ (answer .value) z (first m) h in
+      let at : (z : ℕ) → z < answer .value → regionOf m found z ≡ regionAt entries′ z = region-is in
       let are = delays-are m found graph-all fine x y (omega (arith, hx, long)) in (
         λ n. subst (λ (r : Region). DelaysTo m r (regionAt entries′ y)) (at x hx)
             (subst (λ (r : Region). DelaysTo m (regionOf m found x) r) (at y hy) (are .0 n .1)),

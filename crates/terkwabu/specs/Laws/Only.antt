@@ -15,8 +15,6 @@ use Rattle.regions.specs.Call.{refused, roomFor, fromAnswer, outcomeOf}
 use Rattle.regions.specs.Laws.Numbers.{refused-number}
 use Rattle.regions.specs.Laws.Order.{order-one}
 use Rattle.regions.specs.Laws.Worklist.{different-grown, no-more, member}
-use Rattle.states.specs.States.{State}
-use Rattle.states.specs.StateCall.{isNotTaken, ownState}
 use Rattle.terkwabu.specs.Answers.{refusedAs, resultAs}
 use Rattle.terkwabu.specs.Rows.{Stopped, row-1-13, row-14, row-15, GraphHeld, ByList, stopped, went-on}
 use Rattle.terkwabu.specs.Rows.{GraphRows, graph-result, PlaceRows, place-row-20, place-row-21, place-result}
@@ -119,16 +117,16 @@ module _ (table entries : List ℕ) where
 pub graph-only : {m : Model} {found : List Region} {a b : Answer} → AllRegions m found → GraphRows m found a → GraphRows m found b → a ≡ b
 graph-only all graph-result graph-result = refl
 
-pub place-only : {s : State} {m : Model} {found : List Region} {a b : Answer} → AllRegions m found → PlaceRows s m found a
-    → PlaceRows s m found b → a ≡ b
+pub place-only : {l v₀ v₁ v₂ v₃ d : ℕ} {m : Model} {found : List Region} {a b : Answer} → AllRegions m found
+    → PlaceRows l v₀ v₁ v₂ v₃ d m found a → PlaceRows l v₀ v₁ v₂ v₃ d m found b → a ≡ b
 place-only all (place-row-20 e) (place-row-20 f) = refl
-place-only all (place-row-20 e) (place-row-21 f _ _) = absurd (false≢true (sym f ∙ e))
-place-only all (place-row-20 e) (place-result f _ _ _ _) = absurd (false≢true (sym f ∙ e))
-place-only all (place-row-21 e _ _) (place-row-20 f) = absurd (false≢true (sym e ∙ f))
+place-only all (place-row-20 e) (place-row-21 t _ _) = absurd (e t)
+place-only all (place-row-20 e) (place-result t _ _ _ _) = absurd (e t)
+place-only all (place-row-21 t _ _) (place-row-20 e) = absurd (e t)
 place-only all (place-row-21 _ _ _) (place-row-21 _ _ _) = refl
 place-only {m = m} {found} all (place-row-21 _ _ away) (place-result _ _ number below is) =
     absurd (away (all .all _ .1 (subst (λ (r : Region). List·Memᴰ r found) (is (first m)) (member (first m) found number below))))
-place-only all (place-result e _ _ _ _) (place-row-20 f) = absurd (false≢true (sym e ∙ f))
+place-only all (place-result t _ _ _ _) (place-row-20 e) = absurd (e t)
 place-only {m = m} {found} all (place-result _ _ number below is) (place-row-21 _ _ away) =
     absurd (away (all .all _ .1 (subst (λ (r : Region). List·Memᴰ r found) (is (first m)) (member (first m) found number below))))
 place-only {m = m} all (place-result _ _ i hi at) (place-result _ _ j hj bt) =
@@ -187,8 +185,9 @@ module _ (table entries : List ℕ) {left left′ : List ℕ} {a b : Answer} whe
   pub graph-answer : ByList table entries left Unit GraphRows a → ByList table entries left′ Unit GraphRows b → a ≡ b
   graph-answer = only-answer table entries (λ m found a b. graph-only)
 
-  pub place-answer : (s : State) → ByList table entries left Unit (PlaceRows s) a → ByList table entries left′ Unit (PlaceRows s) b → a ≡ b
-  place-answer s = only-answer table entries (λ m found a b. place-only)
+  pub place-answer : (l v₀ v₁ v₂ v₃ d : ℕ) → ByList table entries left Unit (PlaceRows l v₀ v₁ v₂ v₃ d) a
+      → ByList table entries left′ Unit (PlaceRows l v₀ v₁ v₂ v₃ d) b → a ≡ b
+  place-answer l v₀ v₁ v₂ v₃ d = only-answer table entries (λ m found a b. place-only)
 
   pub judge-answer : (proposal : List ℕ) → ByList table entries left Unit (JudgeRows proposal) a
       → ByList table entries left′ Unit (JudgeRows proposal) b → a ≡ b

@@ -1,15 +1,15 @@
 -- The answer of each call, and what it left in what was lent, are by document 01's list, row by row. What the graph call comes to decides
 -- rows 1 to 15 (`rows`); then come the rows of each call.
-use Prim.Native.Nat.{ℕ, _*_, _≤_, _<_}
+use Prim.Native.Nat.{ℕ, zero, suc, _+_, _*_, _≤_, _<_}
 use native.Mathlib.Omega.{arith}
 use native.Mathlib.Decide.{decLt}
 use mathlib.Core.Logic.{_⊎_, inl, inr, _↔_}
 use mathlib.Core.Path.{_≡_, refl, sym, _∙_, ap, subst}
-use mathlib.Core.Bool.{Bool, true, false, false≢true, cond, not, _||_}
+use mathlib.Core.Bool.{Bool, true, false, false≢true, cond, not, _&&_, _||_}
 use mathlib.Core.List.{List, [], _∷_, _++_}
 use lib.Dec.{eqb, leb, ltb}
 use lib.ListN.{length, getD, drop}
-use borrow.Author.Tests.{eq-eqb, eqb-true, eqb-false, ltb-true, ltb-false, leb-true, leb-false}
+use borrow.Author.Tests.{eq-eqb, ne-eqb, eqb-true, eqb-false, ltb-true, ltb-false, le-ltb, leb-true, leb-false, le-leb, lt-leb}
 use Rattle.regions.specs.Passed.{Model, Answer as Read, readTable, refusal, accepted, Region}
 use Rattle.regions.specs.Graph.{Reached}
 use Rattle.regions.specs.Order.{Begun, FirstRegions}
@@ -22,7 +22,7 @@ use Rattle.regions.specs.declared.call.Graph.{Graph}
 use Rattle.regions.specs.declared.call.Graph.the-variants as G
 use Rattle.states.specs.States.{State, IsState}
 use Rattle.states.specs.Alike.{regionIn}
-use Rattle.states.specs.StateCall.{asked, isNotTaken, ownState, numbered, placedAmong, placedFrom, placeOf}
+use Rattle.states.specs.StateCall.{asked, strays, isNotTaken, ownState, numbered, placedAmong, placedFrom, placeOf}
 use Rattle.states.specs.Laws.Placed.{own-state}
 use Rattle.states.specs.declared.states.Placing.{Placing}
 use Rattle.states.specs.declared.states.Placing.the-variants as P
@@ -47,7 +47,7 @@ use Rattle.listing.specs.declared.parts.Part.the-variants as T
 use Rattle.terkwabu.specs.Answers.{refusedAs, resultAs, ofGraph, ofPlacing, ofReduction, ofPairing, ofJudgement, ofPart}
 use Rattle.terkwabu.specs.Calls.{GraphCall, PlaceCall, ReduceCall, PairCall, JudgeCall, PartCall, LineCall}
 use Rattle.terkwabu.specs.Rows.{Stopped, row-1-13, row-14, row-15, GraphHeld, ByList, stopped, went-on}
-use Rattle.terkwabu.specs.Rows.{GraphRows, graph-result, PlaceRows, place-row-20, place-row-21, place-result}
+use Rattle.terkwabu.specs.Rows.{stateAsked, Takes, GraphRows, graph-result, PlaceRows, place-row-20, place-row-21, place-result}
 use Rattle.terkwabu.specs.Rows.{ReduceRows, reduce-row-16, reduce-result, PairRows, pair-row-16, pair-row-19, pair-shared, pair-apart}
 use Rattle.terkwabu.specs.Rows.{Proposed, JudgeRows, judge-row-17, judge-row-18, judge-result}
 use Rattle.terkwabu.specs.Rows.{Given, no-text, written, short, PartRows, part-row-1-13, part-result}
@@ -152,6 +152,30 @@ graph-rows table entries answer entries′ call =
 
 -- ---- The state call
 
+neither : (a b : Bool) → (a || b) ≡ false → (a ≡ false) × (b ≡ false)
+neither true b e = absurd (false≢true (sym e))
+neither false b e = (refl, e)
+
+-- Clocks beyond the count are 0 exactly where none strays.
+strays-none : (n i : ℕ) (vs : List ℕ) → strays n i vs ≡ false → (j : ℕ) → n ≤ i + j → getD vs j 0 ≡ 0
+strays-none n i [] e j h = refl
+strays-none n i (v ∷ vs) e zero h = here (eqb v 0) refl (neither (leb n i && not (eqb v 0)) _ e .0)
+  where
+    here : (b : Bool) → eqb v 0 ≡ b → (leb n i && not (eqb v 0)) ≡ false → v ≡ 0
+    here true t f = eqb-true v 0 t
+    here false t f = absurd (false≢true (sym f ∙ rw (le-leb n i (omega (arith, h)), t) refl))
+strays-none n i (v ∷ vs) e (suc j) h =
+    strays-none n (suc i) vs (neither (leb n i && not (eqb v 0)) _ e .1) j (omega (arith, h))
+
+none-strays : (n i : ℕ) (vs : List ℕ) → ((j : ℕ) → n ≤ i + j → getD vs j 0 ≡ 0) → strays n i vs ≡ false
+none-strays n i [] all = refl
+none-strays n i (v ∷ vs) all =
+    rw (here (leb n i) refl) (none-strays n (suc i) vs (λ j h. all (suc j) (omega (arith, h))))
+  where
+    here : (b : Bool) → leb n i ≡ b → (leb n i && not (eqb v 0)) ≡ false
+    here true t = rw (t, eq-eqb v 0 (all 0 (omega (arith, leb-true n i t)))) refl
+    here false t = rw t refl
+
 -- What is said of a state after the graph call.
 abbrev pub placedIn : State → Model → List Region → Placing
 placedIn s m found = cond (isNotTaken m s) (P.Refused 20 0) (numbered (length found) (numberIn found (regionIn m (ownState m s))))
@@ -169,40 +193,86 @@ place-after table cap s = by-answer (readTable table)
     by-answer (refusal n p) = refl
     by-answer (accepted m) = by-outcome m (fromAnswer cap (accepted m))
 
-place-own : (table : List ℕ) (cap : ℕ) (s : State) → length (s .values) ≡ 4 → (a : Accepted table cap)
-    → PlaceRows s (a .model) (a .found) (ofPlacing (placedIn s (a .model) (a .found)))
-place-own table cap s four a = by-taken (isNotTaken (a .model) s) refl
+module _ (m : Model) (location v₀ v₁ v₂ v₃ denominator : ℕ) where
+  abbrev given-state : State
+  given-state = asked location v₀ v₁ v₂ v₃ denominator
+
+  pub asked-is : ownState m given-state ≡ stateAsked m location v₀ v₁ v₂ v₃ denominator
+  unfolding ownState
+  asked-is = refl
+
+  -- The tests of the call say whether it takes what is asked.
+  pub takes : isNotTaken m given-state ≡ false → Takes m location v₀ v₁ v₂ v₃ denominator
+  unfolding isNotTaken
+  takes e =
+      let (l, rest) = neither (leb (m .locations) location) _ e in
+      let (d, more) = neither (eqb denominator 0) _ rest in
+      let (few, none) = neither (ltb 1000000 denominator) _ more in
+      let some = eqb-false denominator 0 d in
+      record {
+        there = leb-false (m .locations) location l;
+        some = omega (arith, some);
+        most = ltb-false 1000000 denominator few;
+        beyond = λ i h. strays-none (m .clocks) 0 (v₀ ∷ v₁ ∷ v₂ ∷ v₃ ∷ []) none i (omega (arith, h));
+      }
+
+  pub takes-not : isNotTaken m given-state ≡ true → ¬ Takes m location v₀ v₁ v₂ v₃ denominator
+  unfolding isNotTaken
+  takes-not e t =
+      false≢true
+      (sym (rw (lt-leb (m .locations) location (t .there), ne-eqb denominator 0 (λ z. omega (arith, z, t .some)),
+      le-ltb 1000000 denominator (t .most),
+      none-strays (m .clocks) 0 (v₀ ∷ v₁ ∷ v₂ ∷ v₃ ∷ []) (λ j h. t .beyond j (omega (arith, h)))) refl)
+      ∙ e)
+
+place-own : (table : List ℕ) (cap : ℕ) (location v₀ v₁ v₂ v₃ denominator : ℕ) (a : Accepted table cap)
+    → PlaceRows location v₀ v₁ v₂ v₃ denominator (a .model) (a .found)
+    (ofPlacing (placedIn (asked location v₀ v₁ v₂ v₃ denominator) (a .model) (a .found)))
+place-own table cap location v₀ v₁ v₂ v₃ denominator a = by-taken (isNotTaken (a .model) s) refl
   where
+    s : State
+    s = asked location v₀ v₁ v₂ v₃ denominator
+
+    own : ownState (a .model) s ≡ stateAsked (a .model) location v₀ v₁ v₂ v₃ denominator
+    own = asked-is (a .model) location v₀ v₁ v₂ v₃ denominator
+
     number : ℕ
     number = numberIn (a .found) (regionIn (a .model) (ownState (a .model) s))
 
-    by-number : isNotTaken (a .model) s ≡ false → IsState (a .model) (ownState (a .model) s)
-        → (b : Bool) → ltb number (length (a .found)) ≡ b
-        → PlaceRows s (a .model) (a .found) (ofPlacing (cond b (P.Region number) (P.Refused 21 0)))
-    by-number taken is true e =
+    by-number : isNotTaken (a .model) s ≡ false → (b : Bool) → ltb number (length (a .found)) ≡ b
+        → PlaceRows location v₀ v₁ v₂ v₃ denominator (a .model) (a .found) (ofPlacing (cond b (P.Region number) (P.Refused 21 0)))
+    by-number taken true e =
         let below = ltb-true number (length (a .found)) e in
-        place-result taken is number below (has-number (a .found) (regionIn (a .model) (ownState (a .model) s))
-        (number-listed (a .found) (regionIn (a .model) (ownState (a .model) s)) below) .is)
-    by-number taken is false e =
+        place-result (takes (a .model) location v₀ v₁ v₂ v₃ denominator taken)
+        (subst (IsState (a .model)) own (own-state table (a .model) (a .read) s refl taken)) number below
+        (λ d.
+        has-number (a .found) (regionIn (a .model) (ownState (a .model) s))
+        (number-listed (a .found) (regionIn (a .model) (ownState (a .model) s)) below) .is d
+        ∙ ap (regionIn (a .model)) own)
+    by-number taken false e =
         let above = ltb-false number (length (a .found)) e in
-        place-row-21 taken is (λ r.
-        let below = call-placed table cap (a .found) (a .out) (a .model) (a .read) (ownState (a .model) s) .1 r in
+        place-row-21 (takes (a .model) location v₀ v₁ v₂ v₃ denominator taken)
+        (subst (IsState (a .model)) own (own-state table (a .model) (a .read) s refl taken))
+        (λ r.
+        let below = call-placed table cap (a .found) (a .out) (a .model) (a .read) (ownState (a .model) s) .1
+        (subst (λ (t : State). Reached (a .model) (regionIn (a .model) t)) (sym own) r) in
         omega (arith, below, above))
 
     by-taken : (b : Bool) → isNotTaken (a .model) s ≡ b
-        → PlaceRows s (a .model) (a .found) (ofPlacing (cond b (P.Refused 20 0) (numbered (length (a .found)) number)))
-    by-taken true e = place-row-20 e
-    by-taken false e =
-        by-number e (own-state table (a .model) (a .read) s four e) (ltb number (length (a .found))) refl
+        → PlaceRows location v₀ v₁ v₂ v₃ denominator (a .model) (a .found)
+        (ofPlacing (cond b (P.Refused 20 0) (numbered (length (a .found)) number)))
+    by-taken true e = place-row-20 (takes-not (a .model) location v₀ v₁ v₂ v₃ denominator e)
+    by-taken false e = by-number e (ltb number (length (a .found))) refl
 
 pub place-rows : (table entries : List ℕ) (location v₀ v₁ v₂ v₃ denominator : ℕ) (answer : Answer) (entries′ : List ℕ)
     → PlaceCall table entries location v₀ v₁ v₂ v₃ denominator answer entries′
-    → ByList table entries entries′ Unit (PlaceRows (asked location v₀ v₁ v₂ v₃ denominator)) answer
+    → ByList table entries entries′ Unit (PlaceRows location v₀ v₁ v₂ v₃ denominator) answer
 place-rows table entries location v₀ v₁ v₂ v₃ denominator answer entries′ call =
     let s : State = asked location v₀ v₁ v₂ v₃ denominator in
-    by-list table entries entries′ (call .entries-are) P.Refused (placedIn s) ofPlacing Unit (PlaceRows s) (λ n p. refl) answer
+    by-list table entries entries′ (call .entries-are) P.Refused (placedIn s) ofPlacing Unit
+    (PlaceRows location v₀ v₁ v₂ v₃ denominator) (λ n p. refl) answer
     (call .answer-is ∙ ap ofPlacing (place-after table (roomFor (length entries)) s)) (λ n p e. tt)
-    (place-own table (roomFor (length entries)) s refl)
+    (place-own table (roomFor (length entries)) location v₀ v₁ v₂ v₃ denominator)
 
 -- ---- The partition call
 

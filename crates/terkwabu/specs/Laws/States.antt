@@ -24,6 +24,8 @@ use Rattle.partition.specs.Laws.Success.{one-found}
 use Rattle.partition.specs.Laws.LeftStates.{left-entry, left-lies, left-lies-one, left-number}
 use Rattle.partition.specs.Laws.LeftStates.{left-given, left-equal, left-differ, left-zero}
 use Rattle.terkwabu.specs.Calls.{PlaceCall}
+use Rattle.terkwabu.specs.Rows.{stateAsked}
+use Rattle.terkwabu.specs.Laws.Rows.{asked-is}
 use Rattle.terkwabu.specs.Laws.Bridges.{place-found}
 use Rattle.terkwabu.specs.declared.answer.Answer.{Answer}
 
@@ -122,18 +124,20 @@ pub place-number : {table : List ℕ} {cap n b k : ℕ} {entries list : List ℕ
     → (entries₁ : List ℕ) (location v₀ v₁ v₂ v₃ denominator : ℕ) (answer : Answer) (entries₁′ : List ℕ)
     → PlaceCall table entries₁ location v₀ v₁ v₂ v₃ denominator answer entries₁′ → answer .refusal ≡ 0
     → (m : Model) → readTable table ≡ accepted m
-    → IsState m (ownState m (asked location v₀ v₁ v₂ v₃ denominator))
-    × (answer .value < n) × (regionAt entries (answer .value) ≡ regionIn m (ownState m (asked location v₀ v₁ v₂ v₃ denominator)))
+    → IsState m (stateAsked m location v₀ v₁ v₂ v₃ denominator)
+    × (answer .value < n) × (regionAt entries (answer .value) ≡ regionIn m (stateAsked m location v₀ v₁ v₂ v₃ denominator))
 place-number {table} {cap} {n} {b} {k} {entries} {list} left entries₁ location v₀ v₁ v₂ v₃ denominator answer entries₁′ call none m read =
     let s : State = asked location v₀ v₁ v₂ v₃ denominator in
     let (a, taken, below, is) = place-found table entries₁ location v₀ v₁ v₂ v₃ denominator answer entries₁′ call none in
     let same : a .model ≡ m = read-one table (a .model) m (a .read) read in
     let found : a .found ≡ left .from .found = one-found table (roomFor (length entries₁)) cap a (left .from) in
+    let own : ownState m s ≡ stateAsked m location v₀ v₁ v₂ v₃ denominator = asked-is m location v₀ v₁ v₂ v₃ denominator in
     let here : answer .value < n = omega (arith, below, ap length found, left .regions-are) in (
-      subst (λ (x : Model). IsState x (ownState x s)) same (own-state table (a .model) (a .read) s refl taken),
+      subst (IsState m) own (subst (λ (x : Model). IsState x (ownState x s)) same (own-state table (a .model) (a .read) s refl taken)),
       here,
       left-entry left (answer .value) (first m) here
           ∙ sym (ap (λ (l : List Region). getD l (answer .value) (first m)) found)
           ∙ is (first m)
-          ∙ ap (λ (x : Model). regionIn x (ownState x s)) same,
+          ∙ ap (λ (x : Model). regionIn x (ownState x s)) same
+          ∙ ap (regionIn m) own,
     )

@@ -1,4 +1,4 @@
--- Loop: the slots so far are empty. Measure: the slots that are left.
+-- Loop: the cells so far are empty. Measure: the cells that are left.
 use Prim.Native.Nat.{ℕ, _+_, _-_, _*_, _/_, _≤_, _<_}
 use mathlib.Core.Path.{_≡_, refl, sym, _∙_, ap, ap₂, subst}
 use native.Mathlib.Omega.{arith}
@@ -12,10 +12,10 @@ use Rattle.signatures.proofs.memo.clear_memo.Reads as reads
 use Rattle.signatures.proofs.memo.clear_memo.Lts as lts
 
 abbrev Inv-loop : tie.InvT-loop
-Inv-loop memo₀ slot₀ memo slot = (length memo ≡ 45056) × ((s : ℕ) → s < slot → getD memo (11 * s) 0 ≡ 0) × (slot ≤ 4096)
+Inv-loop memo₀ cell₀ memo cell = (length memo ≡ 45056) × ((c : ℕ) → c < cell → getD memo (11 * c) 0 ≡ 0) × (cell ≤ 4096)
 
 abbrev μ-loop : tie.MeasureT-loop
-μ-loop memo₀ slot₀ memo slot = 4096 - slot
+μ-loop memo₀ cell₀ memo cell = 4096 - cell
 
 -- src/memo.rt:134:5
 loop-holds : tie.Need-loop-holds Inv-loop μ-loop
@@ -34,8 +34,8 @@ slice-write-memo : tie.Need-slice-write-memo Inv-loop μ-loop
 slice-write-memo c = omega (arith, (c .before .loop) .inv .0, (c .loop-test) .taken)
 
 -- src/memo.rt:136:9
-add-slot : tie.Need-add-slot Inv-loop μ-loop
-add-slot c = search needs
+add-cell : tie.Need-add-cell Inv-loop μ-loop
+add-cell c = search needs
 
 -- src/memo.rt:134:5
 loop-less : tie.Need-loop-less Inv-loop μ-loop
@@ -45,8 +45,8 @@ loop-less c = search needs
 loop-again : tie.Need-loop-again Inv-loop μ-loop
 loop-again c =
     let loop = c .before .loop in (
-      length-set loop.memo (11 * loop.slot) 0 ∙ loop.inv.0,
-      empty-on loop.memo loop.slot (omega (arith, loop.inv.0, (c .loop-test) .taken)) loop.inv.1,
+      length-set loop.memo (11 * loop.cell) 0 ∙ loop.inv.0,
+      empty-on loop.memo loop.cell (omega (arith, loop.inv.0, (c .loop-test) .taken)) loop.inv.1,
       omega (arith, (c .loop-test) .taken),
     )
 
@@ -68,7 +68,7 @@ clear-memo-spec =
     mul-memo
     mul-memo-2
     slice-write-memo
-    add-slot
+    add-cell
     loop-less
     loop-again
     same-length

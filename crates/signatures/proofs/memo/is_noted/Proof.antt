@@ -21,7 +21,7 @@ returns c =
     let if1 = c .if1 in
     record {
       holds = λ e. absurd (false≢true e);
-      fails = λ _ k. holds-empty (args .memo .now) (args .slot) (pre .0) (pre .1) (pre .2)
+      fails = λ _ k. holds-empty (args .memo .now) (args .cell) (pre .0) (pre .1) (pre .2)
           (args .raw .now) (sym (got .ensures .0) ∙ if1 .taken) k;
     }
 
@@ -59,7 +59,7 @@ returns-2 c =
     let got = c .before .before .before .load in
     let if1 = c .before .before .if1 in
     let same-raw = c .same-raw in
-    holds-told (args .memo .now) (args .slot) (pre .0) (pre .1) (pre .2) (got .result) (got .ensures .0) (if1 .left) (args .raw .now)
+    holds-told (args .memo .now) (args .cell) (pre .0) (pre .1) (pre .2) (got .result) (got .ensures .0) (if1 .left) (args .raw .now)
     (same-raw .result) (same-raw .ensures)
 
 pub is-noted-spec : {M : Type 1} → statement M

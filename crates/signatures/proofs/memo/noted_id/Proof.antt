@@ -12,18 +12,18 @@ use Rattle.signatures.proofs.dictionary.load.Reads as load-reads
 use Rattle.signatures.proofs.memo.intern_step.Reads as intern-step-reads
 use Rattle.signatures.proofs.memo.is_noted.Reads as is-noted-reads
 use Rattle.signatures.proofs.memo.note.Reads as note-reads
-use Rattle.signatures.proofs.memo.slot_of.Reads as slot-of-reads
+use Rattle.signatures.proofs.memo.cell_of.Reads as cell-of-reads
 
 -- src/memo.rt:102:9
-slot-of-requires : tie.Need-slot-of-requires
-slot-of-requires c κs = search needs
+cell-of-requires : tie.Need-cell-of-requires
+cell-of-requires c κs = search needs
 
 -- src/memo.rt:103:8
 is-noted-requires : tie.Need-is-noted-requires
 is-noted-requires c κs =
-    let slot-of = c .before .slot-of in
+    let cell-of = c .before .cell-of in
     let pre = c .before .before .before .before .before .before .before .pre in
-    (slot-of.ensures, pre.1.0.size, pre.1.0.short slot-of.result slot-of.ensures)
+    (cell-of.ensures, pre.1.0.size, pre.1.0.short cell-of.result cell-of.ensures)
 
 -- src/memo.rt:104:40
 mul-load : tie.Need-mul-load
@@ -45,12 +45,12 @@ same-length c = search needs
 returns : tie.Need-returns
 returns c =
     let args = c .before .before .before .before .before .before .before .before .before .before .before .args in
-    let slot-of = c .before .before .before .before .before .slot-of in
+    let cell-of = c .before .before .before .before .before .cell-of in
     let pre = c .before .before .before .before .before .before .before .before .before .before .before .pre in
     let is-noted = c .before .before .before .is-noted in
     let if1 = c .before .before .if1 in
-    notes-hit (rawStep args.edges.now) args.raw.now args.index.now args.numbers.now args.memo.now slot-of.result ((c .load) .result) pre.0
-    pre.1.0 slot-of.ensures (is-noted.ensures.holds if1.taken) ((c .load) .ensures .0)
+    notes-hit (rawStep args.edges.now) args.raw.now args.index.now args.numbers.now args.memo.now cell-of.result ((c .load) .result) pre.0
+    pre.1.0 cell-of.ensures (is-noted.ensures.holds if1.taken) ((c .load) .ensures .0)
 
 -- src/memo.rt:106:9
 intern-step-requires : tie.Need-intern-step-requires
@@ -65,12 +65,12 @@ note-requires : tie.Need-note-requires
 note-requires c κs =
     let back10 = c .before .before .before .before .before .before .before .before .before .before in
     let back20 = back10 .before .before .before .before .before .before .before .before .before .before in
-    let slot-of = back10 .before .before .before .before .slot-of in
+    let cell-of = back10 .before .before .before .before .cell-of in
     let pre = back20 .pre in
     let args = back20 .args in
     let intern-step = c .before .before .before .before .before .before .before .before .intern-step in
     let answer = c .before .before .answer in (
-      slot-of.ensures,
+      cell-of.ensures,
       pre.1.0.size,
       pre.1.1.1,
       id-small (rawStep args.edges.now args.raw.now) args.index.now args.numbers.now intern-step.last.1.1.0 intern-step.last.1.1.1.0
@@ -101,11 +101,11 @@ returns-2 c =
     let args = back20 .before .before .before .args in
     let intern-step = back10 .before .intern-step in
     let note = c .before .before .note in
-    let slot-of = back10 .before .before .before .before .before .before .before .slot-of in
+    let cell-of = back10 .before .before .before .before .before .before .before .cell-of in
     let answer = c .before .before .before .before .before .answer in
     let pre = back20 .before .before .before .pre in
     notes-new (rawStep args.edges.now) args.raw.now args.index.now args.numbers.now intern-step.last.1.1.0 intern-step.last.1.1.1.0
-    args.memo.now note.last.1.1.1.0 slot-of.result answer.given.0.0 pre.1.0 slot-of.ensures pre.1.1.1
+    args.memo.now note.last.1.1.1.0 cell-of.result answer.given.0.0 pre.1.0 cell-of.ensures pre.1.1.1
     (rw answer.given.1 at intern-step.ensures) note.ensures
 
 -- src/memo.rt:89:1
@@ -134,7 +134,7 @@ pub noted-id-spec : {M : Type 1} → statement M
 noted-id-spec =
     tie.close
     (tie.spec
-    slot-of-requires
+    cell-of-requires
     is-noted-requires
     mul-load
     add-load

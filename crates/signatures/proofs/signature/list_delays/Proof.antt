@@ -1,6 +1,5 @@
--- Loop: the first numbers of the list are the names so far as a set; these and those of the rest are those of the whole. Measure: the steps
--- that
--- are left.
+-- Loop: the first numbers of the list are the names so far as a set; these and those of the rest are those of the whole. Measure: the
+-- steps that are left.
 use Prim.Native.Nat.{ℕ, _+_, _-_, _*_, _/_, _≤_, _<_}
 use mathlib.Core.Path.{_≡_, refl, sym, _∙_, ap, ap₂, subst}
 use native.Mathlib.Omega.{arith}

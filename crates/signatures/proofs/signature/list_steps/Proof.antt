@@ -1,6 +1,5 @@
 -- Loop: the steps of the ranks so far are held, and their ids are a set in the first numbers of the list; the rank is available, or past
--- the
--- last. Measure: the ranks that are left.
+-- the last. Measure: the ranks that are left.
 use Prim.Native.Nat.{ℕ, _+_, _-_, _*_, _/_, _≤_, _<_}
 use mathlib.Core.Path.{_≡_, refl, sym, _∙_, ap, ap₂, subst}
 use native.Mathlib.Omega.{arith}

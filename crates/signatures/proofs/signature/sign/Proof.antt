@@ -1,4 +1,4 @@
--- Where the memory has not the sizes that a pass asks, nothing is changed. Otherwise dictionary and memo are emptied, so that the one is empty
+-- If a slice has not the size that a pass asks for, nothing is changed. Otherwise dictionary and memo are emptied, so that the one holds
 -- and the other notes nothing, and the pass is that of `sign_all`.
 use Prim.Native.Nat.{ℕ, _+_, _-_, _*_, _/_, _≤_, _<_}
 use mathlib.Core.Path.{_≡_, refl, sym, _∙_, ap, ap₂, subst}

@@ -1,4 +1,4 @@
--- Loop: the items so far have the ids of their signatures, or found no room. Measure: the items that are left.
+-- Loop: the items so far have the ids of their signatures, or none. Measure: the items that are left.
 use Prim.Native.Nat.{ℕ, _+_, _-_, _*_, _/_, _≤_, _<_}
 use mathlib.Core.Path.{_≡_, refl, sym, _∙_, ap, ap₂, subst}
 use native.Mathlib.Omega.{arith}

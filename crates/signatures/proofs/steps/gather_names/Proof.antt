@@ -1,6 +1,5 @@
--- Loop: the first numbers of the list are the names so far as a set; these and the names that are left are those of all. Measure: the names
--- that
--- are left.
+-- Loop: the first numbers of the list are the names so far as a set; these and the names that are left are those of all. Measure: the
+-- names that are left.
 use Prim.Native.Nat.{ℕ, _+_, _-_, _≤_, _<_}
 use mathlib.Core.Path.{_≡_, refl, sym, _∙_}
 use native.Mathlib.Omega.{arith}

@@ -3,10 +3,10 @@ use Prim.Native.Nat.{ℕ, _-_, _<_}
 use native.Mathlib.Omega.{arith}
 use lib.ListN.{length}
 use borrow.Author.Needs.{needs}
-use Rattle.signatures.proofs.memo.slot_of.Statement.{statement}
-use Rattle.signatures.proofs.memo.slot_of.Tie as tie
-use Rattle.signatures.proofs.memo.slot_of.Reads as reads
-use Rattle.signatures.proofs.memo.slot_of.Lts as lts
+use Rattle.signatures.proofs.memo.cell_of.Statement.{statement}
+use Rattle.signatures.proofs.memo.cell_of.Tie as tie
+use Rattle.signatures.proofs.memo.cell_of.Reads as reads
+use Rattle.signatures.proofs.memo.cell_of.Lts as lts
 use Rattle.signatures.proofs.memo.wide.Reads as wide-reads
 
 abbrev Inv-loop : tie.InvT-loop
@@ -55,8 +55,8 @@ loop-again c = search needs
 returns : tie.Need-returns Inv-loop μ-loop
 returns c = search needs
 
-pub slot-of-spec : {M : Type 1} → statement M
-slot-of-spec =
+pub cell-of-spec : {M : Type 1} → statement M
+cell-of-spec =
     tie.close
     (tie.spec
     Inv-loop
