@@ -3,10 +3,10 @@
 -- clock values, does so under the automaton's own rules. A proposed partition is accepted exactly when it is a probabilistic
 -- time-abstracting bisimulation of the region graph." One closed statement, and its theorem. Document 01 stands as document 02 amends it.
 --
--- A premise `ReduceCall table entries first second answer entries′ first′ second′` (Calls) is what the contract of terkwabu_reduce says of
--- every call with these that answers `answer` and leaves entries′, first′ and second′ (src/calls.rt). `answer .refusal ≡ 0` says that it refused nothing,
--- and `readTable table ≡ accepted m` that refusals 1 to 13 find nothing and m is the model that was read. With this file five say what is
--- claimed:
+-- A premise `ReduceCall table entries first second answer entries′ first′ second′` (Calls) is what the contract of terkwabu_reduce
+-- (src/calls.rt) says of every call with these that answers `answer` and leaves entries′, first′ and second′. `answer .refusal ≡ 0` says
+-- that it refused nothing, and `readTable table ≡ accepted m` that refusals 1 to 13 find nothing and m is the model that was read. With
+-- this file five say what is claimed:
 --   Graph, Order (of regions)         what a region leads to, what is reached; all regions, and their order
 --   Bisimulations (of bisimulation)   bisimulations and rounds
 --   Instances (of partition)          `graph m found`: the region graph as a structure, where found are the regions by number

@@ -4,10 +4,10 @@
 -- that list finds none for the pair call on these two regions, the call says in exactly the same cases that they share no block." One
 -- closed statement, and its theorem; and the half that holds for relations at every level.
 --
--- A premise `ReduceCall table entries first second answer entries′ first′ second′` (Calls) is what the contract of terkwabu_reduce says of
--- every call with these that answers `answer` and leaves entries′, first′ and second′ (src/calls.rt). `answer .refusal ≡ 0` says that the list found no
--- refusal (Demand1), so that the model is accepted; `readTable table ≡ accepted m` says which model it is. With this file five say what is
--- claimed:
+-- A premise `ReduceCall table entries first second answer entries′ first′ second′` (Calls) is what the contract of terkwabu_reduce
+-- (src/calls.rt) says of every call with these that answers `answer` and leaves entries′, first′ and second′. `answer .refusal ≡ 0` says
+-- that the list found no refusal (Demand1), so that the model is accepted; `readTable table ≡ accepted m` says which model it is. With this
+-- file five say what is claimed:
 --   Demand2                           `BlockNumbers`: document 01's block numbers
 --   States, Placing (of states)       states with fractions as clock values, and how they move; the region of a state (`regionIn`)
 --   Bisimulations (of bisimulation)   bisimulations over any structure

@@ -1,6 +1,6 @@
 -- The hypotheses of the three demands are met, at document 01's printed model, with 45 bytes of entries and two lists of 5 numbers: the
--- graph call, the state call, the partition call and the pair call refuse nothing, and demand 3 says of three states with the clock at 0, 1/2 and 1 which
--- have one number. `printed-apart` and `printed-together` are demand 3 there.
+-- graph call, the state call, the partition call and the pair call refuse nothing, and demand 3 says of three states with the clock at 0,
+-- 1/2 and 1 which have one number. `printed-block`, `printed-apart` and `printed-together` are demand 3 there.
 use Prim.Native.Nat.{ℕ}
 use native.Mathlib.Omega.{arith}
 use mathlib.Core.Path.{_≡_, refl, sym, _∙_, ap}

@@ -220,9 +220,12 @@ module _ (m : Model) (location v₀ v₁ v₂ v₃ denominator : ℕ) where
   unfolding isNotTaken
   takes-not e t =
       false≢true
-      (sym (rw (lt-leb (m .locations) location (t .there), ne-eqb denominator 0 (λ z. omega (arith, z, t .some)),
-      le-ltb 1000000 denominator (t .most),
-      none-strays (m .clocks) 0 (v₀ ∷ v₁ ∷ v₂ ∷ v₃ ∷ []) (λ j h. t .beyond j (omega (arith, h)))) refl)
+      (sym (rw (
+        lt-leb (m .locations) location (t .there),
+        ne-eqb denominator 0 (λ z. omega (arith, z, t .some)),
+        le-ltb 1000000 denominator (t .most),
+        none-strays (m .clocks) 0 (v₀ ∷ v₁ ∷ v₂ ∷ v₃ ∷ []) (λ j h. t .beyond j (omega (arith, h))),
+      ) refl)
       ∙ e)
 
 place-own : (table : List ℕ) (cap : ℕ) (location v₀ v₁ v₂ v₃ denominator : ℕ) (a : Accepted table cap)
