@@ -7,7 +7,9 @@
 --   Answers                       `refusedAs`, `resultAs`: the five numbers answered
 --   Refusals, Reading (of table)  rows 1 to 13
 --   Order (of regions)            all regions that are reached, and their order
--- (terkwabu_version takes nothing, and answers the version.)
+-- What these files rest on is named in their first lines. The part call and the line of a refusal are no calls of document 01's list, which
+-- makes a listing in parts a choice of the library: the part call meets rows 1 to 13, and prints what is lent. (terkwabu_version takes
+-- nothing, and answers the version.)
 use Prim.Native.Nat.{ℕ}
 use mathlib.Core.Path.{_≡_, refl}
 use mathlib.Core.List.{List, [], _∷_}
@@ -20,7 +22,7 @@ use Rattle.terkwabu.specs.Laws.Rows.{graph-rows, place-rows, reduce-rows
 use Rattle.terkwabu.specs.declared.answer.Answer.{Answer}
 
 pub record Demand1 : Type 0 where
-  -- "An entry is nine bytes: location, four integer parts (16 for over), four ranks (0 for over)."
+  -- "An entry is nine bytes: location, four integer parts .., four ranks": in this order.
   pub entry : (l w₀ w₁ w₂ w₃ k₀ k₁ k₂ k₃ : ℕ)
       → flat (record { location = l; whole = w₀ ∷ w₁ ∷ w₂ ∷ w₃ ∷ []; rank = k₀ ∷ k₁ ∷ k₂ ∷ k₃ ∷ [] } ∷ [])
       ≡ l ∷ w₀ ∷ w₁ ∷ w₂ ∷ w₃ ∷ k₀ ∷ k₁ ∷ k₂ ∷ k₃ ∷ []

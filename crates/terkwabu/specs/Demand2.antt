@@ -8,10 +8,11 @@
 -- that it refused nothing, and `readTable table ≡ accepted m` that refusals 1 to 13 find nothing and m is the model that was read. With
 -- this file five say what is claimed:
 --   Graph, Order (of regions)         what a region leads to, what is reached; all regions, and their order
+--   Alike (of states)                 what it is that a region leads as its states do
 --   Bisimulations (of bisimulation)   bisimulations and rounds
 --   Instances (of partition)          `graph m found`: the region graph as a structure, where found are the regions by number
---   Printed (of listing)              the listing
--- States and their regions are those of Demand3. What these files rest on is named in their first lines.
+-- The listing (Printed, of listing) and states (of Demand3) are as document 01 has them. What these files rest on is named in their first
+-- lines.
 use Prim.Native.Nat.{ℕ, suc, _≤_, _<_}
 use mathlib.Core.Path.{_≡_, refl, sym, ap, ap₂, subst}
 use mathlib.Core.Bool.{Bool, true}
@@ -178,6 +179,20 @@ module _ {table : List ℕ} {cap n b k : ℕ} {entries list : List ℕ} (left : 
       (subst (λ (S : Structure ℕ). Bisimulation S R)
       (ap₂ (λ (x : Model) (found : List Region). structure (graph x found)) (sym (model-one left m read)) (left .entries-hold)) w)
 
+-- So in both lists that a call left.
+pub both-made : {table : List ℕ} {cap n b k : ℕ} {entries first second : List ℕ} → Left table cap n b k entries first
+    → Left table cap n b k entries second
+    → (m : Model) × (readTable table ≡ accepted m) × AllRegions m (listed entries n) × InOrder m (listed entries n)
+    × BlockNumbers (graphIn m entries n) n b k first × BlockNumbers (graphIn m entries n) n b k second
+both-made {n = n} {b} {k} {entries} {second = second} one two = (
+  one .from .model,
+  one .from .read,
+  subst (AllRegions (one .from .model)) (sym (one .entries-hold)) (left-all one),
+  subst (InOrder (one .from .model)) (sym (one .entries-hold)) (left-order one),
+  made one,
+  subst (λ (x : Model). BlockNumbers (graphIn x entries n) n b k second) (model-one two (one .from .model) (one .from .read)) (made two),
+)
+
 -- Bisimulations of the region graph at any level relate no more than the blocks.
 pub coarsest-any {ℓ} : (table entries first second : List ℕ) (answer : Answer) (entries′ first′ second′ : List ℕ)
     → ReduceCall table entries first second answer entries′ first′ second′ → answer .refusal ≡ 0
@@ -219,19 +234,8 @@ demand-2 =
           graphIn k entries′ (answer .value) .Delay x y ↔ DelaysTo k (regionAt entries′ x) (regionAt entries′ y))
           (read-one table (a .model) m (a .read) read) (graph-delays table entries answer entries′ call none x y hx hy);
       blocks = λ table entries first second answer entries′ first′ second′ call none.
-          let one = first-left table entries first second answer entries′ first′ second′ call none in
-          let two = second-left table entries first second answer entries′ first′ second′ call none in
-          let same = model-one two (one .from .model) (one .from .read) in (
-            one .from .model,
-            one .from .read,
-            subst (AllRegions (one .from .model)) (sym (one .entries-hold)) (left-all one),
-            subst (InOrder (one .from .model)) (sym (one .entries-hold)) (left-order one),
-            made one,
-            subst
-                (λ (x : Model).
-                BlockNumbers (graphIn x entries′ (answer .value)) (answer .value) (answer .blocks) (answer .rounds) second′) same
-                (made two),
-          );
+          both-made (first-left table entries first second answer entries′ first′ second′ call none)
+          (second-left table entries first second answer entries′ first′ second′ call none);
       coarsest = λ table entries first second answer entries′ first′ second′ call none m read R w.
           coarsest-any table entries first second answer entries′ first′ second′ call none m read R w;
       proposals = λ table entries answer entries′ call none m read proposal judged entries″ judge.

@@ -9,9 +9,11 @@
 -- that the list found no refusal (Demand1), so that the model is accepted; `readTable table ≡ accepted m` says which model it is. With this
 -- file five say what is claimed:
 --   Demand2                           `BlockNumbers`: document 01's block numbers
---   States, Placing (of states)       states with fractions as clock values, and how they move; the region of a state (`regionIn`)
+--   States, Placing (of states)       states with fractions as clock values, and how they move; the region of a state (`placed`, by which
+--                                     `regionIn` of Alike is said)
 --   Bisimulations (of bisimulation)   bisimulations over any structure
 --   Instances (of partition)          `states m`: all states of the model as a structure
+-- What these files rest on is named in their first lines.
 use Prim.Native.Nat.{ℕ, _<_}
 use mathlib.Core.Path.{_≡_}
 use mathlib.Core.Logic.{_↔_, _⊎_, ⊎-elim, Iff·trans}
@@ -29,11 +31,12 @@ use Rattle.bisimulation.specs.Bisimulations.{Bisimulation}
 use Rattle.partition.specs.Instances.{states, statesZero, blockIn}
 use Rattle.terkwabu.specs.Calls.{PlaceCall, ReduceCall, PairCall}
 use Rattle.terkwabu.specs.Rows.{stateAsked}
-use Rattle.terkwabu.specs.Laws.Bridges.{reduced-of, first-left, second-left, pair-model, pair-regions, pair-first-left}
+use Rattle.terkwabu.specs.Laws.Bridges.{reduced-of, first-left, second-left, pair-model, pair-regions}
+use Rattle.terkwabu.specs.Laws.Bridges.{pair-first-left, pair-second-left}
 use Rattle.terkwabu.specs.Laws.Bridges.{value-first, value-second, value-together, value-apart}
 use Rattle.terkwabu.specs.Laws.States.{number-of, numbers-block, numbers-differ, numbers-given, numbers-equal}
 use Rattle.terkwabu.specs.Laws.States.{numbers-zero, place-number}
-use Rattle.terkwabu.specs.Demand2.{graphIn, BlockNumbers, demand-2}
+use Rattle.terkwabu.specs.Demand2.{graphIn, BlockNumbers, both-made, demand-2}
 use Rattle.terkwabu.specs.declared.answer.Answer.{Answer}
 
 -- Number i is that of region r: it is entry i of the first n, and no other.
@@ -69,6 +72,12 @@ pub record Demand3 : Type 1 where
       → PairCall table entries first second r s answer entries′ first′ second′ → answer .refusal ≡ 0
       → regionAt entries′ r ≡ regionIn m a → regionAt entries′ s ≡ regionIn m b
       → (answer .value ≡ 0) ↔ NoneRelates (states m) a b
+  -- Both lists then hold document 01's block numbers too.
+  pub pair-lists : (table entries first second : List ℕ) (r s : ℕ) (answer : Answer) (entries′ first′ second′ : List ℕ)
+      → PairCall table entries first second r s answer entries′ first′ second′ → answer .refusal ≡ 0
+      → (n : ℕ) × (blocks : ℕ) × (rounds : ℕ) × (m : Model) × (readTable table ≡ accepted m)
+      × AllRegions m (listed entries′ n) × InOrder m (listed entries′ n)
+      × BlockNumbers (graphIn m entries′ n) n blocks rounds first′ × BlockNumbers (graphIn m entries′ n) n blocks rounds second′
   -- Where both calls succeed on one table, whatever was lent to each, they say the same.
   pub agree : (table entries first second : List ℕ) (answer : Answer) (entries′ first′ second′ : List ℕ)
       → ReduceCall table entries first second answer entries′ first′ second′ → answer .refusal ≡ 0
@@ -140,6 +149,11 @@ demand-3 =
           let (hr, hs) = pair-regions table entries first second r s answer entries′ first′ second′ call none in
           Iff·trans (value-apart table entries first second r s answer entries′ first′ second′ call none)
           (numbers-differ left m read a b ia ib r s hr at hs bt);
+      pair-lists = λ table entries first second r s answer entries′ first′ second′ call none.
+          let (m, read, all, order, one, two) =
+          both-made (pair-first-left table entries first second r s answer entries′ first′ second′ call none)
+          (pair-second-left table entries first second r s answer entries′ first′ second′ call none) in
+          (_, _, _, m, read, all, order, one, two);
       agree = λ table entries first second answer entries′ first′ second′ call none
           entries₂ first₂ second₂ r s answer₂ entries₂′ first₂′ second₂′ call₂ none₂.
           let reduced = reduced-of table entries first second answer entries′ first′ second′ call none in (
