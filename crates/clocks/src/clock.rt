@@ -7,7 +7,7 @@ ghost use Rattle.clocks.specs.Packed.{cell_of, clock_of};
 // The integer part that stands for over.
 pub const OVER: u8 = 16;
 
-#[derive(Drop)]
+#[derive(Clone, Copy)]
 pub struct Clock {
     pub bound: u8,
     pub whole: u8,

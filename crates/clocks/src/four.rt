@@ -6,7 +6,7 @@ ghost use Rattle.clocks.specs.Packed.{cell_of, cells_of, four_of};
 
 use crate::clock::Clock;
 
-#[derive(Drop)]
+#[derive(Clone, Copy)]
 pub(crate) struct Four {
     pub a: Clock,
     pub b: Clock,
@@ -15,7 +15,7 @@ pub(crate) struct Four {
 }
 
 // The fractions of four clocks.
-#[derive(Drop)]
+#[derive(Clone, Copy)]
 pub(crate) struct Fractions {
     pub a: u8,
     pub b: u8,

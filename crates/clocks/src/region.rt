@@ -10,7 +10,7 @@ use crate::four::{
 };
 
 // How many clocks a model has, and the bound of each.
-#[derive(Drop)]
+#[derive(Clone, Copy)]
 pub struct Bounds {
     pub count: u8,
     pub bound: [u8; 4],
@@ -18,7 +18,7 @@ pub struct Bounds {
 
 // A region: its location, and of each clock the integer part (16 for over) and the rank (0 for over). Clocks beyond the count
 // hold 0 in both.
-#[derive(Drop)]
+#[derive(Clone, Copy)]
 pub struct Region {
     pub location: u8,
     pub whole: [u8; 4],
@@ -26,14 +26,14 @@ pub struct Region {
 }
 
 // The region that follows, if any does; otherwise the region itself stands there.
-#[derive(Drop)]
+#[derive(Clone, Copy)]
 pub struct Moved {
     pub any: bool,
     pub region: Region,
 }
 
 // What an atom says of a region. No other comparison than the five occurs in a model that was read.
-#[derive(Drop)]
+#[derive(Clone, Copy)]
 pub enum Verdict {
     Holds,
     Fails,

@@ -1,6 +1,7 @@
 // The partition layer, beneath: comparing two items of a finite structure in slices under a block list. The test of the next round, what
 // is plainly alike, and keys that part items without a comparison. For the crate of the rounds above: reading slices, available edges
 // and targets.
+#![tactic(auto)]
 mod codes;
 mod compare;
 mod keys;

@@ -6,7 +6,7 @@ use crate::questions::Question;
 use crate::{blocks, graphs, listings, lists, pairs, places, print, proposals};
 
 // How much is lent: bytes for entries, and the numbers of two lists.
-#[derive(Drop)]
+#[derive(Clone, Copy)]
 pub(crate) struct Sizes {
     pub entries: usize,
     pub first: usize,

@@ -12,7 +12,7 @@ use partition::Reduction;
 const PARTS: u64 = 8195;
 
 // How many bytes there were, their digest, and whether there were more.
-#[derive(Drop)]
+#[derive(Clone, Copy)]
 pub(crate) struct Text {
     pub more: bool,
     pub length: usize,

@@ -1,5 +1,6 @@
 // The test program: reads cases from standard input, runs each, and prints its answer at once, one line a case. Its input and
 // the expected output are made by the independent implementation, whose README gives their format.
+#![tactic(auto)]
 mod blocks;
 mod digest;
 mod graphs;
@@ -31,7 +32,7 @@ const MOST_LENT: usize = 37000;
 const MOST_NUMBERS: usize = 4200;
 
 // What a case asks: the call, the byte to fill lent tables with, the room for edges, and the lent bytes.
-#[derive(Drop)]
+#[derive(Clone, Copy)]
 struct Case {
     call: u8,
     byte: u8,

@@ -4,7 +4,7 @@ use crate::print;
 use states::Placing;
 
 // A state: a location, and the values of the four clocks over a denominator.
-#[derive(Drop)]
+#[derive(Clone, Copy)]
 pub(crate) struct State {
     pub location: u64,
     pub v0: u64,

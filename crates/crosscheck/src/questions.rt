@@ -9,7 +9,7 @@ const MOST_REGIONS: usize = 4096;
 
 // The graph of the table, where a state lies in it, its blocks, whether two regions share a block, whether a proposal holds, or the
 // listing.
-#[derive(Drop)]
+#[derive(Clone, Copy)]
 pub(crate) enum Question {
     Whole,
     Place(State),

@@ -1,4 +1,5 @@
 // A graph of regions in two lent slices: total readers, and writers. It knows neither clocks nor bisimulations.
+#![tactic(auto)]
 mod classes;
 mod edges;
 mod index;

@@ -1,4 +1,5 @@
 // The listing layer: the printed model, in parts.
+#![tactic(auto)]
 mod blocks;
 mod labels;
 mod lines;

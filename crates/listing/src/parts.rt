@@ -23,7 +23,7 @@ const ENTRY_BYTES: usize = 9;
 
 // The answer of a part call: the table is refused by reading; the part is written, so many bytes; the buffer is too short for it, and so
 // many bytes would do; or there is no such part, or the counts cannot be those of what is lent.
-#[derive(Drop)]
+#[derive(Clone, Copy)]
 pub enum Part {
     Refused { number: u8, place: usize },
     Written(usize),

@@ -13,7 +13,7 @@ use regions::Graph;
 use rounds::{judge, number_lists};
 
 // The answer of the partition call: refused, with document 01's number and place, or N, the count of blocks and the count of rounds.
-#[derive(Drop)]
+#[derive(Clone, Copy)]
 pub enum Reduction {
     Refused {
         number: u8,
@@ -27,14 +27,14 @@ pub enum Reduction {
 }
 
 // The answer of the pair call: refused, or whether the two regions share a block.
-#[derive(Drop)]
+#[derive(Clone, Copy)]
 pub enum Pairing {
     Refused { number: u8, place: usize },
     Shared(bool),
 }
 
 // The answer of the judging call: refused, or accepted.
-#[derive(Drop)]
+#[derive(Clone, Copy)]
 pub enum Judgement {
     Refused { number: u8, place: usize },
     Accepted,

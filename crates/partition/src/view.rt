@@ -8,14 +8,14 @@ ghost use Rattle.partition.specs.View.{checked_of, labels_after, entry_of, is_se
 use regions::Sight;
 
 // What reading a table comes to: a refusal, 1 to 13, or the count of clocks of its model.
-#[derive(Drop)]
+#[derive(Clone, Copy)]
 pub enum Checked {
     Refused { number: u8, place: usize },
     Read(u8),
 }
 
 // A region as an entry has it: its location, and of each clock the integer part (16 for over) and the rank.
-#[derive(Drop)]
+#[derive(Clone, Copy)]
 pub struct Entry {
     pub location: u8,
     pub whole: [u8; 4],
@@ -24,7 +24,7 @@ pub struct Entry {
 
 // What is said of an item of the graph: the table is refused, with 1 to 13; it is not among the entries, or there is no room; or its
 // label, how many items it reaches by delay, and how many edges the model has.
-#[derive(Drop)]
+#[derive(Clone, Copy)]
 pub enum Showing {
     Refused {
         number: u8,

@@ -3,6 +3,7 @@
 // is proved is that the program is safe, prints no more of a buffer than the call says it wrote, and never stops for want of room in its
 // buffer or of steps. That it prints part after part until the call says that there are no more is read off `print_listing`; that these
 // parts are the listing is proved of the calls (`call-written`, `call-end` and `joined` of crates/listing). A read that fails ends the input.
+#![tactic(auto)]
 ghost use Rattle.std.specs.Prelude.{◌≤◌, length};
 ghost use Rattle.listing.specs.Parts.{Within, most_bytes, most_parts};
 ghost use Rattle.reduce.specs.Outcomes.{Tells, Whole, Last};
@@ -16,7 +17,7 @@ const STEPS: u64 = 8195;
 
 // What came of printing: the part was printed; there is no such part, or the table is refused; the output failed; or the listing was cut,
 // which is proved not to occur.
-#[derive(Drop)]
+#[derive(Clone, Copy)]
 enum Outcome {
     Printed,
     End,

@@ -1,4 +1,5 @@
 // Partition refinement by signatures: the coarsest partition round by round, and judging a proposal.
+#![tactic(auto)]
 mod judging;
 mod labels;
 mod lists;

@@ -10,7 +10,7 @@ const NO_ID: usize = 65535;
 const NOBODY: usize = 65535;
 
 // What a pass answers: the next free name, and how many items still wait.
-#[derive(Drop)]
+#[derive(Clone, Copy)]
 pub(crate) struct Pass {
     pub more: usize,
     pub left: usize,

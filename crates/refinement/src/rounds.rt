@@ -25,7 +25,7 @@ pub(crate) const NUMBERS: usize = 36864;
 pub(crate) const MEMO: usize = 45056;
 
 // The count of blocks, and the count of rounds or, where a round begins, the count of blocks of the round before.
-#[derive(Drop)]
+#[derive(Clone, Copy)]
 pub struct Counts {
     pub blocks: usize,
     pub rounds: usize,

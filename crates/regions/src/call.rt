@@ -20,7 +20,7 @@ use table::{Reading, Shape};
 const MAX_ENTRIES: usize = 4096;
 
 // The answer: refused, with document 01's number and place, or N.
-#[derive(Drop)]
+#[derive(Clone, Copy)]
 pub enum Graph {
     Refused { number: u8, place: usize },
     Regions(usize),

@@ -12,7 +12,7 @@ use crate::slices::{load, store};
 use clocks::{Bounds, Region};
 
 // The number of a set of clocks, and how many there are now.
-#[derive(Drop)]
+#[derive(Clone, Copy)]
 pub(crate) struct Group {
     pub at: usize,
     pub count: usize,

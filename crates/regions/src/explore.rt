@@ -25,7 +25,7 @@ use table::{Branch, Shape};
 const VISITED: u8 = 1;
 
 // How many regions are listed after some were met, and whether there was no room for one of them.
-#[derive(Drop)]
+#[derive(Clone, Copy)]
 pub(crate) struct Met {
     pub full: bool,
     pub count: usize,

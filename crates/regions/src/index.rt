@@ -13,7 +13,7 @@ const HASH_PRIME: usize = 4093;
 const HASH_BASE: usize = 31;
 
 // What a search finds: the number of an entry, or that there is none.
-#[derive(Drop)]
+#[derive(Clone, Copy)]
 pub(crate) enum Lookup {
     At(usize),
     Nothing,

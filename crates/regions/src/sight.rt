@@ -31,7 +31,7 @@ const MOST_BRANCHES: usize = 8;
 const ROW: usize = 32;
 
 // What reading a table comes to: a refusal, 1 to 13, or the count of clocks of its model.
-#[derive(Drop)]
+#[derive(Clone, Copy)]
 pub enum Checked {
     Refused { number: u8, place: usize },
     Read(u8),
@@ -39,7 +39,7 @@ pub enum Checked {
 
 // What is said of a region: the table is refused, with 1 to 13; it is not among the entries, or there is no room; or its label, how
 // many regions it reaches by delay, and how many edges the model has.
-#[derive(Drop)]
+#[derive(Clone, Copy)]
 pub enum Sight {
     Refused {
         number: u8,

@@ -21,14 +21,14 @@ use crate::stores::{count_lead, put_index, put_link};
 use comparison::{at16, forget_keys, index_at, is_keyed_next};
 
 // The counts of a partition: its blocks, and the rounds that it took.
-#[derive(Drop)]
+#[derive(Clone, Copy)]
 pub struct Counted {
     pub blocks: u64,
     pub rounds: u64,
 }
 
 // Where a search along the leaders ended: at one that is related, or at the last one.
-#[derive(Drop)]
+#[derive(Clone, Copy)]
 pub(crate) struct Search {
     pub hit: bool,
     pub at: usize,

@@ -22,14 +22,14 @@ const MAX_IDS: usize = 8192;
 const ROOM: usize = 36864;
 
 // What `intern` answers: the id of the list, or that there is no room for it.
-#[derive(Drop)]
+#[derive(Clone, Copy)]
 pub(crate) enum Interned {
     Id(usize),
     Full,
 }
 
 // What a search finds: the id of the list, or that it is not there.
-#[derive(Drop)]
+#[derive(Clone, Copy)]
 pub(crate) enum Lookup {
     At(usize),
     Nothing,

@@ -1,4 +1,5 @@
 // Signatures of the regions of a graph over names of blocks.
+#![tactic(auto)]
 mod dictionary;
 mod memo;
 mod sets;

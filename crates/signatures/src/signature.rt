@@ -28,7 +28,7 @@ pub const NUMBERS: usize = 36864;
 pub const MEMO: usize = 45056;
 
 // The steps of an item: how many ids their set has, or that one of them found no room.
-#[derive(Drop)]
+#[derive(Clone, Copy)]
 pub(crate) enum Gathered {
     Ids(usize),
     Short,

@@ -1,5 +1,6 @@
 // A test program for signatures: reads graphs and namings of their regions from standard input, and prints for each naming which regions
 // have the same signature. The independent implementation makes its input and the expected output; the README there gives their format.
+#![tactic(auto)]
 mod input;
 mod model;
 mod naming;

@@ -1,4 +1,5 @@
 // The region layer, above: states, and the state call.
+#![tactic(auto)]
 mod states;
 
 pub use states::{Placing, place_state};

@@ -25,21 +25,21 @@ const MOST_PARTS: u64 = 1000000;
 const MOST_ENTRIES: usize = 4096;
 
 // The answer: refused, with document 01's number and place, or the number of the state's region.
-#[derive(Drop)]
+#[derive(Clone, Copy)]
 pub enum Placing {
     Refused { number: u8, place: usize },
     Region(usize),
 }
 
 // A clock of a state: its whole part (16 for over), and its fraction, a numerator over the state's denominator (0 for over).
-#[derive(Drop)]
+#[derive(Clone, Copy)]
 pub(crate) struct Spot {
     pub whole: u8,
     pub fraction: u64,
 }
 
 // The four clocks of a state.
-#[derive(Drop)]
+#[derive(Clone, Copy)]
 pub(crate) struct Spots {
     pub a: Spot,
     pub b: Spot,

@@ -13,7 +13,7 @@ use crate::reading::body_at;
 use crate::records::Body;
 
 // Where a walk over records of one kind ends, and how many it passed.
-#[derive(Drop)]
+#[derive(Clone, Copy)]
 pub(crate) struct Stop {
     pub at: usize,
     pub passed: usize,

@@ -1,7 +1,7 @@
 // What reading a table answers, and the parts of a model that are handed out.
 
 // An invariant atom: a bound on a clock at a location. Comparison 0 is <, 1 is <=.
-#[derive(Drop)]
+#[derive(Clone, Copy)]
 pub struct Invariant {
     pub location: u8,
     pub clock: u8,
@@ -10,7 +10,7 @@ pub struct Invariant {
 }
 
 // A guard atom of an edge. Comparison 0 is <, 1 is <=, 2 is >, 3 is >=, 4 is =.
-#[derive(Drop)]
+#[derive(Clone, Copy)]
 pub struct Guard {
     pub clock: u8,
     pub comparison: u8,
@@ -18,7 +18,7 @@ pub struct Guard {
 }
 
 // A branch of an edge. In the mask bit 0 is clock 0, and a set bit resets that clock.
-#[derive(Drop)]
+#[derive(Clone, Copy)]
 pub struct Branch {
     pub weight: usize,
     pub target: u8,
@@ -26,7 +26,7 @@ pub struct Branch {
 }
 
 // An accepted table's counts, and where its parts begin. The model itself stays in the table's bytes.
-#[derive(Drop)]
+#[derive(Clone, Copy)]
 pub struct Shape {
     pub clocks: u8,
     pub locations: u8,
@@ -39,14 +39,14 @@ pub struct Shape {
 }
 
 // The answer: refused, with document 01's number and place, or read.
-#[derive(Drop)]
+#[derive(Clone, Copy)]
 pub enum Reading {
     Refused { number: u8, place: usize },
     Accepted(Shape),
 }
 
 // An edge by its number: source, action and denominator together. Eight bytes, so that a list of 128 takes 1 KB.
-#[derive(Drop)]
+#[derive(Clone, Copy)]
 pub struct Edge {
     pub source: u8,
     pub action: u8,

@@ -22,7 +22,7 @@ const IN_GUARDS: u8 = 3;
 const IN_BRANCHES: u8 = 4;
 
 // The four bytes after a record's kind, 0 past the table's end.
-#[derive(Drop)]
+#[derive(Clone, Copy)]
 pub(crate) struct Body {
     pub a: u8,
     pub b: u8,
@@ -32,7 +32,7 @@ pub(crate) struct Body {
 
 // What was read so far. `stage` says which records may follow; `edges` counts the edges begun, and the last
 // five fields are of the last of them.
-#[derive(Drop)]
+#[derive(Clone, Copy)]
 pub(crate) struct Progress {
     pub stage: u8,
     pub clocks: u8,
@@ -49,7 +49,7 @@ pub(crate) struct Progress {
 }
 
 // What a record leads to.
-#[derive(Drop)]
+#[derive(Clone, Copy)]
 pub(crate) enum Step {
     // Document 01's number and place.
     Refused(u8, usize),

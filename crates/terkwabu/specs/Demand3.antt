@@ -16,7 +16,7 @@
 -- What these files rest on is named in their first lines.
 use Rattle.std.specs.Prelude.{ℕ, ◌<◌, ◌≡◌, ◌↔◌, ◌⊎◌, List, get_or}
 use Rattle.std.proofs.Common.{⊎_elim}
-use Rattle.std.proofs.Math.Logic.{Iff·trans}
+use Rattle.std.proofs.Math.Logic.{Iff.trans}
 use Rattle.regions.specs.Passed.{Model, read_table, accepted, Region}
 use Rattle.regions.specs.Entries.{region_at}
 use Rattle.regions.specs.Explore.{listed}
@@ -145,7 +145,7 @@ demand-3 =
       pair = λ table m read a b ia ib entries first second r s answer entries' first' second' call none at bt.
           let left = pair-first-left table entries first second r s answer entries' first' second' call none in
           let (hr, hs) = pair-regions table entries first second r s answer entries' first' second' call none in
-          Iff·trans (value-apart table entries first second r s answer entries' first' second' call none)
+          Iff.trans (value-apart table entries first second r s answer entries' first' second' call none)
           (numbers-differ left m read a b ia ib r s hr at hs bt);
       pair-lists = λ table entries first second r s answer entries' first' second' call none.
           let (m, read, all, order, one, two) =

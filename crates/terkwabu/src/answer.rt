@@ -10,7 +10,7 @@ use states::Placing;
 
 // `refusal` is 0 where nothing is refused.
 #[repr(C)]
-#[derive(Drop)]
+#[derive(Clone, Copy)]
 pub struct Answer {
     pub refusal: u64,
     pub place: u64,

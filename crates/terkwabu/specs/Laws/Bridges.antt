@@ -4,7 +4,7 @@
 use Rattle.std.specs.Prelude.{ℕ, ◌<◌, ◌≡◌, ◌↔◌, Bool, length}
 use Rattle.std.proofs.Common.{arith, sym, ◌∙◌, subst}
 use Rattle.std.proofs.Math.Path.{refl, ap, ap₂}
-use Rattle.std.proofs.Math.Logic.{Iff·trans}
+use Rattle.std.proofs.Math.Logic.{Iff.trans}
 use Rattle.std.proofs.Math.Bool.{true, false, cond}
 use Rattle.std.proofs.Math.Dec.{ltb}
 use borrow.Author.Tests.{ltb-true}
@@ -271,13 +271,13 @@ module _ (table entries first second : List ℕ) (r s : ℕ) (answer : Answer) (
       (reduced : Reduced table entries₁ first₁ second₁ (B.Blocks n b k) entries₁' first₁' second₁') where
     pub value-first : (answer.value ≡ 1) ↔ (get_or first₁' r 0 ≡ get_or first₁' s 0)
     value-first =
-        Iff·trans value_shares
+        Iff.trans value_shares
         (pair-as-first table entries₁ first₁ second₁ (B.Blocks n b k) entries₁' first₁' second₁' reduced n b k refl entries first second
         r s (S.Shared shared-as.0) entries' first' second' paired-of shared-as.0 refl)
 
     pub value-second : (answer.value ≡ 1) ↔ (get_or second₁' r 0 ≡ get_or second₁' s 0)
     value-second =
-        Iff·trans value_shares
+        Iff.trans value_shares
         (pair-as-second table entries₁ first₁ second₁ (B.Blocks n b k) entries₁' first₁' second₁' reduced n b k refl entries first second
         r s (S.Shared shared-as.0) entries' first' second' paired-of shared-as.0 refl)
 
