@@ -1,7 +1,8 @@
 -- A clock as a cell, and what delay and reset do to the clocks of a region (document 01, "Regions"). A cell carries the bound of
 -- its own clock: document 01 has one M for all. The fraction of a cell is a number that orders the clocks: in a region it is the
 -- rank, in a state any numerator over a common denominator.
-use Rattle.std.specs.Prelude.{ℕ, zero, suc, ◌+◌, ◌≤◌, ◌<◌, max, ◌≡◌, refl, Bool, true, false, cond, ◌&&◌, ◌||◌, List, [], ◌∷◌, map, eqb, ltb}
+use Rattle.std.specs.Prelude.{ℕ, zero, suc, ◌+◌, ◌≤◌, ◌<◌, max, ◌≡◌, refl, Bool, true, false}
+use Rattle.std.specs.Prelude.{cond, ◌&&◌, ◌||◌, List, [], ◌∷◌, map, eqb, ltb}
 use Rattle.std.proofs.Common.{arith, add-one, sym, ◌∙◌, ap, ap₂, ne_eqb}
 use Rattle.std.proofs.Math.Bool.{or-false}
 use Rattle.table.specs.Model.{reset_in}

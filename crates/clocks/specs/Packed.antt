@@ -4,7 +4,8 @@ use Rattle.std.specs.Prelude.{ℕ, ◌<◌, ◌≤◌, min, ◌≡◌, refl, Boo
 use Rattle.std.proofs.Common.{arith, ◌∙◌, ap₂}
 use Rattle.std.proofs.Math.Path.{sym, ap}
 use borrow.Author.Tests.{eq-eqb, ne_eqb, lt-ltb, le-ltb}
-use Rattle.clocks.specs.Cells.{Cell, over, at, close, restart, restarted, reset, is_over, standing, leaving, all, some, leave, highest, arrive, Follow, nothing, cells, delay, delay-nothing, delay-leaves, delay-arrives}
+use Rattle.clocks.specs.Cells.{Cell, over, at, close, restart, restarted, reset, is_over, standing, leaving, all, some, leave, highest}
+use Rattle.clocks.specs.Cells.{arrive, Follow, nothing, cells, delay, delay-nothing, delay-leaves, delay-arrives}
 use Rattle.clocks.specs.declared.clock.Clock.{Clock}
 use Rattle.clocks.specs.declared.four.Four.{Four}
 use Rattle.clocks.specs.declared.region.Region.{Region}

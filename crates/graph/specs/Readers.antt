@@ -1,7 +1,8 @@
 -- What the readers read: total, for all numbers and all contents of the slices. Numbers that are too large are taken modulo what there may
 -- be at most.
 use Rattle.std.specs.Prelude.{ℕ, zero, suc, ◌+◌, ◌*◌, ◌-◌, ◌/◌, ◌%◌, ◌^◌, Bool, cond, List, [], ◌∷◌, get_or, eqb}
-use Rattle.graph.specs.Columns.{nothing, load, most_regions, most_locations, most_edges, most_branches, most_slots, weight_bound, edge_place}
+use Rattle.graph.specs.Columns.{nothing, load, most_regions, most_locations, most_edges, most_branches, most_slots, weight_bound}
+use Rattle.graph.specs.Columns.{edge_place}
 use Rattle.graph.specs.Columns.{labels, edge_starts, edge_numbers, slot_starts, slot_keys, branch_slots}
 use Rattle.graph.specs.Columns.{class_heads, class_links, region_heads, region_links, classes, locations, delays, available_counts}
 use Rattle.graph.specs.Columns.{available}

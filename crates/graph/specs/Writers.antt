@@ -6,7 +6,8 @@ use Rattle.graph.specs.Columns.{labels, edge_starts, edge_numbers, slot_starts, 
 use Rattle.graph.specs.Columns.{class_heads, class_links, region_heads, region_links, classes, locations, delays, available_counts}
 use Rattle.graph.specs.Columns.{available}
 use Rattle.graph.specs.Columns.{resets, class_delays, slot_locations, key_heads, key_links, source_heads, source_links}
-use Rattle.graph.specs.Readers.{key_of, key_head, available_word, reset_class, class_head, reset_number, source_head, bucket_of, region_head}
+use Rattle.graph.specs.Readers.{key_of, key_head, available_word, reset_class, class_head, reset_number, source_head, bucket_of}
+use Rattle.graph.specs.Readers.{region_head}
 
 -- ---- The prepared model
 

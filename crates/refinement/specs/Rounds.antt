@@ -9,8 +9,8 @@ use Rattle.signatures.specs.Structure.{structure_of}
 use Rattle.refinement.specs.Names.{Compact, Same}
 use Rattle.refinement.specs.Traceable.{Traceable}
 
--- A round: new names are equal exactly for items that have the same signature over the names before. A new name below the count before is the
--- item's old one, and exactly those below the new count are in use: a name is added for each part that is split off.
+-- A round: new names are equal exactly for items that have the same signature over the names before. A new name below the count before is
+-- the item's old one, and exactly those below the new count are in use: a name is added for each part that is split off.
 pub record Renamed (n : ℕ) (graph edges : List ℕ) (count : ℕ) (names names' : List ℕ) (more : ℕ) : Type 0 where
   pub size : length names' ≡ length names
   pub compact : Compact n names' more

@@ -1,7 +1,9 @@
 -- Regions in a list of bytes (document 01: "An entry is nine bytes: location, four integer parts (16 for over), four ranks (0 for
 -- over)."): the bytes of a region, and the region that stands at an entry. Below that what storing an entry changes.
-use Rattle.std.specs.Prelude.{ℕ, zero, suc, ◌+◌, ◌*◌, ◌≤◌, ◌<◌, ◌≡◌, refl, Bool, true, false, List, [], ◌∷◌, ◌++◌, ◌⊎◌, eqb, ltb, length, set, get_or}
-use Rattle.std.proofs.Common.{arith, add-zero, add-suc, suc-add, sym, ◌∙◌, ap, ap₂, inl, inr, length-set, get_or-set_same, get_or-set_other, eqb-true, ltb-true, ltb-false}
+use Rattle.std.specs.Prelude.{ℕ, zero, suc, ◌+◌, ◌*◌, ◌≤◌, ◌<◌, ◌≡◌, refl, Bool, true, false, List}
+use Rattle.std.specs.Prelude.{[], ◌∷◌, ◌++◌, ◌⊎◌, eqb, ltb, length, set, get_or}
+use Rattle.std.proofs.Common.{arith, add-zero, add-suc, suc-add, sym, ◌∙◌, ap, ap₂, inl, inr, length-set}
+use Rattle.std.proofs.Common.{get_or-set_same, get_or-set_other, eqb-true, ltb-true, ltb-false}
 use Rattle.std.proofs.lemmas.Bool.{false≢true, eqb-false}
 use Rattle.std.proofs.lemmas.List.Edits.{sets}
 use Rattle.std.proofs.Math.Seq.{length-sets}

@@ -40,5 +40,6 @@ printed_model =
     }
 
 pub printed-read : read_table printed ≡ accepted printed_model
-unfolding body_length body_lengths record_of body_at record_at past rows_of next_of step_at item_at run run_table add gather model_of read_table
+unfolding body_length body_lengths record_of body_at record_at past rows_of next_of step_at
+    item_at run run_table add gather model_of read_table
 printed-read = refl

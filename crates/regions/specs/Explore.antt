@@ -1,6 +1,8 @@
 -- Exploring into entries: the regions listed so far, what meeting regions does to them, and laws to put such steps together.
-use Rattle.std.specs.Prelude.{ℕ, zero, suc, ◌+◌, ◌-◌, ◌*◌, ◌≤◌, ◌<◌, ◌≡◌, refl, Bool, true, false, ◌&&◌, eqb, ltb, length, get_or, take, drop}
-use Rattle.std.proofs.Common.{arith, add-one, ◌∙◌, ap₂, length-append, take-append-drop, take-suc, take_all, eqb-true, eq-eqb, ltb-true, ltb-false}
+use Rattle.std.specs.Prelude.{ℕ, zero, suc, ◌+◌, ◌-◌, ◌*◌, ◌≤◌, ◌<◌, ◌≡◌, refl, Bool, true}
+use Rattle.std.specs.Prelude.{false, ◌&&◌, eqb, ltb, length, get_or, take, drop}
+use Rattle.std.proofs.Common.{arith, add-one, ◌∙◌, ap₂, length-append, take-append-drop, take-suc}
+use Rattle.std.proofs.Common.{take_all, eqb-true, eq-eqb, ltb-true, ltb-false}
 use Rattle.std.proofs.Math.Path.{sym, ap}
 use mathlib.Core.List.{List, [], ◌∷◌, ◌++◌, append_assoc, append-nil}
 use Rattle.std.proofs.Math.ListN.{get_or-append}
@@ -254,7 +256,8 @@ module _ (next : Region → List Region) (cap : ℕ) (d : Region) (es : List ℕ
       let fuel : suc cap - i ≡ suc (cap - i) = omega arith in
       ap (λ k. explore_from same_region next k cap d (listed es n) i) fuel
       ∙ turn same_region next (cap - i) cap d (listed es n) i (rw listed-length inside)
-      ∙ ap (λ r. and_then (λ more. explore_from same_region next (cap - i) cap d more (suc i)) (meet same_region cap (listed es n) (next r)))
+      ∙ ap (λ r. and_then (λ more. explore_from same_region next (cap - i) cap d more (suc i))
+      (meet same_region cap (listed es n) (next r)))
       (listed_at es n i d inside)
       ∙ ap (and_then (λ more. explore_from same_region next (cap - i) cap d more (suc i))) all
 

@@ -1,6 +1,7 @@
 -- Invariants as limits: one number for each location and clock, which the code tests instead of walking over the atoms. Every
 -- invariant atom is an upper bound, so the lowest limit of a clock stands for all of them.
-use Rattle.std.specs.Prelude.{ℕ, zero, suc, ◌+◌, ◌*◌, ◌≤◌, ◌<◌, min, ◌⊎◌, ◌≡◌, Bool, cond, not, ◌&&◌, ◌||◌, List, [], ◌∷◌, ◌++◌, eqb, ltb, leb, length, get_or, set, take, replicate}
+use Rattle.std.specs.Prelude.{ℕ, zero, suc, ◌+◌, ◌*◌, ◌≤◌, ◌<◌, min, ◌⊎◌, ◌≡◌, Bool, cond, not, ◌&&◌, ◌||◌, List, []}
+use Rattle.std.specs.Prelude.{◌∷◌, ◌++◌, eqb, ltb, leb, length, get_or, set, take, replicate}
 use native.Mathlib.Omega.{arith}
 use Rattle.std.proofs.Common.{add-one, inl, inr, ◌∙◌, ap, length-set, take-suc, take_all, get_or-set_same, get_or-set_other}
 use Rattle.std.proofs.Math.Path.{refl, sym, subst}
@@ -88,7 +89,8 @@ at-most-limit k (at m w f) h = go (eqb f 0)
         same_tests _ _ (λ e. lt-ltb (min (2 * w + 1) 65533) (2 * k + 1) (omega (arith, ltb-true w k e)))
         (λ e. lt-ltb w k (omega (arith, ltb-true (min (2 * w + 1) 65533) (2 * k + 1) e)))
 
-atom-limit : (comparison k : ℕ) (c : Cell) → comparison ≤ 1 → k ≤ 15 → is_holds (atom comparison k c) ≡ ltb (position c) (2 * k + comparison)
+atom-limit : (comparison k : ℕ) (c : Cell) → comparison ≤ 1 → k ≤ 15
+    → is_holds (atom comparison k c) ≡ ltb (position c) (2 * k + comparison)
 unfolding atom
 atom-limit zero k c h small = held-is (below k c) ∙ below-limit k c small ∙ ap (ltb (position c)) (omega arith)
 atom-limit (suc zero) k c h small = held-is (at_most k c) ∙ at-most-limit k c small
@@ -136,10 +138,15 @@ module _ (clocks locations : ℕ) (few : clocks ≤ 4) (bounds : Bounds) (r : Re
       → ((i : ℕ) → i < 4 → stand i < limit_of atoms r.location i) → every (allows bounds r) atoms ≡ true
   from-limits [] none h = refl
   from-limits (a ∷ atoms) (also s rest) h =
-      rw (here (eqb a.location r.location) refl) (from-limits atoms rest (λ i p. later i p (eqb a.location r.location && eqb a.clock i) refl))
+      rw (here (eqb a.location r.location) refl)
+      (from-limits atoms rest (λ i p. later i p (eqb a.location r.location && eqb a.clock i) refl))
     where
-      later : (i : ℕ) → i < 4 → (b : Bool) → (eqb a.location r.location && eqb a.clock i) ≡ b → stand i < limit_of atoms r.location i
-      later i p true e = let low = h i p in let z : stand i < min (limit_by a) (limit_of atoms r.location i) = rw e at low in omega (arith, z)
+      later : (i : ℕ) → i < 4 → (b : Bool) → (eqb a.location r.location && eqb a.clock i) ≡ b
+          → stand i < limit_of atoms r.location i
+      later i p true e =
+          let low = h i p in
+          let z : stand i < min (limit_by a) (limit_of atoms r.location i) = rw e at low in
+          omega (arith, z)
       later i p false e = let low = h i p in let z : stand i < limit_of atoms r.location i = rw e at low in z
 
       here : (b : Bool) → eqb a.location r.location ≡ b → allows bounds r a ≡ true
@@ -259,9 +266,11 @@ module _ (atoms : List Invariant) (limits : List ℕ) (i : ℕ) (here : i < leng
       lowered_is l j h
       ∙ ap (λ n. cond (eqb a.location l && eqb a.clock j) (min n (limit_by a)) n) (held l j h)
       ∙ sym (limit-last (take i atoms) a l j)
-      ∙ ap (λ x. limit_of x l j) (ap (λ x. take i atoms ++ (x ∷ [])) is ∙ sym (take-suc atoms i no_invariant here) ∙ ap (λ n. take n atoms) (sym (add-one i)))
+      ∙ ap (λ x. limit_of x l j)
+      (ap (λ x. take i atoms ++ (x ∷ [])) is ∙ sym (take-suc atoms i no_invariant here) ∙ ap (λ n. take n atoms) (sym (add-one i)))
 
-pub holding-all : (atoms : List Invariant) (limits : List ℕ) (i : ℕ) → length atoms ≤ i → Holding (take i atoms) limits → Holding atoms limits
+pub holding-all : (atoms : List Invariant) (limits : List ℕ) (i : ℕ) → length atoms ≤ i → Holding (take i atoms) limits
+    → Holding atoms limits
 holding-all atoms limits i h held = subst (λ x. Holding x limits) (take_all i atoms h) held
 
 -- Atom i of a sound model.

@@ -1,6 +1,7 @@
 -- One region by itself, as the layer above asks for it: its label, what it reaches by delay, and its edges. It stands among the first
 -- n of any lent entries; those that a graph call left are such. And a table by itself: its clocks, and the labels of its locations.
-use Rattle.std.specs.Prelude.{ℕ, zero, suc, ◌+◌, ◌*◌, ◌<◌, ◌≡◌, Bool, true, cond, ◌&&◌, List, [], ◌∷◌, ◌++◌, map, leb, ltb, length, get_or, drop}
+use Rattle.std.specs.Prelude.{ℕ, zero, suc, ◌+◌, ◌*◌, ◌<◌, ◌≡◌, Bool, true, cond, ◌&&◌, List, []}
+use Rattle.std.specs.Prelude.{◌∷◌, ◌++◌, map, leb, ltb, length, get_or, drop}
 use Rattle.table.specs.Model.{Model}
 use Rattle.table.specs.Reading.{Answer, refusal, accepted}
 use Rattle.table.specs.Reads.{edge_of}

@@ -158,10 +158,12 @@ number_of Full = no_id
 pub record Passing (graph edges names items items' : List ℕ) (held : List (List ℕ)) (k : ℕ) : Type 0 where
   pub size : length items' ≡ length items
   pub id : (j : ℕ) → j < k → (get_or items' j 0 ≡ no_id → ⊥)
-      → Named held (name_of names (get_or items j 0)) (reached_from names (get_or items j 0)) (steps_from graph edges names (get_or items j 0))
+      → Named held (name_of names (get_or items j 0)) (reached_from names (get_or items j 0))
+          (steps_from graph edges names (get_or items j 0))
       (get_or items' j 0)
   pub refused : (j : ℕ) → j < k → get_or items' j 0 ≡ no_id
-      → Refused held (name_of names (get_or items j 0)) (reached_from names (get_or items j 0)) (steps_from graph edges names (get_or items j 0))
+      → Refused held (name_of names (get_or items j 0)) (reached_from names (get_or items j 0))
+          (steps_from graph edges names (get_or items j 0))
   pub rest : (j : ℕ) → k ≤ j → get_or items' j 0 ≡ get_or items j 0
   pub first : 0 < k → get_or items' 0 0 ≡ no_id → ⊥
 

@@ -28,4 +28,5 @@ pub record Landed (graph names : List ℕ) (edge class : ℕ) (raw : List ℕ) (
   pub edge-is : raw_edge raw ≡ edge
   pub size_is : size ≡ branch_count graph edge + 1
   pub few : size ≤ 9
-  pub names-are : (i : ℕ) → i < branch_count graph edge → get_or raw (1 + i) 0 ≡ name_of names (landing_of graph class (branch_slot graph edge i))
+  pub names-are : (i : ℕ) → i < branch_count graph edge
+      → get_or raw (1 + i) 0 ≡ name_of names (landing_of graph class (branch_slot graph edge i))

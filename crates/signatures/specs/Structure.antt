@@ -41,10 +41,12 @@ structure_of n graph edges =
       available = λ x rank. ltb rank (edge_count graph (location_of graph x)) && is_available graph x rank;
       action = λ x rank. action_of edges (edge_of graph x rank);
       whole = λ x rank. denominator_of edges (edge_of graph x rank);
-      branches = λ x rank. branches_from graph edges (class_of graph x) (edge_of graph x rank) 0 (branch_count graph (edge_of graph x rank));
+      branches = λ x rank. branches_from graph edges (class_of graph x) (edge_of graph x rank) 0
+          (branch_count graph (edge_of graph x rank));
     }
 
 -- The step of an edge from the regions of a class.
 unfoldable pub step_at : (graph edges names : List ℕ) → (class edge : ℕ) → List ℕ
 step_at graph edges names class edge =
-    step_list (action_of edges edge) (denominator_of edges edge) (named names (branches_from graph edges class edge 0 (branch_count graph edge)))
+    step_list (action_of edges edge) (denominator_of edges edge)
+        (named names (branches_from graph edges class edge 0 (branch_count graph edge)))

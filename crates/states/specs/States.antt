@@ -1,6 +1,7 @@
 -- States of a model, and how they move (document 01, "Regions", from "A state is" on, and "The model table"): the automaton's own
 -- rules on fractions. A reader finds the automaton here, and nothing of how the graph is made.
-use Rattle.std.specs.Prelude.{ℕ, suc, ◌+◌, ◌*◌, ◌≤◌, ◌<◌, ◌≡◌, Bool, true, false, cond, not, ◌&&◌, ◌||◌, List, [], ◌∷◌, map, eqb, leb, ltb, length, get_or}
+use Rattle.std.specs.Prelude.{ℕ, suc, ◌+◌, ◌*◌, ◌≤◌, ◌<◌, ◌≡◌, Bool, true, false, cond, not, ◌&&◌, ◌||◌}
+use Rattle.std.specs.Prelude.{List, [], ◌∷◌, map, eqb, leb, ltb, length, get_or}
 use Rattle.table.specs.Model.{Model, Edge, reset_in}
 use Rattle.table.specs.declared.model.Branch.{Branch}
 use Rattle.table.specs.declared.model.Guard.{Guard}

@@ -5,7 +5,8 @@
 -- Readings that the rows rest on (docs/DECISIONS.md): a location too many is 5, never 11; an edge without branches is 12,
 -- since its weights sum to 0; 12 is met by the next edge or the end, after all that record's own lower numbers.
 use Rattle.std.specs.Prelude.{ℕ, ◌+◌, ◌^◌, ◌/◌, ◌≡◌, refl, Bool, true, cond, not, ◌&&◌, List, [], ◌∷◌, ◌++◌, map, eqb, leb, ltb, length}
-use Rattle.table.specs.Format.{max_clocks, max_locations, max_constant, max_denominator, max_invariants, max_edges, max_guards, max_branches, last_bound, last_comparison}
+use Rattle.table.specs.Format.{max_clocks, max_locations, max_constant, max_denominator, max_invariants}
+use Rattle.table.specs.Format.{max_edges, max_guards, max_branches, last_bound, last_comparison}
 use Rattle.table.specs.Records.{Record, header, location, invariant, edge, guard, branch, end, kind_at, record_at, past}
 use Rattle.table.specs.declared.model.Invariant.{Invariant}
 use Rattle.table.specs.declared.model.Guard.{Guard}

@@ -1,6 +1,7 @@
 -- What is sound in every model that was read, so that no layer above looks into the reading again.
 use Rattle.std.specs.Prelude.{ℕ, ◌≤◌, ◌<◌, ◌^◌, ◌≡◌, List, [], ◌∷◌, length}
-use Rattle.table.specs.Format.{max_clocks, max_locations, max_constant, max_denominator, max_invariants, max_edges, max_guards, max_branches, last_bound, last_comparison}
+use Rattle.table.specs.Format.{max_clocks, max_locations, max_constant, max_denominator, max_invariants}
+use Rattle.table.specs.Format.{max_edges, max_guards, max_branches, last_bound, last_comparison}
 use Rattle.table.specs.Model.{Edge, Model, total}
 use Rattle.table.specs.declared.model.Invariant.{Invariant}
 use Rattle.table.specs.declared.model.Guard.{Guard}

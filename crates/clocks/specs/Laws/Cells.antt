@@ -28,6 +28,7 @@ from-map g (x ∷ cs) c (Memᴰ.tail n) = let r = from-map g cs c n in (r.0, Mem
 
 -- Where no cell of a list passes a test, each fails it.
 pub none : (p : Cell → Bool) (cs : List Cell) (x : Cell) → some p cs ≡ false → Memᴰ x cs → p x ≡ false
+none p [] x e n = elim n [ ]
 none p (y ∷ cs) x e (Memᴰ.head q) = ap p q ∙ go (p y) e
   where
     go : (b : Bool) → (b || some p cs) ≡ false → b ≡ false
@@ -135,10 +136,12 @@ or-true false b e = e
 
 -- The fraction of a cell of the list is one of the list.
 pub gives-own : (k : ℕ) (cs : List Cell) (x : Cell) → Memᴰ x cs → k ≡ fraction_of x → member k (map fraction_of cs) ≡ true
+gives-own k [] x n e = elim n [ ]
 gives-own k (y ∷ cs) x (Memᴰ.head p) e = rw (eq-eqb k (fraction_of y) (e ∙ ap fraction_of p)) refl
 gives-own k (y ∷ cs) x (Memᴰ.tail n) e = or-true (eqb k (fraction_of y)) _ (gives-own k cs x n e)
 
 pub to_map : (g : Cell → Cell) (cs : List Cell) (x : Cell) → Memᴰ x cs → Memᴰ (g x) (map g cs)
+to_map g [] x n = elim n [ ]
 to_map g (y ∷ cs) x (Memᴰ.head p) = Memᴰ.head (ap g p)
 to_map g (y ∷ cs) x (Memᴰ.tail n) = Memᴰ.tail (to_map g cs x n)
 
@@ -261,6 +264,7 @@ leave-no-gap cs h =
 
 -- No rank is above the highest.
 pub most : (cs : List Cell) (x : Cell) → Memᴰ x cs → fraction_of x ≤ highest cs
+most [] x n = elim n [ ]
 most (y ∷ cs) x (Memᴰ.head p) = let e : fraction_of x ≡ fraction_of y = ap fraction_of p in omega arith
 most (y ∷ cs) x (Memᴰ.tail n) = omega (arith, most cs x n)
 

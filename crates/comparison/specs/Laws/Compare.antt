@@ -142,6 +142,7 @@ module _ (n : ℕ) (nexts : List ℕ) (p : ℕ → Bool) where
 -- What an item reaches by delay is an item.
 pub chain-below : (n : ℕ) (nexts : List ℕ) (left x u : ℕ) → x < n → Memᴰ u (chain n nexts left x) → u < n
 chain-below n nexts zero x u h (Memᴰ.head e) = rw e h
+chain-below n nexts zero x u h (Memᴰ.tail m) = elim m [ ]
 chain-below n nexts (suc left) x u h (Memᴰ.head e) = rw e h
 chain-below n nexts (suc left) x u h (Memᴰ.tail m) =
     go (ltb (get_or nexts x 0) n) refl (chain-below n nexts left (get_or nexts x 0) u) m
@@ -150,6 +151,7 @@ chain-below n nexts (suc left) x u h (Memᴰ.tail m) =
         → (get_or nexts x 0 < n → Memᴰ u (chain n nexts left (get_or nexts x 0)) → u < n)
         → Memᴰ u (cond b (chain n nexts left (get_or nexts x 0)) []) → u < n
     go true t rest m = rest (ltb-true (get_or nexts x 0) n t) m
+    go false t rest m = elim m [ ]
 
 -- Tests that agree on the items of a list.
 pub each-agree : (p q : ℕ → Bool) (l : List ℕ) → ((u : ℕ) → Memᴰ u l → p u ≡ q u) → all_of p l ≡ all_of q l

@@ -11,7 +11,7 @@ use borrow.Author.Tests.{eq-eqb, ne_eqb, eqb-true, not-true, not-false}
 use Rattle.bisimulation.specs.Structures.{Branch, Closed}
 use Rattle.bisimulation.specs.Finite.{Finite, structure, related, sum, some_below, any_of, all_of, next, matches}
 use Rattle.bisimulation.specs.Laws.Tests.{both, clash, fails, same?, same_test, and-iff, cond-iff}
-use Rattle.bisimulation.specs.Laws.Tests.{all-below, some_below, below-some, all-of, any-of, of-any}
+use Rattle.bisimulation.specs.Laws.Tests.{all-below, some_below_lem, below-some, all-of, any-of, of-any}
 use Rattle.comparison.specs.Held.{Held, most_items, chain, action_at, whole_at, count_at, target_at, branches_from}
 use Rattle.comparison.specs.Compare.{reaches_related, delays_answered, weighed, balanced, balanced_over, edges_alike, number_of}
 use Rattle.comparison.specs.Held.{is_open}
@@ -313,9 +313,9 @@ module _ (n k : ℕ) (list flags resets spots rows : List ℕ) where
         → has_edge x v ≡ true → has_edge y v ≡ true
     unfolding edges_answered edge_answered some_answers answers
     code-found x y v hx hy all t =
-        let (e, he, u) = some_below k (λ e. is_open flags x e && eqb (code_of list resets spots rows x e) v) t in
+        let (e, he, u) = some_below_lem k (λ e. is_open flags x e && eqb (code_of list resets spots rows x e) v) t in
         let (ax, code) = (and-iff (is_open flags x e) (eqb (code_of list resets spots rows x e) v)).0 u in
-        let (f, hf, a) = some_below k (λ f. answers list flags resets spots rows x e y f)
+        let (f, hf, a) = some_below_lem k (λ f. answers list flags resets spots rows x e y f)
         ((cond-iff (is_open flags x e) (some_answers k list flags resets spots rows x e y)).0
         ((all-below k (λ e. edge_answered k list flags resets spots rows x y e)).0 all e he) ax) in
         let (ay, same) = (and-iff (is_open flags y f) (edges_alike list resets spots rows x e y f)).0 a in

@@ -1,5 +1,5 @@
 -- Items that are plainly alike are related in the next round (`twin-next`), and the steps of the loops that look for them.
-use Rattle.std.specs.Prelude.{ℕ, zero, suc, ◌+◌, ◌*◌, ◌-◌, ◌≤◌, ◌<◌, ◌≡◌, refl, true, cond, ◌&&◌, ◌⊎◌, eqb, ltb, get_or}
+use Rattle.std.specs.Prelude.{ℕ, zero, suc, ◌+◌, ◌*◌, ◌-◌, ◌≤◌, ◌<◌, ◌≡◌, refl, true, false, cond, ◌&&◌, ◌⊎◌, eqb, ltb, get_or}
 use Rattle.std.proofs.Common.{arith, sym, ◌∙◌, ap₂, subst, inl, inr}
 use Rattle.std.proofs.Math.Path.{ap}
 use Rattle.std.proofs.Math.Bool.{Bool}
@@ -40,6 +40,7 @@ module _ (n : ℕ) (nexts : List ℕ) where
   -- With one step more, no less.
   chain_more : (more x u : ℕ) → Memᴰ u (chain n nexts more x) → Memᴰ u (chain n nexts (suc more) x)
   chain_more zero x u (Memᴰ.head e) = Memᴰ.head e
+  chain_more zero x u (Memᴰ.tail m) = elim m [ ]
   chain_more (suc more) x u (Memᴰ.head e) = Memᴰ.head e
   chain_more (suc more) x u (Memᴰ.tail m) =
       Memᴰ.tail (go (ltb (get_or nexts x 0) n) (chain_more more (get_or nexts x 0) u) m)
@@ -49,17 +50,20 @@ module _ (n : ℕ) (nexts : List ℕ) where
           → Memᴰ u (cond b (chain n nexts more (get_or nexts x 0)) [])
           → Memᴰ u (cond b (chain n nexts (suc more) (get_or nexts x 0)) [])
       go true rest m = rest m
+      go false rest m = elim m [ ]
 
   -- It is the item, or what follows the item is an item and reaches it.
   chain-cases : (more x u : ℕ) → Memᴰ u (chain n nexts more x)
       → (u ≡ x) ⊎ ((get_or nexts x 0 < n) × Memᴰ u (chain n nexts more (get_or nexts x 0)))
   chain-cases zero x u (Memᴰ.head e) = inl e
+  chain-cases zero x u (Memᴰ.tail m) = elim m [ ]
   chain-cases (suc more) x u (Memᴰ.head e) = inl e
   chain-cases (suc more) x u (Memᴰ.tail m) = inr (go (ltb (get_or nexts x 0) n) refl m)
     where
       go : (b : Bool) → ltb (get_or nexts x 0) n ≡ b → Memᴰ u (cond b (chain n nexts more (get_or nexts x 0)) [])
           → (get_or nexts x 0 < n) × Memᴰ u (chain n nexts (suc more) (get_or nexts x 0))
       go true t m = (ltb-true (get_or nexts x 0) n t, chain_more more (get_or nexts x 0) u m)
+      go false t m = elim m [ ]
 
 -- ---- Delays that answer each other
 

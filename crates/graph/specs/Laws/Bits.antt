@@ -1,7 +1,8 @@
 -- Available edges as bits: clearing leaves none, and marking a rank makes that edge available and changes no other.
 use Prim.Native.Nat.{ℕ, zero, suc, ◌+◌, ◌*◌, ◌-◌, ◌/◌, ◌%◌, ◌^◌, ◌≤◌, ◌<◌}
 use Rattle.std.proofs.Common.{arith, mod-eq_of_lt, mul-div_cancel, pow-suc, mul_assoc, ◌∙◌, ap₂, subst}
-use Rattle.std.proofs.Math.Nat.{mod-lt, pow-le-pow_right, div-eq_of_lt, mul-mod_left, zero-div, one-le-pow, div-add-mod, mul-add-div, mul-add-mod_self_left}
+use Rattle.std.proofs.Math.Nat.{mod-lt, pow-le-pow_right, div-eq_of_lt, mul-mod_left, zero-div, one-le-pow, div-add-mod, mul-add-div}
+use Rattle.std.proofs.Math.Nat.{mul-add-mod_self_left}
 use Rattle.std.specs.Prelude.{◌≡◌, Bool, true, false, List, ◌⊎◌, length}
 use Rattle.std.proofs.Math.Path.{refl, sym, ap}
 use Rattle.std.proofs.Math.Logic.{inl, inr}
@@ -144,7 +145,8 @@ module _ (graph : List ℕ) (x rank : ℕ) where
           → is_available (with_available graph x rank) y other ≡ is_available graph y other
       go (inr away) =
           ap (λ (w : ℕ). bit_of w (other % 16))
-          (load-other available graph (8 * (x % most_regions) + rank / 16 % 8) (bit_or (available_word graph x (rank / 16)) (2 ^ (rank % 16)))
+          (load-other available graph (8 * (x % most_regions) + rank / 16 % 8)
+          (bit_or (available_word graph x (rank / 16)) (2 ^ (rank % 16)))
           (8 * (y % most_regions) + other / 16 % 8) away)
       go (inl same) =
           let regions : y % most_regions ≡ x % most_regions = omega (arith, same) in

@@ -1,5 +1,6 @@
 -- Loading after storing: what was stored is read back, and every other place and every other column stays.
-use Rattle.std.specs.Prelude.{ℕ, zero, suc, ◌+◌, ◌%◌, ◌≤◌, ◌<◌, ◌≡◌, refl, Bool, true, false, cond, ◌||◌, List, [], ◌∷◌, ◌⊎◌, leb, eqb, length, get_or}
+use Rattle.std.specs.Prelude.{ℕ, zero, suc, ◌+◌, ◌%◌, ◌≤◌, ◌<◌, ◌≡◌, refl, Bool, true, false, cond, ◌||◌, List, [], ◌∷◌, ◌⊎◌, leb, eqb}
+use Rattle.std.specs.Prelude.{length, get_or}
 use Rattle.std.proofs.Common.{arith, sym, ◌∙◌, inl, inr, leb-true}
 use Rattle.std.proofs.Math.Nat.{mod-eq_of_lt}
 use Rattle.std.proofs.Math.Logic.{⊎_elim}
@@ -90,7 +91,8 @@ unfoldable pub end_of : ℕ → List Column → ℕ
 end_of at [] = at
 end_of at (column ∷ l) = cond (eqb at column.from) (end_of (at + column.size) l) 0
 
-pub layout-short : end_of 0 (labels ∷ edge_starts ∷ edge_numbers ∷ slot_starts ∷ slot_keys ∷ branch_slots ∷ class_heads ∷ class_links ∷ region_heads
+pub layout-short : end_of 0 (labels ∷ edge_starts ∷ edge_numbers ∷ slot_starts ∷ slot_keys ∷ branch_slots ∷ class_heads ∷ class_links
+    ∷ region_heads
     ∷ region_links ∷ classes ∷ []) ≡ short
 unfolding end_of
 layout-short = refl

@@ -15,7 +15,8 @@ use Rattle.graph.specs.Columns.{resets, class_delays, slot_locations, key_heads,
 use Rattle.graph.specs.Readers.{label_of, edge_start, edge_count, edge_at, slot_start, slot_count, slot_mask, slot_target, slot_location}
 use Rattle.graph.specs.Readers.{key_of, key_head, key_link, branch_count, branch_slot, class_of, location_of, delay_of, available_count}
 use Rattle.graph.specs.Readers.{along, keys_of, available_word}
-use Rattle.graph.specs.Readers.{bit_of, is_available, reset_class, delay_class, class_head, class_link, source_head, source_link, sources_from}
+use Rattle.graph.specs.Readers.{bit_of, is_available, reset_class, delay_class, class_head, class_link, source_head, source_link}
+use Rattle.graph.specs.Readers.{sources_from}
 use Rattle.graph.specs.Readers.{sources_of, bucket_of, region_head, region_link, walk, region_at, landing_of}
 use Rattle.graph.specs.Laws.Columns.{Kept}
 use Rattle.graph.specs.Laws.Index.{bucket-below}
@@ -110,7 +111,8 @@ module _ (graph graph' : List ℕ) where
   unfolding delay_of
   delay-kept kept region = kept (region % most_regions) (region-below region)
 
-  pub available-count-kept : Kept available_counts graph graph' → (region : ℕ) → available_count graph' region ≡ available_count graph region
+  pub available-count-kept : Kept available_counts graph graph' → (region : ℕ)
+      → available_count graph' region ≡ available_count graph region
   unfolding available_count
   available-count-kept kept region = kept (region % most_regions) (region-below region)
 
@@ -190,4 +192,5 @@ module _ (graph graph' : List ℕ) where
   landing_kept after keys same heads links class slot =
       region-kept same heads links (reset_class graph' class (slot_mask graph' slot)) (slot_target graph' slot)
       ∙ ap₂ (λ (c l : ℕ). region_at graph c l)
-      (ap (reset_class graph' class) (slot-mask-kept keys slot) ∙ reset-kept after class (slot_mask graph slot)) (slot-target-kept keys slot)
+      (ap (reset_class graph' class) (slot-mask-kept keys slot) ∙ reset-kept after class (slot_mask graph slot))
+      (slot-target-kept keys slot)

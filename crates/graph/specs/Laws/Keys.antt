@@ -73,7 +73,8 @@ module _ (graph : List ℕ) (slot location mask target : ℕ) where
   unfolding with_slot key_link
   key-link-stored lent small =
       store_keeps key_heads _ (key_of mask target) slot key_links refl (key_below mask target) (slot % most_slots) (slot-below slot)
-      ∙ load_stored key_links (store slot_locations (store slot_keys graph (slot % most_slots) (key_of mask target)) (slot % most_slots) location)
+      ∙ load_stored key_links (store slot_locations (store slot_keys graph (slot % most_slots) (key_of mask target))
+      (slot % most_slots) location)
       (slot % most_slots) (key_head graph mask target) (slot-below slot)
       (omega (
         arith,

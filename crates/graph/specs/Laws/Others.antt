@@ -8,7 +8,8 @@ use Rattle.graph.specs.Columns.{load, store, most_locations, most_edges, most_br
 use Rattle.graph.specs.Columns.{edge_starts, edge_numbers, slot_starts, slot_keys, branch_slots, slot_locations, key_heads, key_links}
 use Rattle.graph.specs.Readers.{edge_start, edge_count, edge_at, slot_start, slot_count, slot_mask, slot_target, slot_location}
 use Rattle.graph.specs.Readers.{key_of, key_head, branch_count, branch_slot, action_of, denominator_of, low_of, high_of}
-use Rattle.graph.specs.Writers.{with_edge_start, with_slot_start, with_edge_number, with_slot, with_branch_count, with_branch_slot, with_edge}
+use Rattle.graph.specs.Writers.{with_edge_start, with_slot_start, with_edge_number, with_slot, with_branch_count, with_branch_slot}
+use Rattle.graph.specs.Writers.{with_edge}
 use Rattle.graph.specs.Writers.{with_weight}
 use Rattle.graph.specs.Laws.Columns.{Lent, load_stored, load-other, store_keeps}
 use Rattle.graph.specs.Laws.Latest.{cases}

@@ -86,7 +86,8 @@ module _ (graph : List ℕ) (edge : ℕ) where
   count-below : 9 * (edge % most_edges) < 1152
   count-below = omega (arith, mod-lt edge {m = 128} (omega arith))
 
-  pub branch-count-stored : (count : ℕ) → Lent branch_slots graph → count ≤ 8 → branch_count (with_branch_count graph edge count) edge ≡ count
+  pub branch-count-stored : (count : ℕ) → Lent branch_slots graph → count ≤ 8
+      → branch_count (with_branch_count graph edge count) edge ≡ count
   unfolding branch_count with_branch_count
   branch-count-stored count lent few =
       let less : count < 9 = omega arith in
@@ -111,7 +112,8 @@ module _ (graph : List ℕ) (edge : ℕ) where
       (λ e. away e (cases (edge % most_edges) (other % most_edges))))
     where
       away : 9 * (other % most_edges) ≡ 9 * (edge % most_edges) + 1 + branch % most_branches
-          → (edge % most_edges < other % most_edges) ⊎ ((edge % most_edges ≡ other % most_edges) ⊎ (other % most_edges < edge % most_edges)) → ⊥
+          → (edge % most_edges < other % most_edges) ⊎ ((edge % most_edges ≡ other % most_edges) ⊎ (other % most_edges < edge % most_edges))
+          → ⊥
       away e (inl h) = omega (arith, e, h, mod-lt branch {m = 8} (omega arith))
       away e (inr (inl h)) = omega (arith, e, h)
       away e (inr (inr h)) = omega (arith, e, h)
@@ -195,4 +197,5 @@ module _ (edges : List ℕ) (edge : ℕ) (lent : 2304 ≤ length edges) where
         ap (λ (k : ℕ). k % 1073741824)
         (get_or-set_other (set edges (edge_place edge + (2 + 2 * (branch % most_branches))) (low % 4294967296))
         (edge_place edge + (3 + 2 * (branch % most_branches))) (edge_place edge + 1) (high % 4294967296) 0 (omega arith)
-        ∙ get_or-set_other edges (edge_place edge + (2 + 2 * (branch % most_branches))) (edge_place edge + 1) (low % 4294967296) 0 (omega arith))
+        ∙ get_or-set_other edges (edge_place edge + (2 + 2 * (branch % most_branches))) (edge_place edge + 1) (low % 4294967296) 0
+        (omega arith))

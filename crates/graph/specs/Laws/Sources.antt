@@ -212,7 +212,8 @@ module _ {graph : List ℕ} {number target : ℕ → ℕ} {n : ℕ} (back : Back
 
       links : (t : ℕ) → (t ≡ n) ⊎ (t < n) → load source_links two (number t) ≡ number_at number (latest (leads_to target (target t)) t)
       links t (inl e) =
-          rw e (store_keeps source_heads one (after % most_regions) (reset_number class mask) source_links refl (region-below after) (number n)
+          rw e (store_keeps source_heads one (after % most_regions) (reset_number class mask) source_links refl (region-below after)
+              (number n)
           (subst (λ (k : ℕ). k < 61440) (sym is) (number-below class mask))
           ∙ ap (load source_links one) is
           ∙ load_stored source_links graph (reset_number class mask) head (number-below class mask) (omega (arith, back.lent)) head_small
@@ -232,6 +233,7 @@ module _ {graph : List ℕ} {number target : ℕ → ℕ} {n : ℕ} (back : Back
           (omega (arith, number-below class mask))
           ∙ sym is ∙ sym (number-some number n (omega (arith, room))) ∙ sym (ap (number_at number) (latest-here (leads_to target k) n e))
       heads k h (inr e) =
-          load-other source_heads one (after % most_regions) (reset_number class mask) k (λ same. eqb-false (target n) k e (goes ∙ sym same))
+          load-other source_heads one (after % most_regions) (reset_number class mask) k
+              (λ same. eqb-false (target n) k e (goes ∙ sym same))
           ∙ store_keeps source_links graph (reset_number class mask) head source_heads refl (number-below class mask) k h
           ∙ back.head-is k h ∙ sym (ap (number_at number) (latest-past (leads_to target k) n e))

@@ -128,7 +128,8 @@ module _ (graph : List ℕ) (region : ℕ) where
 module _ (graph : List ℕ) (class mask after : ℕ) where
   pub reset-known : (reset_class graph class mask ≡ nothing → ⊥) → with_reset graph class mask after ≡ graph
   unfolding with_reset
-  reset-known known = ap (λ (b : Bool). cond b (cond (eqb (mask % 16) 0) (store resets graph (16 * (class % most_regions) + mask % 16) after)
+  reset-known known = ap (λ (b : Bool). cond b
+      (cond (eqb (mask % 16) 0) (store resets graph (16 * (class % most_regions) + mask % 16) after)
       (with_source (store resets graph (16 * (class % most_regions) + mask % 16) after) class (mask % 16) after)) graph)
       (ne_eqb (reset_class graph class mask) nothing known)
 
@@ -140,7 +141,8 @@ module _ (graph : List ℕ) (class mask after : ℕ) where
       (with_source (store resets graph (16 * (class % most_regions) + mask % 16) after) class (mask % 16) after)) graph)
       (eq-eqb (reset_class graph class mask) nothing fresh)
       ∙ ap (λ (b : Bool). cond b (store resets graph (16 * (class % most_regions) + mask % 16) after)
-      (with_source (store resets graph (16 * (class % most_regions) + mask % 16) after) class (mask % 16) after)) (eq-eqb (mask % 16) 0 none)
+      (with_source (store resets graph (16 * (class % most_regions) + mask % 16) after) class (mask % 16) after))
+      (eq-eqb (mask % 16) 0 none)
 
   pub reset-both : reset_class graph class mask ≡ nothing → (mask % 16 ≡ 0 → ⊥)
       → with_reset graph class mask after
@@ -151,4 +153,5 @@ module _ (graph : List ℕ) (class mask after : ℕ) where
       (with_source (store resets graph (16 * (class % most_regions) + mask % 16) after) class (mask % 16) after)) graph)
       (eq-eqb (reset_class graph class mask) nothing fresh)
       ∙ ap (λ (b : Bool). cond b (store resets graph (16 * (class % most_regions) + mask % 16) after)
-      (with_source (store resets graph (16 * (class % most_regions) + mask % 16) after) class (mask % 16) after)) (ne_eqb (mask % 16) 0 some)
+      (with_source (store resets graph (16 * (class % most_regions) + mask % 16) after) class (mask % 16) after))
+      (ne_eqb (mask % 16) 0 some)

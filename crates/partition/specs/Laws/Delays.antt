@@ -23,10 +23,12 @@ use Rattle.partition.specs.Instances.{region_of, delays_from, graph}
 module _ {A B : Type 0} (f : A → B) where
   -- What a map gives comes from an item, and each item gives its own.
   pub from-map : {y : B} (l : List A) → Memᴰ y (map f l) → (x : A) × Memᴰ x l × (y ≡ f x)
+  from-map [] m = elim m [ ]
   from-map (x ∷ l) (Memᴰ.head e) = (x, Memᴰ.head refl, e)
   from-map (x ∷ l) (Memᴰ.tail n) = let (z, k, e) = from-map l n in (z, Memᴰ.tail k, e)
 
   pub to_map : {x : A} (l : List A) → Memᴰ x l → Memᴰ (f x) (map f l)
+  to_map [] m = elim m [ ]
   to_map (y ∷ l) (Memᴰ.head e) = Memᴰ.head (ap f e)
   to_map (y ∷ l) (Memᴰ.tail n) = Memᴰ.tail (to_map l n)
 
@@ -75,6 +77,7 @@ module _ (m : Model) where
       → (k : List Region) × Route r q k × Different k
   route-from {r} {q} {l} ends u (Memᴰ.head e) = (l, subst (λ x. Route x q l) (sym e) ends, u)
   route-from {r} {q} {l} (passes d t) u (Memᴰ.head e) = (l, subst (λ x. Route x q l) (sym e) (passes d t), u)
+  route-from ends u (Memᴰ.tail n) = elim n [ ]
   route-from (passes {r = x} {l = k} d t) u (Memᴰ.tail n) = route-from t (different-rest x k u) n
 
   -- Every delay has a route that passes no region twice.

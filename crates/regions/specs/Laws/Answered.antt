@@ -1,6 +1,8 @@
 -- Laws for the code of the graph call: entries that were listed are the bytes of their regions, and how its steps are put together.
-use Rattle.std.specs.Prelude.{ℕ, zero, suc, ◌+◌, ◌*◌, ◌/◌, ◌≤◌, min, ◌≡◌, refl, true, false, cond, List, [], ◌∷◌, ◌++◌, length, get_or, take, drop}
-use Rattle.std.proofs.Common.{arith, sym, ◌∙◌, ap, ap₂, append_assoc, append-nil, take-append-drop, length-drop, take-add, get_or-drop, ext_get_or}
+use Rattle.std.specs.Prelude.{ℕ, zero, suc, ◌+◌, ◌*◌, ◌/◌, ◌≤◌, min, ◌≡◌, refl, true, false, cond}
+use Rattle.std.specs.Prelude.{List, [], ◌∷◌, ◌++◌, length, get_or, take, drop}
+use Rattle.std.proofs.Common.{arith, sym, ◌∙◌, ap, ap₂, append_assoc, append-nil, take-append-drop}
+use Rattle.std.proofs.Common.{length-drop, take-add, get_or-drop, ext_get_or}
 use Rattle.table.specs.Model.{Model}
 use Rattle.table.specs.Reading.{Answer, refusal, accepted, read_table}
 use Rattle.regions.specs.Entries.{entry_bytes, max_entries, bytes_of, region_at}
@@ -15,7 +17,8 @@ use Rattle.regions.specs.Call.{from_found, refused, from_answer, graph_of, flat,
 -- ---- Entries that were listed are the bytes of their regions
 
 nine : (l : List ℕ) → 9 ≤ length l → take 9 l
-    ≡ get_or l 0 0 ∷ get_or l 1 0 ∷ get_or l 2 0 ∷ get_or l 3 0 ∷ get_or l 4 0 ∷ get_or l 5 0 ∷ get_or l 6 0 ∷ get_or l 7 0 ∷ get_or l 8 0 ∷ []
+    ≡ get_or l 0 0 ∷ get_or l 1 0 ∷ get_or l 2 0 ∷ get_or l 3 0 ∷ get_or l 4 0 ∷
+    get_or l 5 0 ∷ get_or l 6 0 ∷ get_or l 7 0 ∷ get_or l 8 0 ∷ []
 nine [] h = absurd (omega arith)
 nine (a ∷ []) h = absurd (omega arith)
 nine (a ∷ b ∷ []) h = absurd (omega arith)

@@ -23,6 +23,7 @@ use Rattle.clocks.specs.declared.region.Verdict.TheVariants.{Holds, Fails, Unkno
 
 -- What all items of a list are, each item of it is.
 pub all-at : {A : Type 0} {P : A → Type 0} {x : A} (l : List A) → All P l → Memᴰ x l → P x
+all-at [] _ n = elim n [ ]
 all-at {P} (y ∷ l) (also h t) (Memᴰ.head e) = subst P (sym e) h
 all-at (y ∷ l) (also h t) (Memᴰ.tail n) = all-at l t n
 
@@ -39,6 +40,7 @@ larger-is a b = go (dec_le a b)
 module _ {A : Type 0} (f : A → ℕ) where
   -- The largest is at least each of the numbers.
   largest-above : (x : A) (l : List A) → Memᴰ x l → f x ≤ largest_of f l
+  largest-above x [] n = elim n [ ]
   largest-above x (y ∷ l) (Memᴰ.head e) = let s : f x ≡ f y = ap f e in omega arith
   largest-above x (y ∷ l) (Memᴰ.tail n) = let s : f x ≤ largest_of f l = largest-above x l n in omega arith
 

@@ -35,6 +35,7 @@ module _ {A : Type 0} (g : A → List Region) (q : Region) where
       ]
 
   pub gathers : (x : A) (l : List A) → Memᴰ x l → Memᴰ q (g x) → Memᴰ q (gather g l)
+  gathers x [] n h = elim n [ ]
   gathers x (y ∷ l) (Memᴰ.head p) h = Memᴰ.append_left (gather g l) (subst (λ z. Memᴰ q (g z)) p h)
   gathers x (y ∷ l) (Memᴰ.tail n) h = Memᴰ.append_right (g y) (gathers x l n h)
 
@@ -70,6 +71,7 @@ module _ (m : Model) where
   kept false l q n = absurd (Memᴰ.not-nil n)
 
   of-every : {A : Type 0} (p : A → Bool) (x : A) (l : List A) → Memᴰ x l → every p l ≡ true → p x ≡ true
+  of-every p x [] n h = elim n [ ]
   of-every p x (y ∷ l) (Memᴰ.head e) h = ap p e ∙ (both_true (p y) (every p l) h).0
   of-every p x (y ∷ l) (Memᴰ.tail n) h = of-every p x l n (both_true (p y) (every p l) h).1
 
@@ -226,7 +228,8 @@ module _ (table : List ℕ) (cap : ℕ) (found : List Region) where
 -- A refusal below 15 is that of reading the table, or 14, where region 0 breaks its invariant.
 pub refused-graph : (table : List ℕ) (cap number place : ℕ) → outcome_of table cap ≡ refused number place
     → (read_table table ≡ refusal number place)
-    ⊎ ((m : Model) × (read_table table ≡ accepted m) × (meets (bounds_of m) m.invariants (first m) ≡ false) × (number ≡ 14) × (place ≡ 0))
+    ⊎ ((m : Model) × (read_table table ≡ accepted m) × (meets (bounds_of m) m.invariants (first m) ≡ false)
+    × (number ≡ 14) × (place ≡ 0))
 unfolding outcome_of
 refused-graph table cap number place e = by_answer (read_table table) refl e
   where
@@ -241,14 +244,16 @@ refused-graph table cap number place e = by_answer (read_table table) refl e
 
     by_answer : (a : Answer) → read_table table ≡ a → from_answer cap a ≡ refused number place
         → (read_table table ≡ refusal number place)
-        ⊎ ((m : Model) × (read_table table ≡ accepted m) × (meets (bounds_of m) m.invariants (first m) ≡ false) × (number ≡ 14) × (place ≡ 0))
+        ⊎ ((m : Model) × (read_table table ≡ accepted m) × (meets (bounds_of m) m.invariants (first m) ≡ false)
+        × (number ≡ 14) × (place ≡ 0))
     by_answer (refusal n p) t g = inl (t ∙ ap (λ (x : ℕ × ℕ). refusal x.0 x.1) (ap numbers g))
     by_answer (accepted m) t g = go (meets (bounds_of m) m.invariants (first m)) refl g
       where
         go : (b : Bool) → meets (bounds_of m) m.invariants (first m) ≡ b
             → cond b (from_found (explore same_region (next_of m) cap (first m))) (refused 14 0) ≡ refused number place
             → (read_table table ≡ refusal number place)
-            ⊎ ((m : Model) × (read_table table ≡ accepted m) × (meets (bounds_of m) m.invariants (first m) ≡ false) × (number ≡ 14) × (place ≡ 0))
+            ⊎ ((m : Model) × (read_table table ≡ accepted m) × (meets (bounds_of m) m.invariants (first m) ≡ false)
+            × (number ≡ 14) × (place ≡ 0))
         go true h k = absurd (no_found (explore same_region (next_of m) cap (first m)) k)
         go false h k = inr (m, t, h, sym (ap (λ (x : ℕ × ℕ). x.0) (ap numbers k)), sym (ap (λ (x : ℕ × ℕ). x.1) (ap numbers k)))
 

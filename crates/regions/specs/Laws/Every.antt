@@ -21,7 +21,8 @@ module _ {A : Type 0} (p : A → Bool) (l : List A) (i : ℕ) (d : A) where
 
 -- The largest so far and the largest of what is left come to the largest of all.
 module _ {A : Type 0} (f : A → ℕ) (l : List A) (i best : ℕ) (d : A) (all : max best (largest_of f (drop i l)) ≡ largest_of f l) where
-  pub largest-on : i < length l → (next : ℕ) → next ≡ max best (f (get_or l i d)) → max next (largest_of f (drop (i + 1) l)) ≡ largest_of f l
+  pub largest-on : i < length l → (next : ℕ) → next ≡ max best (f (get_or l i d))
+      → max next (largest_of f (drop (i + 1) l)) ≡ largest_of f l
   largest-on h next e =
       let step : largest_of f (drop i l) ≡ max (f (get_or l i d)) (largest_of f (drop (i + 1) l)) = ap (largest_of f) (split l i d h) in
       omega arith

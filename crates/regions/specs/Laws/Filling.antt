@@ -1,9 +1,11 @@
 -- Laws for the loops that fill the slices of the graph: one more number or block is stored, one more set of clocks is taken in.
 use Rattle.std.specs.Prelude.{ℕ, suc, ◌+◌, ◌*◌, ◌%◌, ◌≤◌, ◌<◌, ◌≡◌, refl, Bool, true, false, eqb, ltb, length, get_or, set}
-use Rattle.std.proofs.Common.{arith, mul-le-mul_left, mul-suc, ◌∙◌, ap₂, subst, length-set, get_or-set_same, get_or-set_other, eqb-true, ltb-true, ltb-false, lt-ltb, le-ltb}
+use Rattle.std.proofs.Common.{arith, mul-le-mul_left, mul-suc, ◌∙◌, ap₂, subst, length-set, get_or-set_same}
+use Rattle.std.proofs.Common.{get_or-set_other, eqb-true, ltb-true, ltb-false, lt-ltb, le-ltb}
 use Rattle.std.proofs.Math.Numerals.{add-one}
 use Rattle.std.proofs.Math.Path.{sym, ap}
 use Rattle.std.proofs.Math.Bool.{cond}
+use mathlib.Core.List.Memᴰ
 use mathlib.Core.List.{List, [], ◌∷◌, map, Memᴰ}
 use Rattle.std.proofs.Math.Seq.{set_out}
 use Rattle.std.proofs.lemmas.Bool.{eqb-false}
@@ -108,7 +110,7 @@ module _ (m : Model) (es : List ℕ) (n : ℕ) (r : Region) where
         let found = listed es n in
         let here : Memᴰ r found =
         subst (λ k. Memᴰ k found) (listed_at es n x r h ∙ sym is) (member r found x (rw listed-length h)) in
-        let k = delay-number m found all r q here (subst (Memᴰ q) (sym e) (mathlib.Core.List.Memᴰ.head refl)) in
+        let k = delay-number m found all r q here (subst (Memᴰ q) (sym e) (Memᴰ.head refl)) in
         let inside : number_in found q < n = omega (arith, k.inside, listed-length es n) in
         absent (number_in found q) inside (sym (listed_at es n (number_in found q) q inside) ∙ k.is q)
 

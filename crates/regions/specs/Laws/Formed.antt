@@ -180,7 +180,8 @@ module _ (bounds : Bounds) where
   -- A region whose bytes of clock i are those of a cell that fits: the cell that is read there.
   module _ (small : Small bounds) (r : Region) (i : ℕ) (c : Cell)
       (whole_is : get_or r.whole i 0 ≡ byte_at bounds.count i (clock_of c).whole)
-      (rank_is : get_or r.rank i 0 ≡ byte_at bounds.count i (clock_of c).rank) (fit : Fit i c) (p : Proper c) (few : fraction_of c ≤ 4) where
+      (rank_is : get_or r.rank i 0 ≡ byte_at bounds.count i (clock_of c).rank)
+      (fit : Fit i c) (p : Proper c) (few : fraction_of c ≤ 4) where
     low-bound : i < bounds.count → bound_of c ≤ 15
     low-bound h = omega (arith, fit.0 h, small.low i)
 
@@ -332,7 +333,8 @@ module _ (bounds : Bounds) (r : Region) (small : Small bounds) (formed : Formed 
       by : (g : Cell → Cell) → ((c : Cell) → bound_of (g c) ≡ bound_of c) → fraction_of (g (over 0)) ≡ 0
           → delay (unpack bounds r) ≡ cells (map g (unpack bounds r)) → Formed bounds (pack bounds r.location (map g (unpack bounds r)))
       by g same none d =
-          let fit : (i : ℕ) → Fit bounds i (g (cell_of (clock_at bounds r i))) = λ i. read-fit bounds g same none i _ (is_read bounds r i) in
+          let fit : (i : ℕ) → Fit bounds i (g (cell_of (clock_at bounds r i))) =
+          λ i. read-fit bounds g same none i _ (is_read bounds r i) in
           written-formed bounds small r.location _ _ _ _ (fit 0) (fit 1) (fit 2) (fit 3)
           (delay-proper (unpack bounds r) _ formed.proper d) (delay-no-gap (unpack bounds r) _ formed.no_gap d)
 
@@ -353,7 +355,8 @@ module _ (bounds : Bounds) (r : Region) (small : Small bounds) (formed : Formed 
       fs : List ℕ
       fs = map fraction_of (restarted mask 0 (unpack bounds r))
 
-      fit : (i : ℕ) → Fit bounds i (closed fs (cond (reset_in mask i) (restart (cell_of (clock_at bounds r i))) (cell_of (clock_at bounds r i))))
+      fit : (i : ℕ)
+          → Fit bounds i (closed fs (cond (reset_in mask i) (restart (cell_of (clock_at bounds r i))) (cell_of (clock_at bounds r i))))
       fit i =
           read-fit bounds (λ c. closed fs (cond (reset_in mask i) (restart c) c)) (closed-bound bounds fs (reset_in mask i))
           (closed_none bounds fs (reset_in mask i)) i _ (is_read bounds r i)
@@ -473,7 +476,8 @@ module _ (bounds : Bounds) (r : Region) (small : Small bounds) (formed : Formed 
       ∙ cell_at (record { bound = get_or bounds.bound i 0; whole = get_or r.whole i 0; rank = get_or r.rank i 0 }) e
 
   -- One that is over.
-  pub cell-is-over : (i : ℕ) → i < bounds.count → get_or r.whole i 0 ≡ over_part → cell_of (clock_at bounds r i) ≡ over (get_or bounds.bound i 0)
+  pub cell-is-over : (i : ℕ) → i < bounds.count → get_or r.whole i 0 ≡ over_part
+      → cell_of (clock_at bounds r i) ≡ over (get_or bounds.bound i 0)
   cell-is-over i h e =
       ap cell_of (sym (clock-within bounds r i _ _ _ h refl refl refl))
       ∙ cell-over (record { bound = get_or bounds.bound i 0; whole = get_or r.whole i 0; rank = get_or r.rank i 0 }) e

@@ -172,7 +172,8 @@ module _ (table es es' : List ℕ) (m : Model) (cap : ℕ) (read : read_table ta
 
     pub bytes-found : entry_bytes * cap ≤ length es → entry_bytes * n ≤ length es'
     bytes-found room =
-        let long : length es' ≡ length es = ap length (left ∙ ap (entries_after es) (sym outcome-read)) ∙ entries-length table es cap room in
+        let long : length es' ≡ length es =
+        ap length (left ∙ ap (entries_after es) (sym outcome-read)) ∙ entries-length table es cap room in
         omega (arith, long, few-cap)
 
 -- A model that was read has at most 128 edges.

@@ -1,7 +1,9 @@
 -- Laws for the code that says what is known of one region: the labels of locations, whether the region is seen, the rows of its edges,
 -- and their branches.
-use Rattle.std.specs.Prelude.{ℕ, zero, suc, ◌+◌, ◌*◌, ◌%◌, ◌≤◌, ◌<◌, ◌≡◌, refl, Bool, true, false, cond, ◌&&◌, List, [], ◌∷◌, ◌++◌, map, leb, ltb, eqb, length, get_or, take, set, drop}
-use Rattle.std.proofs.Common.{arith, add-one, sym, ◌∙◌, ap, ap₂, subst, length-set, length-append, take_all, take-suc-set, get_or-set_same, get_or-set_other, eqb-true, ltb-true, ltb-false, leb-true, lt-ltb, le-ltb, le-leb}
+use Rattle.std.specs.Prelude.{ℕ, zero, suc, ◌+◌, ◌*◌, ◌%◌, ◌≤◌, ◌<◌, ◌≡◌, refl, Bool, true, false, cond, ◌&&◌, List}
+use Rattle.std.specs.Prelude.{[], ◌∷◌, ◌++◌, map, leb, ltb, eqb, length, get_or, take, set, drop}
+use Rattle.std.proofs.Common.{arith, add-one, sym, ◌∙◌, ap, ap₂, subst, length-set, length-append, take_all, take-suc-set}
+use Rattle.std.proofs.Common.{get_or-set_same, get_or-set_other, eqb-true, ltb-true, ltb-false, leb-true, lt-ltb, le-ltb, le-leb}
 use Rattle.std.proofs.lemmas.Bool.{false≢true, eqb-false, lt-leb}
 use Rattle.std.proofs.lemmas.List.{length-map, get_or_at}
 use Rattle.std.proofs.Math.ListN.{get_or-append}
@@ -35,7 +37,8 @@ labels-on m l i v h is before =
     ∙ ap₂ (λ (k : List ℕ) (y : ℕ). k ++ (y ∷ [])) before is
     ∙ ap (location_labels m) (sym (add-one i))
 
-pub labels-all : (m : Model) (l : List ℕ) (i n : ℕ) → length l ≡ n → n ≤ i → i ≤ n → take i l ≡ location_labels m i → l ≡ location_labels m n
+pub labels-all : (m : Model) (l : List ℕ) (i n : ℕ) → length l ≡ n → n ≤ i → i ≤ n → take i l ≡ location_labels m i
+    → l ≡ location_labels m n
 labels-all m l i n long past within is =
     let all : i ≡ n = omega (arith, past, within) in
     sym (take_all i l (omega (arith, long, past))) ∙ is ∙ ap (location_labels m) all

@@ -5,9 +5,11 @@
 -- taking the items in number order (`Taken`), and one list has them (`taken-all-one`, `complete-taken`, `full-taken`). The
 -- proofs go over how exploring went (`Met`, `Explored`), where the tests and the fuel are gone.
 use Prim.Native.Nat.{ℕ, zero, suc, ◌+◌, ◌-◌, ◌≤◌, ◌<◌}
-use Rattle.std.proofs.Common.{arith, not-suc-le-zero, le_of_suc-le-suc, inl, inr, ⊎_elim, sym, ap, subst, ◌∙◌, length-append, get_or-append-add, ltb-true, ltb-false, lt-ltb, le-ltb}
+use Rattle.std.proofs.Common.{arith, not-suc-le-zero, le_of_suc-le-suc, inl, inr, ⊎_elim, sym, ap, subst, ◌∙◌}
+use Rattle.std.proofs.Common.{length-append, get_or-append-add, ltb-true, ltb-false, lt-ltb, le-ltb}
 use Rattle.std.specs.Prelude.{◌⊎◌, ◌↔◌, ◌≡◌, Bool, true, false, cond, ◌||◌, ltb, length, get_or}
 use Rattle.std.proofs.Math.Path.{refl}
+use mathlib.Core.List.Memᴰ
 use mathlib.Core.List.{List, [], ◌∷◌, ◌++◌, append_assoc, append-nil, Memᴰ}
 use Rattle.std.proofs.Math.ListN.{get_or-append}
 use Rattle.std.proofs.lemmas.List.{get_or_at}
@@ -47,14 +49,14 @@ items_of (full found) = found
 module _ {X : Type 0} where
   -- An item of a list has a number.
   pub place : (d : X) {x : X} {l : List X} → Memᴰ x l → (j : ℕ) × (j < length l) × (get_or l j d ≡ x)
-  place d (mathlib.Core.List.Memᴰ.head e) = (0, omega arith, sym e)
-  place d (mathlib.Core.List.Memᴰ.tail m) = let (j, h, e) = place d m in (suc j, omega arith, e)
+  place d (Memᴰ.head e) = (0, omega arith, sym e)
+  place d (Memᴰ.tail m) = let (j, h, e) = place d m in (suc j, omega arith, e)
 
   -- What has a number is an item of the list.
   pub member : (d : X) (l : List X) (j : ℕ) → j < length l → Memᴰ (get_or l j d) l
   member d [] j h = absurd (not-suc-le-zero h)
-  member d (x ∷ l) zero h = mathlib.Core.List.Memᴰ.head refl
-  member d (x ∷ l) (suc j) h = mathlib.Core.List.Memᴰ.tail (member d l j (le_of_suc-le-suc h))
+  member d (x ∷ l) zero h = Memᴰ.head refl
+  member d (x ∷ l) (suc j) h = Memᴰ.tail (member d l j (le_of_suc-le-suc h))
 
   -- The first number that an item has.
   pub record Numbered (x : X) (l : List X) (d : X) : Type 0 where
@@ -77,7 +79,7 @@ module _ {X : Type 0} where
   longer {a} p = omega (arith, simp length-append at (ap length p.split))
 
   kept : {x : X} {a b : List X} → Begins a b → Memᴰ x a → Memᴰ x b
-  kept {x} p m = subst (Memᴰ x) (sym p.split) (mathlib.Core.List.Memᴰ.append_left p.rest m)
+  kept {x} p m = subst (Memᴰ x) (sym p.split) (Memᴰ.append_left p.rest m)
 
   -- What begins a list keeps its numbers in it.
   pub unmoved : (d : X) {a b : List X} → Begins a b → (j : ℕ) → j < length a → get_or b j d ≡ get_or a j d
@@ -103,29 +105,29 @@ module _ {X : Type 0} where
       last k h g = get_or_at l x [] d k (omega (arith, length-append l (x ∷ [])))
 
       other : (k : ℕ) → k < length l → get_or l k d ≡ x → ⊥
-      other k h p = new (mathlib.Core.List.Memᴰ.cast (sym p) (member d l k h))
+      other k h p = new (Memᴰ.cast (sym p) (member d l k h))
 
   -- A list without one of its items.
   abbrev without : {x : X} {l : List X} → Memᴰ x l → List X
-  without (mathlib.Core.List.Memᴰ.head {xs} e) = xs
-  without (mathlib.Core.List.Memᴰ.tail {x = y} m) = y ∷ without m
+  without (Memᴰ.head {xs} e) = xs
+  without (Memᴰ.tail {x = y} m) = y ∷ without m
 
   one_less : {x : X} {l : List X} (m : Memᴰ x l) → length l ≡ suc (length (without m))
-  one_less (mathlib.Core.List.Memᴰ.head e) = refl
-  one_less (mathlib.Core.List.Memᴰ.tail m) = ap suc (one_less m)
+  one_less (Memᴰ.head e) = refl
+  one_less (Memᴰ.tail m) = ap suc (one_less m)
 
   still : {x y : X} {l : List X} (m : Memᴰ x l) → Memᴰ y l → (y ≡ x → ⊥) → Memᴰ y (without m)
-  still (mathlib.Core.List.Memᴰ.head e) (mathlib.Core.List.Memᴰ.head p) ne = absurd (ne (p ∙ sym e))
-  still (mathlib.Core.List.Memᴰ.head e) (mathlib.Core.List.Memᴰ.tail n) ne = n
-  still (mathlib.Core.List.Memᴰ.tail m) (mathlib.Core.List.Memᴰ.head p) ne = mathlib.Core.List.Memᴰ.head p
-  still (mathlib.Core.List.Memᴰ.tail m) (mathlib.Core.List.Memᴰ.tail n) ne = mathlib.Core.List.Memᴰ.tail (still m n ne)
+  still (Memᴰ.head e) (Memᴰ.head p) ne = absurd (ne (p ∙ sym e))
+  still (Memᴰ.head e) (Memᴰ.tail n) ne = n
+  still (Memᴰ.tail m) (Memᴰ.head p) ne = Memᴰ.head p
+  still (Memᴰ.tail m) (Memᴰ.tail n) ne = Memᴰ.tail (still m n ne)
 
   -- Different items that a list holds are no more than its own.
   pub no_more : (a b : List X) → Different a → ((x : X) → Memᴰ x a → Memᴰ x b) → length a ≤ length b
   no_more [] b different holds = omega arith
   no_more (x ∷ a) b different holds =
-      let m = holds x (mathlib.Core.List.Memᴰ.head refl) in
-      let fewer = no_more a (without m) tail-different (λ y n. still m (holds y (mathlib.Core.List.Memᴰ.tail n)) (not-head y n)) in
+      let m = holds x (Memᴰ.head refl) in
+      let fewer = no_more a (without m) tail-different (λ y n. still m (holds y (Memᴰ.tail n)) (not-head y n)) in
       omega (arith, one_less m)
     where
       tail-different : Different a
@@ -399,14 +401,14 @@ module _ {X : Type 0} (same : X → X → Bool) (next : X → List X) where
   new-listed found [] y n = n
   new-listed found (x ∷ l) y n =
       elim (both (known same x found)) [
-        | inl e ↦ mathlib.Core.List.Memᴰ.tail (new-listed found l y (rw e at n))
+        | inl e ↦ Memᴰ.tail (new-listed found l y (rw e at n))
         | inr e ↦ go (rw e at n) (new-listed (found ++ (x ∷ [])) l y)
       ]
     where
       go : Memᴰ y (x ∷ new_ones same (found ++ (x ∷ [])) l) → (Memᴰ y (new_ones same (found ++ (x ∷ [])) l) → Memᴰ y l)
           → Memᴰ y (x ∷ l)
-      go (mathlib.Core.List.Memᴰ.head p) later = mathlib.Core.List.Memᴰ.head p
-      go (mathlib.Core.List.Memᴰ.tail k) later = mathlib.Core.List.Memᴰ.tail (later k)
+      go (Memᴰ.head p) later = Memᴰ.head p
+      go (Memᴰ.tail k) later = Memᴰ.tail (later k)
 
   -- Each item but the start is led to by one of smaller number.
   pub taken-from : {start : X} {i : ℕ} {l : List X} → Taken same next start i l → (j : ℕ) → 0 < j → j < length l
@@ -539,7 +541,7 @@ module _ {X : Type 0} (same : X → X → Bool) (next : X → List X) where
         fits = simp length-append (omega arith);
         different = different-grown found x new s.different;
         reached = λ y m. ⊎_elim (s.reached y)
-            (λ n. subst (Reach next start) (sym (mathlib.Core.List.Memᴰ.eq_of_singleton n)) r) (mathlib.Core.List.Memᴰ.append_cases found m);
+            (λ n. subst (Reach next start) (sym (Memᴰ.eq_of_singleton n)) r) (Memᴰ.append_cases found m);
       }
 
   -- With that other one, more different items are reached than there is room for.
@@ -554,7 +556,7 @@ module _ {X : Type 0} (same : X → X → Bool) (next : X → List X) where
       record {
         fits = h;
         different = λ d i j p q e. omega arith;
-        reached = λ x m. subst (Reach next start) (sym (mathlib.Core.List.Memᴰ.eq_of_singleton m)) here;
+        reached = λ x m. subst (Reach next start) (sym (Memᴰ.eq_of_singleton m)) here;
       }
 
   nothing-found : (start : X) → RoomFull 0 start []
@@ -564,11 +566,11 @@ module _ {X : Type 0} (same : X → X → Bool) (next : X → List X) where
         sound = record {
           fits = omega arith;
           different = λ d i j p. absurd (not-suc-le-zero p);
-          reached = λ x m. absurd (mathlib.Core.List.Memᴰ.not-nil m);
+          reached = λ x m. absurd (Memᴰ.not-nil m);
         };
         another = start;
         another-reached = here;
-        another-new = mathlib.Core.List.Memᴰ.not-nil;
+        another-new = Memᴰ.not-nil;
       }
 
   -- The test of sameness tells which items are equal.
@@ -620,7 +622,7 @@ module _ {X : Type 0} (same : X → X → Bool) (next : X → List X) where
         ]
 
     known_member : (x : X) (found : List X) → known same x found ≡ true → Memᴰ x found
-    known_member x found e = let n = known-true x found x e in mathlib.Core.List.Memᴰ.cast (sym n.is) (member x found n.number n.inside)
+    known_member x found e = let n = known-true x found x e in Memᴰ.cast (sym n.is) (member x found n.number n.inside)
 
     not-member : (x : X) (found : List X) → known same x found ≡ false → Memᴰ x found → ⊥
     not-member x found e m = let (j, h, p) = place x m in known-false x found x e j h p
@@ -633,15 +635,15 @@ module _ {X : Type 0} (same : X → X → Bool) (next : X → List X) where
     met_holds : {cap : ℕ} {start : X} {found l : List X} {r : Found X} → Met cap found l r → Sound cap start found
         → Reached start l → Holds cap start r
     met_holds met-none s q = s
-    met_holds (met-known e m) s q = met_holds m s (λ y n. q y (mathlib.Core.List.Memᴰ.tail n))
+    met_holds (met-known e m) s q = met_holds m s (λ y n. q y (Memᴰ.tail n))
     met_holds (met-new {found} {x} e h m) s q =
-        met_holds m (grown s (not-member x found e) h (q x (mathlib.Core.List.Memᴰ.head refl))) (λ y n. q y (mathlib.Core.List.Memᴰ.tail n))
+        met_holds m (grown s (not-member x found e) h (q x (Memᴰ.head refl))) (λ y n. q y (Memᴰ.tail n))
     met_holds (met-full {found} {x} e h) s q =
         record {
           fills = omega (arith, s.fits);
           sound = s;
           another = x;
-          another-reached = q x (mathlib.Core.List.Memᴰ.head refl);
+          another-reached = q x (Memᴰ.head refl);
           another-new = not-member x found e;
         }
 
@@ -654,11 +656,11 @@ module _ {X : Type 0} (same : X → X → Bool) (next : X → List X) where
 
     -- Where there is room, all that is met is found.
     met_all : {cap : ℕ} {found l more : List X} → Met cap found l (complete more) → (y : X) → Memᴰ y l → Memᴰ y more
-    met_all met-none y n = absurd (mathlib.Core.List.Memᴰ.not-nil n)
-    met_all {found} (met-known {x} e m) y (mathlib.Core.List.Memᴰ.head p) = kept (met-begins m) (mathlib.Core.List.Memᴰ.cast p (known_member x found e))
-    met_all (met-known e m) y (mathlib.Core.List.Memᴰ.tail n) = met_all m y n
-    met_all {found} (met-new e h m) y (mathlib.Core.List.Memᴰ.head p) = kept (met-begins m) (mathlib.Core.List.Memᴰ.append_right found (mathlib.Core.List.Memᴰ.head p))
-    met_all (met-new e h m) y (mathlib.Core.List.Memᴰ.tail n) = met_all m y n
+    met_all met-none y n = absurd (Memᴰ.not-nil n)
+    met_all {found} (met-known {x} e m) y (Memᴰ.head p) = kept (met-begins m) (Memᴰ.cast p (known_member x found e))
+    met_all (met-known e m) y (Memᴰ.tail n) = met_all m y n
+    met_all {found} (met-new e h m) y (Memᴰ.head p) = kept (met-begins m) (Memᴰ.append_right found (Memᴰ.head p))
+    met_all (met-new e h m) y (Memᴰ.tail n) = met_all m y n
 
     -- What the first i items lead to is in the list.
     abbrev Closed : X → ℕ → List X → Type 0
@@ -703,7 +705,7 @@ module _ {X : Type 0} (same : X → X → Bool) (next : X → List X) where
             explored-closed ran (λ j g. absurd (not-suc-le-zero g)) j h y (rw p n)
 
         all-reached : (x : X) → Reach next start x → Memᴰ x found
-        all-reached x here = kept begins (mathlib.Core.List.Memᴰ.head refl)
+        all-reached x here = kept begins (Memᴰ.head refl)
         all-reached x (on {x = w} r n) = closed w x (all-reached w r) n
 
     -- Full: the room is used up, and another item is reached.

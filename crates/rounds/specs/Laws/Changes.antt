@@ -24,6 +24,7 @@ use Rattle.comparison.specs.Laws.Steps.{below_one}
 -- A listed branch is one of the edge's.
 branch_one : (resets spots rows : List ℕ) (x e i left : ℕ) (b : Branch ℕ) → Memᴰ b (branches_from resets spots rows x e i left)
     → (j : ℕ) × (j < i + left) × (b.target ≡ target_at resets spots rows x e j)
+branch_one resets spots rows x e i zero b m = elim m [ ]
 branch_one resets spots rows x e i (suc left) b (Memᴰ.head same) = (i, omega arith, ap (λ (b : Branch ℕ). b.target) same)
 branch_one resets spots rows x e i (suc left) b (Memᴰ.tail m) =
     let (j, h, t) = branch_one resets spots rows x e (suc i) left b m in
@@ -109,6 +110,7 @@ still-calm n changed nexts still rests x h s u m = go n x h s m
   where
     go : (more x : ℕ) → x < n → get_or still x 0 ≡ 1 → Memᴰ u (chain n nexts more x) → get_or changed u 0 ≡ 0
     go zero x h s (Memᴰ.head same) = ap (λ (z : ℕ). get_or changed z 0) same ∙ (rests x h s).0
+    go zero x h s (Memᴰ.tail m) = elim m [ ]
     go (suc more) x h s (Memᴰ.head same) = ap (λ (z : ℕ). get_or changed z 0) same ∙ (rests x h s).0
     go (suc more) x h s (Memᴰ.tail m) = on (both (ltb (get_or nexts x 0) n)) (go more (get_or nexts x 0)) m
       where

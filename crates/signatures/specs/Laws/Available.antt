@@ -52,7 +52,8 @@ module _ (F : Finite) (names : List ℕ) (x : ℕ) where
 -- ---- Of the slices
 
 module _ (n : ℕ) (graph edges names : List ℕ) (x : ℕ) where
-  pub available-is : (j : ℕ) → j < edge_count graph (location_of graph x) → (structure_of n graph edges).available x j ≡ is_available graph x j
+  pub available-is : (j : ℕ) → j < edge_count graph (location_of graph x)
+      → (structure_of n graph edges).available x j ≡ is_available graph x j
   unfolding structure_of
   available-is j h = ap (λ (b : Bool). b && is_available graph x j) (lt-ltb j (edge_count graph (location_of graph x)) h)
 

@@ -1,7 +1,8 @@
 -- Laws of the dictionary in two slices: searching, one list more, and an empty one.
 use Prim.Native.Nat.{ℕ, zero, suc, ◌+◌, ◌-◌, ◌≤◌, ◌<◌}
 use native.Mathlib.Omega.{arith}
-use Rattle.std.proofs.Common.{eq-or-lt_of_le, add-zero, add-suc, ◌∙◌, subst, inl, inr, ⊎_elim, length-append, length-set, get_or-set_same, get_or-set_other, length-take-le, take-take, drop_at, take-add, ext_get_or}
+use Rattle.std.proofs.Common.{eq-or-lt_of_le, add-zero, add-suc, ◌∙◌, subst, inl, inr, ⊎_elim, length-append, length-set, get_or-set_same}
+use Rattle.std.proofs.Common.{get_or-set_other, length-take-le, take-take, drop_at, take-add, ext_get_or}
 use Rattle.std.proofs.Math.Numerals.{add-one}
 use Rattle.std.specs.Prelude.{◌≡◌, refl, Bool, true, false, ◌⊎◌, length, get_or, set, take, drop}
 use Rattle.std.proofs.Math.Path.{sym, ap, ap₂}
@@ -229,7 +230,8 @@ module _ (index numbers list : List ℕ) (d : Dictionary index numbers) (absent 
   below : hash_of list < buckets
   below = hash-below list
 
-  other : (k : ℕ) → (k ≡ 0 → ⊥) → (k ≡ 1 + hash_of list → ⊥) → (k ≡ 16386 + n → ⊥) → (k ≡ 8194 + n → ⊥) → get_or index' k 0 ≡ get_or index k 0
+  other : (k : ℕ) → (k ≡ 0 → ⊥) → (k ≡ 1 + hash_of list → ⊥) → (k ≡ 16386 + n → ⊥) → (k ≡ 8194 + n → ⊥)
+      → get_or index' k 0 ≡ get_or index k 0
   other = entered-other index n (start + length list) (hash_of list) d.indexed small below
 
   count' : count_of index' ≡ n + 1

@@ -1,12 +1,14 @@
 -- A number put into a rising list that stands in the first numbers of a slice.
 use Prim.Native.Nat.{ℕ, zero, suc, ◌+◌, ◌-◌, ◌≤◌, ◌<◌}
 use native.Mathlib.Omega.{arith}
-use Rattle.std.proofs.Common.{add-one, eq-or-lt_of_le, ◌∙◌, ap₂, subst, inl, inr, ⊎_elim, length-append, take-append-drop, take-take, lt-ltb, le-ltb, eq-eqb, ne_eqb}
+use Rattle.std.proofs.Common.{add-one, eq-or-lt_of_le, ◌∙◌, ap₂, subst, inl, inr, ⊎_elim, length-append, take-append-drop, take-take}
+use Rattle.std.proofs.Common.{lt-ltb, le-ltb, eq-eqb, ne_eqb}
 use Rattle.std.specs.Prelude.{◌≡◌, refl, Bool, true, false, cond, ◌⊎◌, eqb, ltb, take, set}
 use Rattle.std.proofs.Math.Path.{sym, ap}
 use mathlib.Core.List.{List, [], ◌∷◌, ◌++◌, Memᴰ}
 use Rattle.std.proofs.Math.ListN.{length, get_or, drop, length-set, length-drop, get_or-append}
-use Rattle.std.proofs.Math.Seq.{get_or-set_same, get_or-set_other, get_or-take, get_or-drop, length-take-le, ext_get_or, get_or-append-add, get_or-append_seam}
+use Rattle.std.proofs.Math.Seq.{get_or-set_same, get_or-set_other, get_or-take, get_or-drop, length-take-le, ext_get_or, get_or-append-add}
+use Rattle.std.proofs.Math.Seq.{get_or-append_seam}
 use Rattle.signatures.specs.Laws.Order.{cases}
 use Rattle.signatures.specs.Sets.{put_in, Rising, Place, Shifted, Inserted}
 
@@ -18,6 +20,7 @@ at_mem (x ∷ l) zero h = Memᴰ.head refl
 at_mem (x ∷ l) (suc j) h = Memᴰ.tail (at_mem l j (omega arith))
 
 mem-at : (u : ℕ) (l : List ℕ) → Memᴰ u l → (j : ℕ) × (j < length l) × (get_or l j 0 ≡ u)
+mem-at u [] m = elim m [ ]
 mem-at u (x ∷ l) (Memᴰ.head e) = (0, omega arith, sym e)
 mem-at u (x ∷ l) (Memᴰ.tail m) = let k = mem-at u l m in (suc k.0, omega (arith, k.1), k.2)
 
@@ -41,6 +44,7 @@ put-middle v (x ∷ a) b lo hi =
     (ap (λ (l : List ℕ). x ∷ l) (put-middle v a b (λ u m. lo u (Memᴰ.tail m)) hi))
 
 put-again : (v : ℕ) (l : List ℕ) → Rising l → Memᴰ v l → put_in v l ≡ l
+put-again v [] r m = elim m [ ]
 put-again v (x ∷ l) r (Memᴰ.head e) = rw (le-ltb v x (omega arith), eq-eqb v x e)
 put-again v (x ∷ l) r (Memᴰ.tail m) =
     let less : x < v = r.0 v m in

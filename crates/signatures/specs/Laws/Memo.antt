@@ -2,7 +2,8 @@
 use Rattle.std.specs.Prelude.{ℕ, zero, suc, ◌+◌, ◌-◌, ◌*◌, ◌≤◌, ◌<◌, ◌≡◌, refl, Bool, ◌⊎◌, set, drop}
 use native.Mathlib.Omega.{arith}
 use Rattle.std.proofs.Math.Path.{sym, ap}
-use Rattle.std.proofs.Common.{◌∙◌, ap₂, subst, inl, inr, ⊎_elim, length-set, length-append, get_or-set_same, get_or-set_other, get_or-take, get_or-drop, drop_at}
+use Rattle.std.proofs.Common.{◌∙◌, ap₂, subst, inl, inr, ⊎_elim, length-set, length-append, get_or-set_same, get_or-set_other, get_or-take}
+use Rattle.std.proofs.Common.{get_or-drop, drop_at}
 use mathlib.Core.List.{List, [], ◌∷◌, ◌++◌, append_assoc}
 use Rattle.std.proofs.Math.ListN.{length, get_or, take, length-drop, get_or-append}
 use Rattle.std.proofs.Math.Seq.{length-take-le, ext_get_or, paste, take-length, take-append_seam}
@@ -57,7 +58,8 @@ module _ (l : List ℕ) (at : ℕ) (raw : List ℕ) (fits : at + length raw ≤ 
       ∙ ap (λ (r : List ℕ). take (length raw) (r ++ drop (at + length raw) l)) (take-length raw)
       ∙ take-append_seam raw (drop (at + length raw) l)
 
-module _ (memo : List ℕ) (c : ℕ) (raw : List ℕ) (id : ℕ) (size : length memo ≡ memo_size) (h : c < cells) (short : length raw ≤ max_raw) where
+module _ (memo : List ℕ) (c : ℕ) (raw : List ℕ) (id : ℕ) (size : length memo ≡ memo_size) (h : c < cells)
+    (short : length raw ≤ max_raw) where
   abbrev one : List ℕ
   one = set memo (11 * c) (length raw + 1)
 

@@ -1,6 +1,7 @@
 -- Ids of signatures are equal exactly if names, delays and sets of steps are equal. What is refused is like nothing that has an id.
 use Rattle.std.specs.Prelude.{ℕ, zero, suc, ◌+◌, ◌-◌, ◌*◌, ◌≤◌, ◌<◌, ◌≡◌, refl, take, set, get_or, drop}
-use Rattle.std.proofs.Common.{arith, add-one, sym, ◌∙◌, ap₂, subst, length-append, length-set, take-suc-set, length-take-le, take-take, drop_at, append_assoc}
+use Rattle.std.proofs.Common.{arith, add-one, sym, ◌∙◌, ap₂, subst, length-append, length-set, take-suc-set, length-take-le, take-take}
+use Rattle.std.proofs.Common.{drop_at, append_assoc}
 use Rattle.std.proofs.Math.Path.{ap}
 use mathlib.Core.List.{List, [], ◌∷◌, ◌++◌, Memᴰ}
 use Rattle.std.proofs.Math.ListN.{length}
@@ -30,11 +31,13 @@ ids-grow g (more h r) = more (g.keeps _ _ h) (ids-grow g r)
 -- Each of the lists has an id among them, and each id a list.
 ids-to : {held : List (List ℕ)} {steps : List (List ℕ)} {ids : List ℕ} → AllIds held steps ids → (s : List ℕ) → Memᴰ s steps
     → (i : ℕ) × Memᴰ i ids × At held i s
+ids-to {held = held} none s m = elim m [ ]
 ids-to (more {i = i} h r) s (Memᴰ.head e) = (i, Memᴰ.head refl, (h.0, h.1 ∙ sym e))
 ids-to (more h r) s (Memᴰ.tail m) = let k = ids-to r s m in (k.0, Memᴰ.tail k.1, k.2)
 
 ids-from : {held : List (List ℕ)} {steps : List (List ℕ)} {ids : List ℕ} → AllIds held steps ids → (i : ℕ) → Memᴰ i ids
     → (s : List ℕ) × Memᴰ s steps × At held i s
+ids-from {held = held} none i m = elim m [ ]
 ids-from {held} (more {s = s} h r) i (Memᴰ.head e) = (s, Memᴰ.head refl, subst (λ (k : ℕ). At held k s) (sym e) h)
 ids-from (more h r) i (Memᴰ.tail m) = let k = ids-from r i m in (k.0, Memᴰ.tail k.1, k.2)
 
@@ -131,7 +134,8 @@ partial-none held list =
 module _ {held₀ held : List (List ℕ)} {steps : List (List ℕ)} {k : ℕ} {list : List ℕ} {len : ℕ} (p : Partial held₀ held steps k list len)
     (held' : List (List ℕ)) where
   -- One step more is held.
-  pub partial-on : (s list' : List ℕ) (len' id : ℕ) → length s ≤ 25 → Told s held held' (Id id) → take len' list' ≡ put_in id (take len list)
+  pub partial-on : (s list' : List ℕ) (len' id : ℕ) → length s ≤ 25 → Told s held held' (Id id)
+      → take len' list' ≡ put_in id (take len list)
       → len' ≤ len + 1 → Partial held₀ held' (s ∷ steps) (k + 1) list' len'
   partial-on s list' len' id fits told put short =
       let grown = told-few s held held' id told in

@@ -1,6 +1,8 @@
 -- Laws of raw forms, and the turns of the loops that make and use them.
-use Rattle.std.specs.Prelude.{ℕ, zero, suc, ◌+◌, ◌-◌, ◌*◌, ◌/◌, ◌%◌, ◌≤◌, ◌<◌, ◌≡◌, refl, Bool, true, false, cond, ◌⊎◌, eqb, get_or, set, take, drop}
-use Rattle.std.proofs.Common.{arith, add-one, mod-lt, eq-or-lt_of_le, sym, ◌∙◌, subst, inl, inr, length-set, get_or-set_same, get_or-set_other, take-suc, take-suc-set, eq-eqb, ne_eqb}
+use Rattle.std.specs.Prelude.{ℕ, zero, suc, ◌+◌, ◌-◌, ◌*◌, ◌/◌, ◌%◌, ◌≤◌, ◌<◌, ◌≡◌, refl, Bool, true, false, cond, ◌⊎◌, eqb, get_or, set}
+use Rattle.std.specs.Prelude.{take, drop}
+use Rattle.std.proofs.Common.{arith, add-one, mod-lt, eq-or-lt_of_le, sym, ◌∙◌, subst, inl, inr, length-set, get_or-set_same}
+use Rattle.std.proofs.Common.{get_or-set_other, take-suc, take-suc-set, eq-eqb, ne_eqb}
 use Rattle.std.proofs.Math.Nat.{div-zero}
 use Rattle.std.proofs.Math.Path.{ap, ap₂}
 use mathlib.Core.List.{List, [], ◌∷◌, ◌++◌, append_assoc, append-nil}
@@ -41,7 +43,8 @@ pub landed-on : (graph names : List ℕ) (edge class : ℕ) (raw : List ℕ) (i 
 landed-on graph names edge class raw i v room first before is =
     (get_or-set_other raw (1 + i) 0 v 0 (omega arith) ∙ first, λ j h. let most : j ≤ i = omega arith in go j (eq-or-lt_of_le most))
   where
-    go : (j : ℕ) → (j ≡ i) ⊎ (j < i) → get_or (set raw (1 + i) v) (1 + j) 0 ≡ name_of names (landing_of graph class (branch_slot graph edge j))
+    go : (j : ℕ) → (j ≡ i) ⊎ (j < i)
+        → get_or (set raw (1 + i) v) (1 + j) 0 ≡ name_of names (landing_of graph class (branch_slot graph edge j))
     go j (inl e) = rw e (get_or-set_same raw (1 + i) v 0 room ∙ is)
     go j (inr h) = get_or-set_other raw (1 + i) (1 + j) v 0 (omega arith) ∙ before j h
 
@@ -86,7 +89,8 @@ module _ (edges raw : List ℕ) (name count : ℕ) where
   pub mass-start : 0 + mass_of name (raw_branches edges raw 0 (count - 0)) ≡ mass_of name (raw_branches edges raw 0 count)
   mass-start = let e : count - 0 ≡ count = omega arith in ap (λ (k : ℕ). 0 + mass_of name (raw_branches edges raw 0 k)) e ∙ omega arith
 
-  module _ (sum i : ℕ) (is : sum + mass_of name (raw_branches edges raw i (count - i)) ≡ mass_of name (raw_branches edges raw 0 count)) where
+  module _ (sum i : ℕ) (is : sum + mass_of name (raw_branches edges raw i (count - i)) ≡ mass_of name (raw_branches edges raw 0 count))
+      where
     pub mass-on : (more : ℕ) → i < count → more ≡ cond (eqb (get_or raw (1 + i) 0) name) (low_of edges (raw_edge raw) i) 0
         → (more + sum) + mass_of name (raw_branches edges raw (i + 1) (count - (i + 1))) ≡ mass_of name (raw_branches edges raw 0 count)
     mass-on more h e =
@@ -122,7 +126,8 @@ module _ (raw : List ℕ) (count : ℕ) where
         let next : count - i ≡ suc (count - (i + 1)) = omega arith in
         subst (λ (l : List ℕ). Walked (raw_names raw 0 count) l (raw_names raw (i + 1) (count - (i + 1))))
         (sym (put ∙ ap (λ (k : ℕ). put_in k (take len list)) is))
-        (subst (λ (k : ℕ). Walked (raw_names raw 0 count) (put_in (get_or raw (1 + i) 0) (take len list)) (raw_names raw k (count - (i + 1))))
+        (subst (λ (k : ℕ). Walked (raw_names raw 0 count) (put_in (get_or raw (1 + i) 0) (take len list))
+        (raw_names raw k (count - (i + 1))))
         (sym (add-one i))
         (walked_on (raw_names raw 0 count) (take len list) (raw_names raw (suc i) (count - (i + 1))) (get_or raw (1 + i) 0)
         (subst (λ (k : ℕ). Walked (raw_names raw 0 count) (take len list) (raw_names raw i k)) next w)))

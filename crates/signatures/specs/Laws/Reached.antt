@@ -193,7 +193,8 @@ module _ (graph names : List ℕ) (skips : Skips graph names) where
       subst (λ (k : ℕ). k < items_in names) (sym e) (reach-starts (delay_of graph) (items_in names) r) in
       delay-met {w = jump_of names w} {z = delay_of graph z}
       (reach-then (jump_of names) (items_in names) met (onward (reach-ends (jump_of names) (items_in names) met) (here less)))
-      (subst (λ (k : ℕ). Way graph names (name_of names (jump_of names w)) k (jump_of names (jump_of names w))) e (skips (jump_of names w) less))
+      (subst (λ (k : ℕ). Way graph names (name_of names (jump_of names w)) k (jump_of names (jump_of names w))) e
+      (skips (jump_of names w) less))
       r
   delay-met met (past_end is last past) (onward h r) = absurd (omega (arith, reach-starts (delay_of graph) (items_in names) r, last))
   delay-met met (passing is less way) (onward h r) = delay-met met way r

@@ -11,6 +11,7 @@ both false = inr refl
 
 -- What is in it: the number, and what was there.
 pub put_has : (v u : ℕ) (l : List ℕ) → Memᴰ u (put_in v l) → (u ≡ v) ⊎ Memᴰ u l
+put_has v u [] (Memᴰ.tail m) = elim m [ ]
 put_has v u [] (Memᴰ.head e) = inl e
 put_has v u (x ∷ l) m = go (put_has v u l) (both (ltb v x)) (both (eqb v x)) m
   where
@@ -40,6 +41,7 @@ put-in v (x ∷ l) =
     ]
 
 pub put_keeps : (v u : ℕ) (l : List ℕ) → Memᴰ u l → Memᴰ u (put_in v l)
+put_keeps v u [] m = elim m [ ]
 put_keeps v u (x ∷ l) m =
     elim (both (ltb v x)) [
       | inl t ↦ rw t (Memᴰ.tail m)
@@ -105,9 +107,11 @@ set-rises [] = omega arith
 set-rises (v ∷ l) = put-rises v (set_of l) (set-rises l)
 
 pub set-has : (u : ℕ) (l : List ℕ) → Memᴰ u (set_of l) → Memᴰ u l
+set-has u [] m = elim m [ ]
 set-has u (v ∷ l) m = elim (put_has v u (set_of l) m) [ inl e ↦ Memᴰ.head e | inr k ↦ Memᴰ.tail (set-has u l k) ]
 
 pub set-in : (u : ℕ) (l : List ℕ) → Memᴰ u l → Memᴰ u (set_of l)
+set-in u [] m = elim m [ ]
 set-in u (v ∷ l) (Memᴰ.head e) = subst (λ (s : ℕ). Memᴰ s (put_in v (set_of l))) (sym e) (put-in v (set_of l))
 set-in u (v ∷ l) (Memᴰ.tail m) = put_keeps v u (set_of l) (set-in u l m)
 

@@ -15,10 +15,12 @@ use Rattle.signatures.specs.Laws.Steps.{step-alike, alike-step}
 -- ---- Names
 
 pub names_in : (names l : List ℕ) (x : ℕ) → Memᴰ x l → Memᴰ (name_of names x) (names_of names l)
+names_in names [] x m = elim m [ ]
 names_in names (y ∷ l) x (Memᴰ.head e) = Memᴰ.head (ap (name_of names) e)
 names_in names (y ∷ l) x (Memᴰ.tail k) = Memᴰ.tail (names_in names l x k)
 
 pub names-from : (names l : List ℕ) (u : ℕ) → Memᴰ u (names_of names l) → (x : ℕ) × Memᴰ x l × (u ≡ name_of names x)
+names-from names [] u m = elim m [ ]
 names-from names (y ∷ l) u (Memᴰ.head e) = (y, Memᴰ.head refl, e)
 names-from names (y ∷ l) u (Memᴰ.tail k) = let (x, h, e) = names-from names l u k in (x, Memᴰ.tail h, e)
 

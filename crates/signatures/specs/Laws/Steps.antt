@@ -35,6 +35,7 @@ module _ (pick : ℕ → ℕ → ℕ) (mass : ℕ → ℕ) (d m : ℕ) where
   find-is : (S : List ℕ) → Memᴰ m S ⊎ (mass m ≡ 0)
       → find_in pick m (shares_over mass d S) ≡ pick (high_share (mass m) d) (low_share (mass m) d)
   unfolding find_in
+  find-is [] (inl m) = elim m [ ]
   find-is [] (inr none) =
       sym (ap (λ (k : ℕ). pick (high_share k d) (low_share k d)) none ∙ ap₂ pick (no-share d).0 (no-share d).1)
   find-is (k ∷ S) has =
@@ -92,6 +93,7 @@ module _ (mass : ℕ → ℕ) where
 
   keep-in : (u : ℕ) (S : List ℕ) → Memᴰ u S → (mass u ≡ 0 → ⊥) → Memᴰ u (keep mass S)
   unfolding keep
+  keep-in u [] m some = elim m [ ]
   keep-in u (m ∷ S) (Memᴰ.head is) some =
       rw (ne_eqb (mass m) 0 (λ z. some (ap mass is ∙ z))) (Memᴰ.head is)
   keep-in u (m ∷ S) (Memᴰ.tail k) some =
@@ -125,7 +127,8 @@ module _ (mass mass' : ℕ → ℕ) (d d' : ℕ) (some : 0 < d) (some' : 0 < d')
   lists-tell small small' e m =
       share-apart (mass m) (mass' m) d d' some some' (most m) (most' m) small small' (at (λ h l. h)) (at (λ h l. l))
     where
-      at : (pick : ℕ → ℕ → ℕ) → pick (high_share (mass m) d) (low_share (mass m) d) ≡ pick (high_share (mass' m) d') (low_share (mass' m) d')
+      at : (pick : ℕ → ℕ → ℕ)
+          → pick (high_share (mass m) d) (low_share (mass m) d) ≡ pick (high_share (mass' m) d') (low_share (mass' m) d')
       at pick =
           sym (find-is pick mass d m S (covers m)) ∙ ap (find_in pick m) e ∙ find-is pick mass' d' m S' (covers' m)
 

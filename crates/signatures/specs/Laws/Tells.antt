@@ -34,7 +34,8 @@ chain_same next next' n same (suc steps) x =
       | inr e ↦ rw e refl
     ]
 
-pub jumps-plain : (graph edges names : List ℕ) → ((y : ℕ) → y < items_in names → jump_of names y ≡ delay_of graph y) → Jumps graph edges names
+pub jumps-plain : (graph edges names : List ℕ) → ((y : ℕ) → y < items_in names → jump_of names y ≡ delay_of graph y)
+    → Jumps graph edges names
 unfolding reached_from structure_of
 jumps-plain graph edges names same x h =
     ap (λ (l : List ℕ). set_of (names_of names l)) (chain_same (jump_of names) (delay_of graph) (items_in names) same (items_in names) x)
@@ -59,7 +60,8 @@ module _ {graph edges names items items' : List ℕ} (passed : Passed graph edge
 
   module _ (j k : ℕ) (hj : j < length items) (hk : k < length items) (nj : get_or items j 0 < items_in names)
       (nk : get_or items k 0 < items_in names) where
-    alike_same : Alike (name_of names (get_or items j 0)) (reached_from names (get_or items j 0)) (steps_from graph edges names (get_or items j 0))
+    alike_same : Alike (name_of names (get_or items j 0)) (reached_from names (get_or items j 0))
+        (steps_from graph edges names (get_or items j 0))
         (name_of names (get_or items k 0)) (reached_from names (get_or items k 0)) (steps_from graph edges names (get_or items k 0))
         → SameSignature F names (get_or items j 0) (get_or items k 0)
     unfolding steps_from
@@ -94,7 +96,8 @@ module _ {graph edges names items items' : List ℕ} (passed : Passed graph edge
       λ is. named-same passed.different (passed.all.id j hj sj) (passed.all.id k hk sk) (same_alike (tells.0 is)),
     )
 
-    pub pass-apart : get_or items' j 0 ≡ no_id → (get_or items' k 0 ≡ no_id → ⊥) → next F names (get_or items j 0) (get_or items k 0) ≡ true → ⊥
+    pub pass-apart : get_or items' j 0 ≡ no_id → (get_or items' k 0 ≡ no_id → ⊥) → next F names (get_or items j 0) (get_or items k 0) ≡ true
+        → ⊥
     pass-apart none some is =
         refused-apart passed.different (passed.all.refused j hj none) (passed.all.id k hk some) (same_alike (tells.0 is))
 

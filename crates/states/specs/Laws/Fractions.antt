@@ -1,7 +1,10 @@
 -- Laws on fractions and ranks. What a delay, a reset and an atom come to on the numerators of a state's clocks is what they come to
 -- on the ranks of its region: only the order of the fractions matters, and which of them are zero.
-use Rattle.std.specs.Prelude.{ℕ, zero, suc, ◌+◌, ◌*◌, ◌/◌, ◌%◌, ◌≤◌, ◌<◌, ◌⊎◌, ◌≡◌, refl, Bool, true, false, cond, not, ◌&&◌, ◌||◌, eqb, leb, ltb}
-use Rattle.std.proofs.Common.{arith, mul-le-mul_right, le_of_mul-le-mul_right, mul_assoc, zero-mul, suc-mul, add-mul, mod-lt, div-add-mod', inl, inr, sym, ◌∙◌, ap, ap₂, subst, eqb-true, eq-eqb, ne_eqb, leb-true, leb-false, le-leb, ltb-true, ltb-false, lt-ltb, le-ltb}
+use Rattle.std.specs.Prelude.{ℕ, zero, suc, ◌+◌, ◌*◌, ◌/◌, ◌%◌, ◌≤◌, ◌<◌, ◌⊎◌, ◌≡◌, refl, Bool}
+use Rattle.std.specs.Prelude.{true, false, cond, not, ◌&&◌, ◌||◌, eqb, leb, ltb}
+use Rattle.std.proofs.Common.{arith, mul-le-mul_right, le_of_mul-le-mul_right, mul_assoc, zero-mul, suc-mul, add-mul}
+use Rattle.std.proofs.Common.{mod-lt, div-add-mod', inl, inr, sym, ◌∙◌, ap, ap₂, subst, eqb-true, eq-eqb, ne_eqb}
+use Rattle.std.proofs.Common.{leb-true, leb-false, le-leb, ltb-true, ltb-false, lt-ltb, le-ltb}
 use mathlib.Core.List.Memᴰ
 use mathlib.Core.List.{List, [], ◌∷◌, map, map-id, map-map, Memᴰ}
 use Rattle.std.proofs.Math.Arith.{digits_div, digits_mod, digits_lt}
@@ -32,6 +35,7 @@ met a (x ∷ l) k e =
     ]
 
 own : {A : Type 0} (a : A → ℕ) (l : List A) (x : A) → Memᴰ x l → member (a x) (map a l) ≡ true
+own a [] x n = elim n [ ]
 own a (y ∷ l) x (Memᴰ.head p) = rw (eq-eqb (a x) (a y) (ap a p)) refl
 own a (y ∷ l) x (Memᴰ.tail n) = or-true (eqb (a x) (a y)) _ (own a l x n)
 
@@ -417,10 +421,12 @@ all_map p g [] h = refl
 all_map p g (c ∷ cs) h = ap₂ ◌&&◌ (h c (Memᴰ.head refl)) (all_map p g cs (λ x n. h x (Memᴰ.tail n)))
 
 some_of : (p : Cell → Bool) (cs : List Cell) (x : Cell) → Memᴰ x cs → p x ≡ true → some p cs ≡ true
+some_of p [] x n e = elim n [ ]
 some_of p (y ∷ cs) x (Memᴰ.head q) e = rw (sym (ap p q) ∙ e) refl
 some_of p (y ∷ cs) x (Memᴰ.tail n) e = or-true (p y) _ (some_of p cs x n e)
 
 not-all : (p : Cell → Bool) (cs : List Cell) (x : Cell) → Memᴰ x cs → p x ≡ false → all p cs ≡ false
+not-all p [] x n e = elim n [ ]
 not-all p (y ∷ cs) x (Memᴰ.head q) e = rw (sym (ap p q) ∙ e) refl
 not-all p (y ∷ cs) x (Memᴰ.tail n) e = go (p y) (not-all p cs x n e)
   where
@@ -532,7 +538,8 @@ highest-close cs x n h =
     (λ c m. subst (λ k. k ≤ rank fs (fraction_of x)) (sym (closed-rank fs c)) (rank_mono fs (fraction_of c) (fraction_of x) (h c m))) in
     omega (arith, low, up, closed-rank fs x)
 
-module _ (d : ℕ) (two : 2 ≤ d) (cs : List Cell) (proper : (c : Cell) → Memᴰ c cs → Proper c) (below : (c : Cell) → Memᴰ c cs → fraction_of c < d) where
+module _ (d : ℕ) (two : 2 ≤ d) (cs : List Cell) (proper : (c : Cell) → Memᴰ c cs → Proper c)
+    (below : (c : Cell) → Memᴰ c cs → fraction_of c < d) where
   -- No clock is about to arrive, and some stand at a whole number: the least step is the region's delay.
   pub tick-leaves : ((c : Cell) → Memᴰ c cs → suc (fraction_of c) < d) → some standing cs ≡ true
       → delay (close cs) ≡ cells (close (map (ticked d) cs))

@@ -1,7 +1,7 @@
 -- The region theorem (demand 2; document 01, "Regions"): "A region leads by some delay or edge to another exactly when each of its states,
 -- with fractions as clock values, does so under the automaton's own rules" (`each-state-leads`; `each-state-delays` and
--- `each-state-steps` say more). So a reader may think of states, and the program goes by regions. Every well-formed region has a state (`formed-state`), and the region of a state
--- stands in one entry of the graph, or in none (`one_entry`, `no-entry`).
+-- `each-state-steps` say more). So a reader may think of states, and the program goes by regions. Every well-formed region
+-- has a state (`formed-state`), and the region of a state stands in one entry of the graph, or in none (`one_entry`, `no-entry`).
 use Rattle.std.specs.Prelude.{ℕ, ◌≤◌, ◌<◌, ◌↔◌, ◌≡◌, refl, true, ◌&&◌, length}
 use Rattle.std.proofs.Common.{sym, ◌∙◌, subst}
 use mathlib.Core.List.{List, Memᴰ}

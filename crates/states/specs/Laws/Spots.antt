@@ -1,6 +1,8 @@
 -- Laws for the code that places a state: each clock by its whole part and fraction, ranks by counting, and the region of the four clocks.
-use Rattle.std.specs.Prelude.{ℕ, zero, suc, ◌+◌, ◌*◌, ◌/◌, ◌%◌, ◌≤◌, ◌<◌, min, ◌≡◌, refl, Bool, true, false, cond, not, ◌&&◌, ◌||◌, List, [], ◌∷◌, map, eqb, leb, ltb, length, get_or}
-use Rattle.std.proofs.Common.{arith, mul-le-mul_right, div-lt_iff_lt-mul, sym, ◌∙◌, ap, ap₂, eq-eqb, ne_eqb, eqb-true, lt-ltb, le-ltb, le-leb, leb-true, leb-false}
+use Rattle.std.specs.Prelude.{ℕ, zero, suc, ◌+◌, ◌*◌, ◌/◌, ◌%◌, ◌≤◌, ◌<◌, min, ◌≡◌, refl, Bool, true, false, cond}
+use Rattle.std.specs.Prelude.{not, ◌&&◌, ◌||◌, List, [], ◌∷◌, map, eqb, leb, ltb, length, get_or}
+use Rattle.std.proofs.Common.{arith, mul-le-mul_right, div-lt_iff_lt-mul, sym, ◌∙◌, ap, ap₂, eq-eqb, ne_eqb}
+use Rattle.std.proofs.Common.{eqb-true, lt-ltb, le-ltb, le-leb, leb-true, leb-false}
 use Rattle.std.proofs.lemmas.Bool.{eqb-false, lt-leb}
 use Rattle.clocks.specs.Cells.{Cell, over, at, fraction_of, member, rank, closed, close}
 use Rattle.clocks.specs.Packed.{over_part, clock_of, byte_at, pack}
@@ -79,7 +81,8 @@ rank-more x l (suc f) = go (eqb (suc f) x) refl (rank-more x l f)
             falls true = refl
             falls false = refl
         at_last false m old same =
-            let t : is_fresh (suc f) x l ≡ true = rw (sym same, m, ne_eqb (suc f) 0 (λ q. omega (arith, q)), le-leb (suc f) (suc f) (omega arith)) refl in
+            let t : is_fresh (suc f) x l ≡ true =
+            rw (sym same, m, ne_eqb (suc f) 0 (λ q. omega (arith, q)), le-leb (suc f) (suc f) (omega arith)) refl in
             rw t (omega (arith, old))
     go false e before =
         rw (sym (later (leb x f) refl)) (kept (member (suc f) l) before)
@@ -111,8 +114,10 @@ rank-four f a b c d =
     let second = rank-more b (c ∷ d ∷ []) f in
     let first = rank-more a (b ∷ c ∷ d ∷ []) f in
     let pd : is_fresh f d (0 ∷ 0 ∷ 0 ∷ []) ≡ is_fresh f d [] = fresh-padded f d (0 ∷ 0 ∷ 0 ∷ []) [] (λ n. rw (ne_eqb d 0 n) refl) in
-    let pc : is_fresh f c (d ∷ 0 ∷ 0 ∷ []) ≡ is_fresh f c (d ∷ []) = fresh-padded f c (d ∷ 0 ∷ 0 ∷ []) (d ∷ []) (λ n. rw (ne_eqb c 0 n) refl) in
-    let pb : is_fresh f b (c ∷ d ∷ 0 ∷ []) ≡ is_fresh f b (c ∷ d ∷ []) = fresh-padded f b (c ∷ d ∷ 0 ∷ []) (c ∷ d ∷ []) (λ n. rw (ne_eqb b 0 n) refl) in
+    let pc : is_fresh f c (d ∷ 0 ∷ 0 ∷ []) ≡ is_fresh f c (d ∷ []) =
+    fresh-padded f c (d ∷ 0 ∷ 0 ∷ []) (d ∷ []) (λ n. rw (ne_eqb c 0 n) refl) in
+    let pb : is_fresh f b (c ∷ d ∷ 0 ∷ []) ≡ is_fresh f b (c ∷ d ∷ []) =
+    fresh-padded f b (c ∷ d ∷ 0 ∷ []) (c ∷ d ∷ []) (λ n. rw (ne_eqb b 0 n) refl) in
     rw (pd, pc, pb) (omega (arith, none, last, third, second, first))
   where
     rank-none : (f : ℕ) → rank [] f ≡ 0
@@ -190,7 +195,8 @@ region-is bounds location v₀ v₁ v₂ v₃ d s is whole ranks ew er =
     same : spot_fractions s ≡ fs
     same = rw (is.a-is.fraction, is.b-is.fraction, is.c-is.fraction, is.d-is.fraction) refl
 
-    whole-byte : (i : ℕ) (c : Cell) (x : Spot) → SpotIs x c → byte_at bounds.count i x.whole ≡ byte_at bounds.count i (clock_of (closed fs c)).whole
+    whole-byte : (i : ℕ) (c : Cell) (x : Spot) → SpotIs x c
+        → byte_at bounds.count i x.whole ≡ byte_at bounds.count i (clock_of (closed fs c)).whole
     whole-byte i c x e = ap (byte_at bounds.count i) (e.whole ∙ sym (closed-whole fs c))
 
     wholes : spot_wholes bounds.count s ≡ (pack bounds location (close cs)).whole

@@ -1,13 +1,16 @@
 -- Laws on states, for the region theorem. Equal states are alike in all that they do (`same-..`). Atoms, invariants and edges of
 -- a state are those of its region (`..-placed`). A state delays as its region does (`delays-placed`): by some least steps over
 -- a larger denominator, each of which leads nowhere or to the region that follows.
-use Rattle.std.specs.Prelude.{ℕ, zero, suc, ◌+◌, ◌*◌, ◌/◌, ◌%◌, ◌≤◌, ◌<◌, ◌⊎◌, ◌↔◌, ◌≡◌, Bool, true, false, ◌&&◌, ◌||◌, eqb, length, replicate}
+use Rattle.std.specs.Prelude.{ℕ, zero, suc, ◌+◌, ◌*◌, ◌/◌, ◌%◌, ◌≤◌, ◌<◌, ◌⊎◌, ◌↔◌, ◌≡◌, Bool}
+use Rattle.std.specs.Prelude.{true, false, ◌&&◌, ◌||◌, eqb, length, replicate}
 use native.Mathlib.Omega.{arith}
 use Rattle.std.proofs.Math.Nat.{zero-div, zero-mod, one-le-mul, eq_of_mul-eq-mul_right}
-use Rattle.std.proofs.Common.{mul_comm, mul-le-mul_right, mul-lt-mul_of_pos_right, le_of_mul-le-mul_right, lt_of_mul-lt-mul_right, sym, ◌∙◌, subst, eqb-true, eq-eqb, ne_eqb, ltb-true, lt-ltb, le-ltb, leb-true, le-leb}
+use Rattle.std.proofs.Common.{mul_comm, mul-le-mul_right, mul-lt-mul_of_pos_right, le_of_mul-le-mul_right, lt_of_mul-lt-mul_right, sym}
+use Rattle.std.proofs.Common.{◌∙◌, subst, eqb-true, eq-eqb, ne_eqb, ltb-true, lt-ltb, le-ltb, leb-true, le-leb}
 use Rattle.std.proofs.Math.Logic.{inl, inr}
 use Rattle.std.proofs.Math.Path.{refl, ap, ap₂}
 use Rattle.std.proofs.Math.Bool.{cond, not}
+use mathlib.Core.List.Memᴰ
 use mathlib.Core.List.{List, [], ◌∷◌, map, map-id, map-map}
 use mathlib.Core.List.{Memᴰ}
 use Rattle.std.proofs.Math.Dec.{leb, ltb}
@@ -59,7 +62,7 @@ map-alike f g e l = λ i. map (λ v. e v i) l
 pub every-alike : {A : Type 0} (p q : A → Bool) (l : List A) → ((x : A) → Memᴰ x l → p x ≡ q x) → every p l ≡ every q l
 every-alike p q [] e = refl
 every-alike p q (x ∷ l) e =
-    ap₂ (λ (a b : Bool). a && b) (e x (mathlib.Core.List.Memᴰ.head refl)) (every-alike p q l (λ y n. e y (mathlib.Core.List.Memᴰ.tail n)))
+    ap₂ (λ (a b : Bool). a && b) (e x (Memᴰ.head refl)) (every-alike p q l (λ y n. e y (Memᴰ.tail n)))
 
 -- Where one test of each item implies another.
 every-still : {A : Type 0} (p q : A → Bool) (l : List A) → ((x : A) → Memᴰ x l → p x ≡ true → q x ≡ true)
@@ -67,7 +70,7 @@ every-still : {A : Type 0} (p q : A → Bool) (l : List A) → ((x : A) → Mem�
 every-still p q [] e h = refl
 every-still p q (x ∷ l) e h =
     let k = both_true (p x) (every p l) h in
-    rw (e x (mathlib.Core.List.Memᴰ.head refl) k.0, every-still p q l (λ y n. e y (mathlib.Core.List.Memᴰ.tail n)) k.1) refl
+    rw (e x (Memᴰ.head refl) k.0, every-still p q l (λ y n. e y (Memᴰ.tail n)) k.1) refl
 
 swap : (a b : ℕ) (l : List ℕ) → map (λ v. v * a) (map (λ v. v * b) l) ≡ map (λ v. v * b) (map (λ v. v * a) l)
 swap a b l =
@@ -352,17 +355,17 @@ module _ (m : Model) where
 
 -- What each of four cells is.
 each-cell : (P : Cell → Type 0) (c : ℕ → Cell) → ((i : ℕ) → P (c i)) → (x : Cell) → Memᴰ x (cells_by c) → P x
-each-cell P c h x (mathlib.Core.List.Memᴰ.head e) = subst P (sym e) (h 0)
-each-cell P c h x (mathlib.Core.List.Memᴰ.tail (mathlib.Core.List.Memᴰ.head e)) = subst P (sym e) (h 1)
-each-cell P c h x (mathlib.Core.List.Memᴰ.tail (mathlib.Core.List.Memᴰ.tail (mathlib.Core.List.Memᴰ.head e))) = subst P (sym e) (h 2)
-each-cell P c h x (mathlib.Core.List.Memᴰ.tail (mathlib.Core.List.Memᴰ.tail (mathlib.Core.List.Memᴰ.tail (mathlib.Core.List.Memᴰ.head e)))) = subst P (sym e) (h 3)
-each-cell P c h x (mathlib.Core.List.Memᴰ.tail (mathlib.Core.List.Memᴰ.tail (mathlib.Core.List.Memᴰ.tail (mathlib.Core.List.Memᴰ.tail n)))) = absurd (mathlib.Core.List.Memᴰ.not-nil n)
+each-cell P c h x (Memᴰ.head e) = subst P (sym e) (h 0)
+each-cell P c h x (Memᴰ.tail (Memᴰ.head e)) = subst P (sym e) (h 1)
+each-cell P c h x (Memᴰ.tail (Memᴰ.tail (Memᴰ.head e))) = subst P (sym e) (h 2)
+each-cell P c h x (Memᴰ.tail (Memᴰ.tail (Memᴰ.tail (Memᴰ.head e)))) = subst P (sym e) (h 3)
+each-cell P c h x (Memᴰ.tail (Memᴰ.tail (Memᴰ.tail (Memᴰ.tail n)))) = absurd (Memᴰ.not-nil n)
 
 in_cells : (c : ℕ → Cell) (i : ℕ) → i < 4 → Memᴰ (c i) (cells_by c)
-in_cells c zero h = mathlib.Core.List.Memᴰ.head refl
-in_cells c (suc zero) h = mathlib.Core.List.Memᴰ.tail (mathlib.Core.List.Memᴰ.head refl)
-in_cells c (suc (suc zero)) h = mathlib.Core.List.Memᴰ.tail (mathlib.Core.List.Memᴰ.tail (mathlib.Core.List.Memᴰ.head refl))
-in_cells c (suc (suc (suc zero))) h = mathlib.Core.List.Memᴰ.tail (mathlib.Core.List.Memᴰ.tail (mathlib.Core.List.Memᴰ.tail (mathlib.Core.List.Memᴰ.head refl)))
+in_cells c zero h = Memᴰ.head refl
+in_cells c (suc zero) h = Memᴰ.tail (Memᴰ.head refl)
+in_cells c (suc (suc zero)) h = Memᴰ.tail (Memᴰ.tail (Memᴰ.head refl))
+in_cells c (suc (suc (suc zero))) h = Memᴰ.tail (Memᴰ.tail (Memᴰ.tail (Memᴰ.head refl)))
 in_cells c (suc (suc (suc (suc i)))) h = absurd (omega arith)
 
 at_cells : (c d : ℕ → Cell) → cells_by c ≡ cells_by d → (i : ℕ) → i < 4 → c i ≡ d i
@@ -402,10 +405,11 @@ module _ (bounds : Bounds) (s : State) where
   ranked_cell i = closed (map fraction_of (state_cells bounds s)) (state_cell bounds s i)
 
   ranked-read : (i : ℕ) → Read bounds i (ranked_cell i)
-  ranked-read i = (
-    λ h. ap (λ c. bound_of (closed (map fraction_of (state_cells bounds s)) c)) (cell-within i h) ∙ value-bound _ _ _ _,
-    λ h. ap (closed (map fraction_of (state_cells bounds s))) (cell-beyond i h),
-  )
+  ranked-read i =
+      let fs = map fraction_of (state_cells bounds s) in (
+        λ h. ap (λ c. bound_of (closed fs c)) (cell-within i h) ∙ value-bound fs _ _ _,
+        λ h. ap (closed fs) (cell-beyond i h),
+      )
 
   module _ (pos : 1 ≤ s.denominator) where
     cell-proper : (i : ℕ) → Proper (state_cell bounds s i)
@@ -671,34 +675,34 @@ step-later s pos =
 
 cons-all : (P : Cell → Type 0) (x : Cell) (cs : List Cell) → P x → ((c : Cell) → Memᴰ c cs → P c)
     → (c : Cell) → Memᴰ c (x ∷ cs) → P c
-cons-all P x cs p h c (mathlib.Core.List.Memᴰ.head e) = subst P (sym e) p
-cons-all P x cs p h c (mathlib.Core.List.Memᴰ.tail n) = h c n
+cons-all P x cs p h c (Memᴰ.head e) = subst P (sym e) p
+cons-all P x cs p h c (Memᴰ.tail n) = h c n
 
 -- Some fraction is the largest over the denominator, or none is.
 highest-or : (d : ℕ) (cs : List Cell) → ((c : Cell) → Memᴰ c cs → fraction_of c < d)
     → ((c : Cell) → Memᴰ c cs → suc (fraction_of c) < d) ⊎ ((x : Cell) × Memᴰ x cs × (suc (fraction_of x) ≡ d))
-highest-or d [] h = inl (λ c n. absurd (mathlib.Core.List.Memᴰ.not-nil n))
+highest-or d [] h = inl (λ c n. absurd (Memᴰ.not-nil n))
 highest-or d (x ∷ cs) h =
     elim (both (eqb (suc (fraction_of x)) d)) [
-      | inl e ↦ inr (x, mathlib.Core.List.Memᴰ.head refl, eqb-true (suc (fraction_of x)) d e)
-      | inr e ↦ elim (highest-or d cs (λ c n. h c (mathlib.Core.List.Memᴰ.tail n))) [
+      | inl e ↦ inr (x, Memᴰ.head refl, eqb-true (suc (fraction_of x)) d e)
+      | inr e ↦ elim (highest-or d cs (λ c n. h c (Memᴰ.tail n))) [
         | inl k ↦ inl (cons-all (λ c. suc (fraction_of c) < d) x cs
-            (omega (arith, h x (mathlib.Core.List.Memᴰ.head refl), eqb-false (suc (fraction_of x)) d e)) k)
-        | inr k ↦ inr (k.0, mathlib.Core.List.Memᴰ.tail k.1, k.2)
+            (omega (arith, h x (Memᴰ.head refl), eqb-false (suc (fraction_of x)) d e)) k)
+        | inr k ↦ inr (k.0, Memᴰ.tail k.1, k.2)
       ]
     ]
 
 none-standing : (cs : List Cell) → ((c : Cell) → Memᴰ c cs → standing c ≡ false) → some standing cs ≡ false
 none-standing [] h = refl
-none-standing (x ∷ cs) h = rw (h x (mathlib.Core.List.Memᴰ.head refl), none-standing cs (λ c n. h c (mathlib.Core.List.Memᴰ.tail n))) refl
+none-standing (x ∷ cs) h = rw (h x (Memᴰ.head refl), none-standing cs (λ c n. h c (Memᴰ.tail n))) refl
 
 -- A cell that is not over.
 not-over : (cs : List Cell) → all is_over cs ≡ false → (x : Cell) × Memᴰ x cs × (is_over x ≡ false)
 not-over [] e = false-true (sym e)
 not-over (x ∷ cs) e =
     elim (both (is_over x)) [
-      | inl t ↦ let r = not-over cs (rw t at e) in (r.0, mathlib.Core.List.Memᴰ.tail r.1, r.2)
-      | inr t ↦ (x, mathlib.Core.List.Memᴰ.head refl, t)
+      | inl t ↦ let r = not-over cs (rw t at e) in (r.0, Memᴰ.tail r.1, r.2)
+      | inr t ↦ (x, Memᴰ.head refl, t)
     ]
 
 -- ---- Cells over twice the denominator, and after a least step
@@ -1067,12 +1071,12 @@ module _ (m : Model) where
       let next = (delayed (bounds_of m) r).region in
       let k = kept m ((delayed (bounds_of m) r).any && meets (bounds_of m) m.invariants next) (next ∷ []) p n in
       let h = both_true (delayed (bounds_of m) r).any (meets (bounds_of m) m.invariants next) k.0 in
-      (h.0, h.1, mathlib.Core.List.Memᴰ.eq_of_singleton k.1)
+      (h.0, h.1, Memᴰ.eq_of_singleton k.1)
 
   waits-to : (r q : Region) → Waits (bounds_of m) m r q → DelaysTo m r q
   waits-to r q (still h) = stays h
   waits-to r q (onward a h w) =
-      goes (subst (λ l. Memᴰ (delayed (bounds_of m) r).region l) (sym (delay-some m r a h)) (mathlib.Core.List.Memᴰ.head refl))
+      goes (subst (λ l. Memᴰ (delayed (bounds_of m) r).region l) (sym (delay-some m r a h)) (Memᴰ.head refl))
       (waits-to (delayed (bounds_of m) r).region q w)
 
   to-waits : (r q : Region) → DelaysTo m r q → Waits (bounds_of m) m r q
@@ -1094,7 +1098,7 @@ module _ (m : Model) where
   steps-within r e b h n k a =
       let q = landing (bounds_of m) r b in
       led h (by-edge n (subst (λ l. Memᴰ q l) (sym (edge-some m e r a))
-      (gathers (λ x. landing (bounds_of m) r x ∷ []) q b e.branches k (mathlib.Core.List.Memᴰ.head refl))))
+      (gathers (λ x. landing (bounds_of m) r x ∷ []) q b e.branches k (Memᴰ.head refl))))
 
   -- ---- Region 0
 

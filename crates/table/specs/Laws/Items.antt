@@ -16,7 +16,8 @@ use Rattle.table.specs.Written.{bytes_of, written, edge_bytes, edges_bytes, tabl
 use Rattle.table.specs.Written.{first_location, first_invariant, first_edge, Placed}
 use Rattle.table.specs.Access.{no_invariant, no_guard, no_branch, no_edge, walk_to, passed, item_from}
 use Rattle.table.specs.Access.{read_label, read_invariant, read_guard, read_branch, read_edge, edge_struct, label_at, invariant_at}
-use Rattle.table.specs.Access.{guards_from, branches_from, next_edge, guard_at, guard_count, branch_at, branch_count, places_from, edge_places}
+use Rattle.table.specs.Access.{guards_from, branches_from, next_edge, guard_at, guard_count}
+use Rattle.table.specs.Access.{branch_at, branch_count, places_from, edge_places}
 
 -- ---- The bytes of a table from a place on
 
@@ -125,7 +126,7 @@ module _ {A : Type 0} {f : A → Record} {k : ℕ} {read : List ℕ → ℕ → 
   item-is {xs = []} s d zero = rw (nothing-at s)
   item-is {xs = []} s d (suc i) = rw (nothing-at s, nothing-at s)
   item-is {at} {xs = x ∷ l} s d zero = rw (something-at s) (is.back t at x (written f l ++ s.more) (first-bytes s))
-  item-is {xs = x ∷ l} s d (suc i) = rw (something-at s) (item-is (rest s) d i)
+  item-is {at} {xs = x ∷ l} s d (suc i) = rw (something-at s) (item-is {at = at + 1 + body_length k} (rest s) d i)
 
   -- A walk that is long enough ends behind them and has counted them.
   walk_is : {at : ℕ} {xs : List A} → Stand f k t at xs → (most : ℕ) → length xs ≤ most
@@ -134,8 +135,9 @@ module _ {A : Type 0} {f : A → Record} {k : ℕ} {read : List ℕ → ℕ → 
   walk_is {at} {xs = []} s zero h = (sym (add-zero at), refl)
   walk_is {at} {xs = []} s (suc most) h = rw (nothing-at s) (sym (add-zero at), refl)
   walk_is {xs = x ∷ l} s zero h = absurd (not-suc-le-zero h)
-  walk_is {xs = x ∷ l} s (suc most) h =
-      rw (something-at s, length-append) (omega (arith, walk_is (rest s) most (le_of_suc-le-suc h), is.size x))
+  walk_is {at} {xs = x ∷ l} s (suc most) h =
+      let ih = walk_is {at = at + 1 + body_length k} (rest s) most (le_of_suc-le-suc h) in
+      rw (something-at s, length-append) (omega (arith, ih, is.size x))
 
 -- ---- Edges
 

@@ -2,7 +2,8 @@
 -- where they are written (`places`); and what its reader remembers at the end is its model's shape (`counts`, `shape`).
 -- Each is an induction over the rest of the table behind its header (`Rest`).
 use Rattle.std.specs.Prelude.{ℕ, ◌+◌, ◌*◌, ◌-◌, ◌/◌, ◌^◌, ◌≤◌, ◌<◌, ◌≢◌, ◌≡◌, refl, List, [], ◌∷◌, ◌++◌, length, drop}
-use Rattle.std.proofs.Common.{arith, add-zero, div-lt_iff_lt-mul, pow_pos, inl, inr, sym, ap, ◌∙◌, subst, append_assoc, append-nil, length-append, drop_of_length-le}
+use Rattle.std.proofs.Common.{arith, add-zero, div-lt_iff_lt-mul, pow_pos, inl, inr, sym, ap, ◌∙◌, subst}
+use Rattle.std.proofs.Common.{append_assoc, append-nil, length-append, drop_of_length-le}
 use Rattle.table.specs.Format.{max_invariants, max_edges, max_guards, max_branches}
 use Rattle.table.specs.Model.{Edge, Model, total}
 use Rattle.table.specs.Records.{Record, header, location, invariant, guard, branch, end, kind_of, body_of, past}

@@ -13,7 +13,8 @@ use Rattle.table.specs.Model.{Edge, Model, total}
 use Rattle.table.specs.Records.{Record, header, location, invariant, edge, guard, branch, end}
 use Rattle.table.specs.Records.{kind_of, body_of, record_of, body_at, kind_at, record_at, past}
 use Rattle.table.specs.Refusals.{Row, decide, outer_rows, rows_of, next_of, step_at}
-use Rattle.table.specs.Refusals.{start, in_locations, in_invariants, after_header, after_edge}
+use Rattle.table.specs.Refusals.{start, in_locations, in_invariants, after_header, after_location}
+use Rattle.table.specs.Refusals.{after_invariant, after_edge, after_guard, after_branch}
 use Rattle.table.specs.Reading.{Item, item_at, Run, refused, ended, before, run, run_table}
 use Rattle.table.specs.Reading.{Parts, parts, no_parts, add, gather, model_of, accepted, answer_of, read_table}
 use Rattle.table.specs.Sound.{All, none, also, SoundInvariant, SoundGuard, SoundBranch, SoundEdge, Sound}
@@ -169,7 +170,7 @@ module _ {t : List ℕ} {n l : ℕ} where
   branches-read {p} (b ∷ bs) room stage (also s all) rest =
       let mask = mask-within n p.clocks b.mask room.clocks s.mask in
       read-on (branch b) (λ at long. record { own = omega allowed; next = refl; said = refl })
-      (branches-read bs (omega arith) (omega arith) all rest)
+      (branches-read {p = after_branch p b.weight} bs (omega arith) (omega arith) all rest)
 
   guards-read : {p : Progress} {bs : List Branch} {es : List Edge} {more : List ℕ} (gs : List Guard)
       → Room n l p (behind gs bs es) → p.stage ≡ 3 → All (SoundGuard n) gs
@@ -177,9 +178,9 @@ module _ {t : List ℕ} {n l : ℕ} where
       → Reads t p (written guard gs ++ more) (behind gs bs es)
   unfolding kind_of body_of rows_of next_of add
   guards-read {p} [] room stage none rest = rest p room stage
-  guards-read (g ∷ gs) room stage (also s all) rest =
+  guards-read {p} (g ∷ gs) room stage (also s all) rest =
       read-on (guard g) (λ at long. record { own = omega allowed; next = refl; said = refl })
-      (guards-read gs (omega arith) stage all rest)
+      (guards-read {p = after_guard p} gs (omega arith) stage all rest)
 
   edge-read : {p : Progress} {e : Edge} {es : List Edge}
       → Room n l p (behind [] [] (e ∷ es)) → 2 ≤ p.stage → SoundEdge n l e → e.place + length (edges_to_end (e ∷ es)) ≡ length t
@@ -217,9 +218,9 @@ module _ {t : List ℕ} {n l : ℕ} where
       → Reads t p (written invariant is ++ more) (front [] is es)
   unfolding kind_of body_of rows_of next_of add
   invariants-read {p} [] room stage none rest = rest p room (omega arith)
-  invariants-read (a ∷ is) room stage (also s all) rest =
+  invariants-read {p} (a ∷ is) room stage (also s all) rest =
       read-on (invariant a) (λ at long. record { own = omega allowed; next = refl; said = refl })
-      (invariants-read is (omega arith) stage all rest)
+      (invariants-read {p = after_invariant p} is (omega arith) stage all rest)
 
   locations-read : {p : Progress} {is : List Invariant} {es : List Edge} {more : List ℕ} (ls : List ℕ)
       → Room n l p (front ls is es) → p.stage ≡ cond (leb p.locations p.labels) in_invariants in_locations
@@ -232,7 +233,7 @@ module _ {t : List ℕ} {n l : ℕ} where
   locations-read {p} (x ∷ ls) room stage missing rest =
       let now : p.stage ≡ 1 = stage ∙ rw (lt-leb p.locations p.labels (omega arith)) in
       read-on (location x) (λ at long. record { own = omega allowed; next = refl; said = refl })
-      (locations-read ls (omega arith) refl (omega arith) rest)
+      (locations-read {p = after_location p} ls (omega arith) refl (omega arith) rest)
 
 -- ---- Whole tables
 

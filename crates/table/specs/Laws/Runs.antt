@@ -1,7 +1,9 @@
 -- What an accepted table went through. A step that was not refused denies every row of its record; so a table that was
 -- accepted is a header and then, record by record, the rest (`Whole`, `Rest`). `Models` draws the theorems from that.
-use Rattle.std.specs.Prelude.{ℕ, zero, suc, ◌+◌, ◌*◌, ◌/◌, ◌%◌, ◌≤◌, ◌<◌, ◌⊎◌, ◌≡◌, refl, Bool, true, false, cond, not, List, [], ◌∷◌, ◌++◌, eqb, leb, ltb, length, get_or, drop}
-use Rattle.std.proofs.Common.{arith, add-one, inl, inr, sym, ap, subst, drop-cons, add-zero, add-suc, suc-add, ltb-false, leb-true, leb-false, eqb-true}
+use Rattle.std.specs.Prelude.{ℕ, zero, suc, ◌+◌, ◌*◌, ◌/◌, ◌%◌, ◌≤◌, ◌<◌, ◌⊎◌, ◌≡◌, refl, Bool, true, false, cond}
+use Rattle.std.specs.Prelude.{not, List, [], ◌∷◌, ◌++◌, eqb, leb, ltb, length, get_or, drop}
+use Rattle.std.proofs.Common.{arith, add-one, inl, inr, sym, ap, subst, drop-cons, add-zero, add-suc}
+use Rattle.std.proofs.Common.{suc-add, ltb-false, leb-true, leb-false, eqb-true}
 use Rattle.std.proofs.lemmas.Bool.{eqb-false, not-false}
 use Rattle.table.specs.Format.{body_length, max_bytes}
 use Rattle.table.specs.Model.{Model}

@@ -1,5 +1,6 @@
 -- How long texts are: numbers by their digits, and texts put together.
-use Rattle.std.specs.Prelude.{ℕ, zero, suc, ◌+◌, ◌*◌, ◌/◌, ◌%◌, ◌^◌, ◌≤◌, ◌<◌, ◌≡◌, refl, Bool, true, false, cond, List, [], ◌∷◌, ◌++◌, ltb, length}
+use Rattle.std.specs.Prelude.{ℕ, zero, suc, ◌+◌, ◌*◌, ◌/◌, ◌%◌, ◌^◌, ◌≤◌, ◌<◌, ◌≡◌, refl, Bool, true, false, cond, List, [], ◌∷◌, ◌++◌, ltb}
+use Rattle.std.specs.Prelude.{length}
 use Rattle.std.proofs.Common.{div-lt_iff_lt-mul, pow-suc, mul-suc, arith, sym, subst, length-append, ltb-false}
 use Rattle.text.specs.Text.{digits_by, decimal, field, up_to}
 

@@ -1,6 +1,7 @@
 -- Bytes put one after the other: steps put together, and what a text holds in the end.
 use Rattle.std.specs.Prelude.{ℕ, zero, suc, ◌+◌, ◌-◌, ◌≤◌, ◌<◌, min, ◌≡◌, refl, List, [], ◌∷◌, ◌++◌, length, take, drop, set}
-use Rattle.std.proofs.Common.{add-one, arith, sym, ◌∙◌, ap, ap₂, subst, append_assoc, append-nil, length-append, length-set, take-append-drop, length-take-le, take_all, take-suc-set, drop-drop, drop-set-lt}
+use Rattle.std.proofs.Common.{add-one, arith, sym, ◌∙◌, ap, ap₂, subst, append_assoc, append-nil, length-append, length-set}
+use Rattle.std.proofs.Common.{take-append-drop, length-take-le, take_all, take-suc-set, drop-drop, drop-set-lt}
 use Rattle.std.proofs.lemmas.List.{take-append-le}
 use Rattle.text.specs.Writing.{Holds, Adds}
 

@@ -1,7 +1,9 @@
 -- For the code of the totals: counts one label at a time, lines one label at a time, and how long they are.
-use Rattle.std.specs.Prelude.{ℕ, suc, ◌+◌, ◌*◌, ◌≤◌, ◌<◌, ◌⊎◌, ◌≡◌, refl, Bool, true, false, cond, ◌||◌, eqb, length, get_or, take, set, replicate}
+use Rattle.std.specs.Prelude.{ℕ, suc, ◌+◌, ◌*◌, ◌≤◌, ◌<◌, ◌⊎◌, ◌≡◌, refl, Bool, true, false, cond, ◌||◌, eqb, length, get_or, take, set}
+use Rattle.std.specs.Prelude.{replicate}
 use Rattle.std.proofs.Math.Decide.{ℕ_discrete}
-use Rattle.std.proofs.Common.{add-one, arith, inl, inr, sym, ◌∙◌, ap, ap₂, subst, length-append, length-set, take-suc, take_all, get_or-set_same, get_or-set_other, eq-eqb, ne_eqb}
+use Rattle.std.proofs.Common.{add-one, arith, inl, inr, sym, ◌∙◌, ap, ap₂, subst, length-append, length-set, take-suc, take_all}
+use Rattle.std.proofs.Common.{get_or-set_same, get_or-set_other, eq-eqb, ne_eqb}
 use mathlib.Core.List.Memᴰ
 use mathlib.Core.List.{List, [], ◌∷◌, ◌++◌, map, Memᴰ}
 use Rattle.std.proofs.lemmas.List.{length-replicate, get_or-replicate}

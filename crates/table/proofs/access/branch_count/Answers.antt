@@ -1,0 +1,18 @@
+-- `branch_count` meets its contract: it is what `walk` gives. Assumes nothing.
+use mathlib.Core.Path.{◌∙◌, ap}
+use native.Mathlib.Omega.{arith}
+use Rattle.table.specs.Access.{passed, branch_count}
+use Rattle.table.specs.Laws.Reads.{branch-count-read}
+use Rattle.table.proofs.access.branch_count.Goals as goal
+
+pub returns : goal.returns
+unfolding branch_count
+returns c =
+    let args = c.args in
+    let shared-slice-known = c.type_inv.table in
+    let given = c.walk-w.ensures.1 ∙ ap (passed 6 8 args.table.now) c.branches_from.ensures in 
+    record {
+      value = given;
+      value_2 = λ m e reads. given
+          ∙ branch-count-read args.table.now m (λ i. omega (arith, shared-slice-known i)) args.place e reads;
+    }

@@ -1,0 +1,12 @@
+-- `read` meets its contract. The loop's invariant: reading on from here gives what reading from the start gives. The measure is
+-- what is left of the table. Assumes nothing.
+use Prim.Native.Nat.{◌-◌}
+use lib.ListN.{length}
+use Rattle.table.specs.Laws.Turns.{Underway}
+use Rattle.table.proofs.reading.read.Given as goal
+
+abbrev pub invariant-loop-number : goal.invariant-loop-number
+invariant-loop-number l = Underway l.table l.p l.at
+
+abbrev pub decreases-loop-number : goal.decreases-loop-number
+decreases-loop-number l = length l.table - l.at
