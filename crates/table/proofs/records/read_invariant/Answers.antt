@@ -80,7 +80,7 @@ returns c =
     let if4 = c.if-not-is_bound in
     let if5 = c.if-a-gt-MAX_CONSTANT in
     simp (
-      eq-eqb _ _ if1.left,
+      eq-eqb _ _ if1.false,
       lt-leb _ _ if2.false,
       lt-leb _ _ if3.false,
       le-ltb _ _
