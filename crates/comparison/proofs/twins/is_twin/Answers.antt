@@ -1,0 +1,66 @@
+-- `is_twin` meets its contract. Assumes nothing.
+use mathlib.Core.Path.{refl, sym, ◌∙◌}
+use borrow.Author.Tests.{not-false}
+use Rattle.bisimulation.specs.Laws.Tests.{clash}
+use Rattle.comparison.specs.Laws.Twins.{twin-next}
+use Rattle.comparison.proofs.twins.is_twin.Goals as goal
+
+pub returns-then-not-are_items : goal.returns-then-not-are_items
+returns-then-not-are_items c =
+    record {
+      y_value = λ t. absurd (clash t refl);
+      value = (λ h. refl, λ h. refl);
+    }
+
+pub returns-then-not-is_related : goal.returns-then-not-is_related
+returns-then-not-is_related c =
+    record {
+      y_value = λ t. absurd (clash t refl);
+      value = (λ h. refl, λ h. refl);
+    }
+
+pub returns-then-not-runs_alike : goal.returns-then-not-runs_alike
+returns-then-not-runs_alike c =
+    record {
+      y_value = λ t. absurd (clash t refl);
+      value = (λ h. refl, λ h. refl);
+    }
+
+pub may_be_paired-requires : goal.may_be_paired-requires
+may_be_paired-requires c =
+    let are-items = c.are_items in
+    let if1 = c.if-not-are_items in
+    are-items.ensures.k_le_most_edges (not-false are-items.result if1.false-raw)
+
+pub returns-then-not-may_be_paired : goal.returns-then-not-may_be_paired
+returns-then-not-may_be_paired c =
+    record {
+      y_value = λ t. absurd (clash t refl);
+      value = (λ h. refl, λ h. refl);
+    }
+
+pub are_paired-requires : goal.are_paired-requires
+are_paired-requires c =
+    let are-items = c.are_items in
+    let if1 = c.if-not-are_items in
+    are-items.ensures.k_le_most_edges (not-false are-items.result if1.false-raw)
+
+pub returns : goal.returns
+returns c =
+    let args = c.args in
+    let is-related = c.is_related in
+    let if2 = c.if-not-is_related in
+    let runs-alike = c.runs_alike in
+    let if3 = c.if-not-runs_alike in
+    let are-items = c.are_items in
+    let if1 = c.if-not-are_items in
+    let are-paired = c.are_paired in
+    let items = not-false are-items.result if1.false-raw in 
+    record {
+      y_value = λ t onward opened hx hy.
+          let same = sym is-related.ensures ∙ not-false is-related.result if2.false-raw in
+          twin-next args.n args.k args.list.now args.nexts.now args.flags.now args.resets.now args.spots.now args.rows.now args.x
+          args.y same (runs-alike.ensures (not-false runs-alike.result if3.false-raw) onward hx hy same)
+          (are-paired.ensures t args.n opened hx hy);
+      value = (λ h. absurd (clash items (are-items.ensures.value_2.0 h)), λ h. absurd (clash items (are-items.ensures.value_2.1 h)));
+    }
