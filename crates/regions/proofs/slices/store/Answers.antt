@@ -1,0 +1,10 @@
+-- `store` meets its contract. Assumes nothing.
+use mathlib.Core.Path.{sym}
+use Prim.Native.Nat.{◌%◌}
+use lib.Seq.{set_out}
+use Rattle.regions.proofs.slices.store.Goals as goal
+
+pub returns-else-at-list : goal.returns-else-at-list
+returns-else-at-list c =
+    let args = c.args in
+    sym (set_out args.list.now args.at (args.v % 65536) c.if-at-list.false)
