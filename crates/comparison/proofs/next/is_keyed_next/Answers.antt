@@ -94,22 +94,22 @@ returns-then-known-eq0 c =
     let items = not-false are-items.result if1.false-raw in 
     record {
       keys_len_unchanged = (
-        is-newly-keyed-next.ensures.keys_len_unchanged.0 ∙ known-key.ensures.0.0,
-        is-newly-keyed-next.ensures.keys_len_unchanged.1 ∙ known-key.ensures.0.1,
+        is-newly-keyed-next.ensures.keys_len_unchanged.0 ∙ known-key.ensures.keys_len_unchanged.0,
+        is-newly-keyed-next.ensures.keys_len_unchanged.1 ∙ known-key.ensures.keys_len_unchanged.1,
         λ i h.
-            is-newly-keyed-next.ensures.keys_len_unchanged.2 i h ∙ known-key.ensures.1.1.1 i h,
+            is-newly-keyed-next.ensures.keys_len_unchanged.2 i h ∙ known-key.ensures.asked_for.1 i h,
       );
       value = λ F equipped hx hy.
             let keyed = equipped.keyed in
-            let (one, known, shelved) = known-key.ensures.1.0 keyed.held.opened hx keyed.keyed equipped.shelved in
+            let (one, known, shelved) = known-key.ensures.value keyed.held.opened hx keyed.keyed equipped.shelved in
             is-newly-keyed-next.ensures.value F args.labels.now (record {
-              keyed = keyed-on keyed known-key.last.1.1.1.1.1.1.1.1.1.0
+              keyed = keyed-on keyed known-key.new.keys
                   known;
               shelved = shelved;
             }) hx hy one;
       both_asked = (
-            asked-both args.x args.y args.keys.now known-key.last.1.1.1.1.1.1.1.1.1.0 is-newly-keyed-next.new.keys
-                known-key.ensures.1.1.0 (is-newly-keyed-next.ensures.asked_for (sym at642.ensures ∙ if5.true)),
+            asked-both args.x args.y args.keys.now known-key.new.keys is-newly-keyed-next.new.keys
+                known-key.ensures.asked_for.0 (is-newly-keyed-next.ensures.asked_for (sym at642.ensures ∙ if5.true)),
             λ h. absurd (clash items
                 (are-items.ensures.value_2.0 h)),
             λ h. absurd (clash items (are-items.ensures.value_2.1 h)),
@@ -129,23 +129,23 @@ returns-then-one-known c =
     let if2 = c.if-shelf-lt129 in
     let items = not-false are-items.result if1.false-raw in 
     record {
-      keys_len_unchanged = (known-key.ensures.0.0, known-key.ensures.0.1, known-key.ensures.1.1.1);
+      keys_len_unchanged = (known-key.ensures.keys_len_unchanged.0, known-key.ensures.keys_len_unchanged.1, known-key.ensures.asked_for.1);
       value = λ F equipped hx hy.
             let keyed = equipped.keyed in
-            let (one, known, shelved) = known-key.ensures.1.0 keyed.held.opened hx keyed.keyed equipped.shelved in
-            let other = at642.ensures ∙ known-old args.n args.k args.names.now known-key.new.1.1.1.1.1.1.1.1.1.0 args.nexts.now
+            let (one, known, shelved) = known-key.ensures.value keyed.held.opened hx keyed.keyed equipped.shelved in
+            let other = at642.ensures ∙ known-old args.n args.k args.names.now known-key.new.keys args.nexts.now
             args.flags.now
             args.resets.now args.spots.now args.rows.now known args.y hy (λ none. if5.false (at642.ensures ∙ none)) in (
               sym (keys-part keyed args.x args.y known-key.result at642.result hx hy one other if6.true),
               record {
                 keyed = keyed-on keyed
-                    known-key.new.1.1.1.1.1.1.1.1.1.0 known;
+                    known-key.new.keys known;
                 shelved = shelved;
               },
             );
       both_asked = (
-            asked-both args.x args.y args.keys.now known-key.new.1.1.1.1.1.1.1.1.1.0 known-key.new.1.1.1.1.1.1.1.1.1.0
-                known-key.ensures.1.1.0
+            asked-both args.x args.y args.keys.now known-key.new.keys known-key.new.keys
+                known-key.ensures.asked_for.0
                 (λ z. inl refl),
             λ h. absurd (clash items (are-items.ensures.value_2.0 h)),
             λ h. absurd (clash items (are-items.ensures.value_2.1 h)),
@@ -163,20 +163,20 @@ returns c =
     let if2 = c.if-shelf-lt129 in
     let items = not-false are-items.result if1.false-raw in 
     record {
-      keys_len_unchanged = (known-key.ensures.0.0, known-key.ensures.0.1, known-key.ensures.1.1.1);
+      keys_len_unchanged = (known-key.ensures.keys_len_unchanged.0, known-key.ensures.keys_len_unchanged.1, known-key.ensures.asked_for.1);
       value = λ F equipped hx hy.
             let keyed = equipped.keyed in
-            let (_, known, shelved) = known-key.ensures.1.0 keyed.held.opened hx keyed.keyed equipped.shelved in (
+            let (_, known, shelved) = known-key.ensures.value keyed.held.opened hx keyed.keyed equipped.shelved in (
               is-next2.ensures.value F keyed.held keyed.closed keyed.below hx hy,
               record {
                 keyed = keyed-on keyed
-                    known-key.new.1.1.1.1.1.1.1.1.1.0 known;
+                    known-key.new.keys known;
                 shelved = shelved;
               },
             );
       both_asked = (
-            asked-both args.x args.y args.keys.now known-key.new.1.1.1.1.1.1.1.1.1.0 known-key.new.1.1.1.1.1.1.1.1.1.0
-                known-key.ensures.1.1.0
+            asked-both args.x args.y args.keys.now known-key.new.keys known-key.new.keys
+                known-key.ensures.asked_for.0
                 (λ z. inl refl),
             λ h. absurd (clash items (are-items.ensures.value_2.0 h)),
             λ h. absurd (clash items (are-items.ensures.value_2.1 h)),
