@@ -57,9 +57,9 @@ loop-f-preserved c =
           down-on (is_open args.flags.now args.y) (NoAnswer args.list.now args.flags.now args.resets.now args.spots.now args.rows.now args.x
           args.e args.y) args.k loop.f open-below2.result loop-test.true down
           (elim if1.branch [
-            then-at64-code+else-is_answer w ↦ answers-on args.list.now args.flags.now args.resets.now args.spots.now args.rows.now args.x args.e args.y
+            | then-at64-code+else-is_answer w ↦ answers-on args.list.now args.flags.now args.resets.now args.spots.now args.rows.now args.x args.e args.y
                 (loop.f - 1) ready ∙ sym w.is_answer.ensures ∙ w.if-is_answer.false
-          | else-at64-code w ↦ other-code args.k args.list.now args.flags.now args.resets.now args.spots.now args.rows.now args.x args.e
+            | else-at64-code w ↦ other-code args.k args.list.now args.flags.now args.resets.now args.spots.now args.rows.now args.x args.e
                 args.y args.code args.codes.now coded told (loop.f - 1) (omega (arith, loop.invariant.0, loop-test.true)) ready
                 (λ s. w.if-at64-code.false (at64.ensures ∙ s))
           ])

@@ -1,9 +1,8 @@
 -- `is_balanced_back` meets its contract. Assumes nothing.
-use Prim.Native.Nat.{ℕ, ◌-◌}
+use Prim.Native.Nat.{ℕ}
 use native.Mathlib.Omega.{arith}
 use mathlib.Core.Path.{refl, sym, ◌∙◌}
-use mathlib.Core.Bool.{true}
-use borrow.Author.Tests.{not-true, not-false}
+use borrow.Author.Tests.{not-true}
 use Rattle.comparison.specs.Held.{count_at, target_at}
 use Rattle.comparison.specs.Compare.{balanced, balanced_over}
 use Rattle.comparison.specs.Laws.Compare.{all-on, all-fails, all-over, balanced-into}
@@ -63,10 +62,10 @@ loop-i-preserved c =
           other there)
           (let at = number_at.ensures (omega (arith, loop-test.true, at16.ensures.0)) other in
           elim if1.branch [
-            then-not-is_into+else-not-is_balanced w ↦ sym (w.is_balanced.ensures target at one other) ∙ w.if-not-is_balanced.false
-          | else-not-is_into w ↦
-            let (i, h, same) = is-into.ensures w.if-not-is_into.false one in
-            balanced-into args.list.now args.resets.now args.spots.now args.rows.now args.x args.e args.y args.f target there (i, h, same ∙ at)
+            | then-not-is_into+else-not-is_balanced w ↦ sym (w.is_balanced.ensures target at one other) ∙ w.if-not-is_balanced.false
+            | else-not-is_into w ↦
+                let (i, h, same) = is-into.ensures w.if-not-is_into.false one in
+                balanced-into args.list.now args.resets.now args.spots.now args.rows.now args.x args.e args.y args.f target there (i, h, same ∙ at)
           ]),
     )
 

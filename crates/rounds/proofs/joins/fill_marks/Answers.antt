@@ -61,12 +61,12 @@ pub overflow_add-x : goal.overflow_add-x
 overflow_add-x c =
     let loop-test = c.loop-x-test in
     let pre = c.requires in
-    omega (arith, loop-test.taken, pre.1)
+    omega (arith, loop-test.true, pre.1)
 
 pub loop-x-smaller : goal.loop-x-smaller
 loop-x-smaller c =
     let loop-test = c.loop-x-test in
-    omega (arith, loop-test.taken)
+    omega (arith, loop-test.true)
 
 pub loop-x-preserved : goal.loop-x-preserved
 loop-x-preserved c =
@@ -78,27 +78,27 @@ loop-x-preserved c =
     let args = c.args in
     let pre = c.requires in
     let index_at = c.index_at in
-    let moved = is-joined.ensures.kins loop.inv.6 loop.inv.7 in (
-      is-joined.ensures.keys_len_unchanged.0 ∙ loop.inv.0,
-      ap length put-link.ensures ∙ length-set loop.marks loop.x mark_of.result ∙ loop.inv.1,
-      omega (arith, loop-test.taken),
-      is-joined.ensures.keys_len_unchanged.1 ∙ loop.inv.3,
-      is-joined.ensures.keys_len_unchanged.2 ∙ loop.inv.4,
-      is-joined.ensures.keys_len_unchanged.3 ∙ loop.inv.5,
+    let moved = is-joined.ensures.kins loop.invariant.6 loop.invariant.7 in (
+      is-joined.ensures.keys_len_unchanged.0 ∙ loop.invariant.0,
+      ap length put-link.ensures ∙ length-set loop.marks loop.x mark_of.result ∙ loop.invariant.1,
+      omega (arith, loop-test.true),
+      is-joined.ensures.keys_len_unchanged.1 ∙ loop.invariant.3,
+      is-joined.ensures.keys_len_unchanged.2 ∙ loop.invariant.4,
+      is-joined.ensures.keys_len_unchanged.3 ∙ loop.invariant.5,
       moved.0,
       moved.1,
       λ F keyed settled anchored step.
-          let (marked, known) = loop.inv.8 F keyed settled anchored step in
-          let (joins, known') = is-joined.ensures.value F known settled anchored step marked loop.inv.6 loop.inv.7 loop-test.taken in (
+          let (marked, known) = loop.invariant.8 F keyed settled anchored step in
+          let (joins, known') = is-joined.ensures.value F known settled anchored step marked loop.invariant.6 loop.invariant.7 loop-test.true in (
             rw put-link.ensures (marked-on (next F args.names.now) args.anchors.now args.old.now loop.marks loop.x
                 mark_of.result
-                (omega (arith, loop-test.taken, loop.inv.1, pre.0)) marked
+                (omega (arith, loop-test.true, loop.invariant.1, pre.0)) marked
                 (mark_of.ensures.1 (omega (
                   arith,
                   index_at.ensures,
-                  step.reps.rep loop.x loop-test.taken,
+                  step.reps.rep loop.x loop-test.true,
                   lead_low (related args.old.now) loop.x,
-                  loop-test.taken,
+                  loop-test.true,
                   keyed.held.few,
                 ))
                 ∙ ap₂ join_mark index_at.ensures joins)),

@@ -37,5 +37,5 @@ returns c =
       tags_len_unchanged = (name-round.ensures.tags_len_unchanged.0, name-round.ensures.tags_len_unchanged.1, stir.ensures.stirred_len_unchanged);
       named = name-round.ensures.named;
       followed = λ opened classed.
-            ((name-round.new.names).1.0, (name-round.ensures.changed, stir.ensures.stirred opened classed));
+            (name-round.new.changed, (name-round.ensures.changed, stir.ensures.stirred opened classed));
     }

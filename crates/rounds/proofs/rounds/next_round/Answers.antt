@@ -60,18 +60,18 @@ pub count_lead-count-requires : goal.count_lead-count-requires
 count_lead-count-requires c =
     let loop = c.loop-x in
     let pre = c.requires in
-    omega (arith, loop.inv.3, loop.inv.4, pre.1)
+    omega (arith, loop.invariant.3, loop.invariant.4, pre.1)
 
 pub overflow_add-x : goal.overflow_add-x
 overflow_add-x c =
     let loop-test = c.loop-x-test in
     let pre = c.requires in
-    omega (arith, loop-test.taken, pre.1)
+    omega (arith, loop-test.true, pre.1)
 
 pub loop-x-smaller : goal.loop-x-smaller
 loop-x-smaller c =
     let loop-test = c.loop-x-test in
-    omega (arith, loop-test.taken)
+    omega (arith, loop-test.true)
 
 pub loop-x-preserved : goal.loop-x-preserved
 loop-x-preserved c =
@@ -81,25 +81,25 @@ loop-x-preserved c =
     let count-lead = c.count_lead-count in
     let loop-test = c.loop-x-test in
     let args = c.args in (
-      next-lead.ensures.older_len_unchanged.2 ∙ loop.inv.0,
-      next-lead.ensures.older_len_unchanged.4 ∙ loop.inv.1,
-      ap length put-index.ensures ∙ length-set loop.new loop.x next-lead.result ∙ loop.inv.2,
-      omega (arith, count-lead.ensures.1, loop.inv.3),
-      omega (arith, loop-test.taken),
-      next-lead.ensures.older_len_unchanged.3 ∙ loop.inv.5,
-      next-lead.ensures.older_len_unchanged.0 ∙ loop.inv.6,
-      next-lead.ensures.older_len_unchanged.1 ∙ loop.inv.7,
-      (next-lead.ensures.kins loop.inv.8 loop.inv.9).0,
-      (next-lead.ensures.kins loop.inv.8 loop.inv.9).1,
+      next-lead.ensures.older_len_unchanged.2 ∙ loop.invariant.0,
+      next-lead.ensures.older_len_unchanged.4 ∙ loop.invariant.1,
+      ap length put-index.ensures ∙ length-set loop.new loop.x next-lead.result ∙ loop.invariant.2,
+      omega (arith, count-lead.ensures.1, loop.invariant.3),
+      omega (arith, loop-test.true),
+      next-lead.ensures.older_len_unchanged.3 ∙ loop.invariant.5,
+      next-lead.ensures.older_len_unchanged.0 ∙ loop.invariant.6,
+      next-lead.ensures.older_len_unchanged.1 ∙ loop.invariant.7,
+      (next-lead.ensures.kins loop.invariant.8 loop.invariant.9).0,
+      (next-lead.ensures.kins loop.invariant.8 loop.invariant.9).1,
       λ F keyed sorted.
-          let (chains, led, known) = loop.inv.10 F keyed sorted in
-          let (e, chains', known') = next-lead.ensures.value F known sorted chains led.reps loop.inv.8 loop.inv.9 in (
+          let (chains, led, known) = loop.invariant.10 F keyed sorted in
+          let (e, chains', known') = next-lead.ensures.value F known sorted chains led.reps loop.invariant.8 loop.invariant.9 in (
             chains',
             rw (put-index.ensures, count-lead.ensures.0)
                 (led_on (next F args.names.now) loop.new loop.x next-lead.result loop.count (omega (
                   arith,
-                  loop-test.taken,
-                  loop.inv.2,
+                  loop-test.true,
+                  loop.invariant.2,
                 )) led e),
             known',
           ),

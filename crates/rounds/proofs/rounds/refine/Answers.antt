@@ -31,24 +31,24 @@ make_round-more-requires c =
 pub shape_of-tags-then-more-count : goal.shape_of-tags-then-more-count
 shape_of-tags-then-more-count c =
     let loop = c.loop-count in
-    loop.inv.0
+    loop.invariant.0
 
 pub shape_of-names-then-more-count : goal.shape_of-names-then-more-count
 shape_of-names-then-more-count c =
     let loop = c.loop-count in
-    loop.inv.1
+    loop.invariant.1
 
 pub shape_of-stirred-then-more-count : goal.shape_of-stirred-then-more-count
 shape_of-stirred-then-more-count c =
     let loop = c.loop-count in
-    loop.inv.2
+    loop.invariant.2
 
 pub shape_of-keys-then-more-count : goal.shape_of-keys-then-more-count
 shape_of-keys-then-more-count c =
     let make-round = c.make_round-more in
     let forget-keys = c.forget_keys in
     let loop = c.loop-count in
-    make-round.ensures.keys_len_unchanged.0 ∙ forget-keys.ensures.keys_len_unchanged ∙ loop.inv.3
+    make-round.ensures.keys_len_unchanged.0 ∙ forget-keys.ensures.keys_len_unchanged ∙ loop.invariant.3
 
 pub shape_of-first-then-more-count : goal.shape_of-first-then-more-count
 shape_of-first-then-more-count c =
@@ -60,7 +60,7 @@ pub shape_of-second-then-more-count : goal.shape_of-second-then-more-count
 shape_of-second-then-more-count c =
     let loop = c.loop-count in
     let pre = c.requires in
-    loop.inv.5 ∙ sym pre.first_len.1
+    loop.invariant.5 ∙ sym pre.first_len.1
 
 pub returns-then-more-count : goal.returns-then-more-count
 returns-then-more-count c =
@@ -70,9 +70,9 @@ returns-then-more-count c =
     let forget-keys = c.forget_keys in
     let if1 = c.if-more-count in 
     record {
-      first_len_2 = (make-round.ensures.keys_len_unchanged.1, loop.inv.5);
+      first_len_2 = (make-round.ensures.keys_len_unchanged.1, loop.invariant.5);
       rested = λ F held closed classed t p.
-          let (t', p') = loop.inv.8 F held closed classed t p in
+          let (t', p') = loop.invariant.8 F held closed classed t p in
           let step = turned-step F closed loop.second loop.count loop.made t' args.n held.size in
           let keyed = prepared-keyed held closed step p' forget-keys.new.keys forget-keys.ensures.forgotten in
           let (led, _) = make-round.ensures.led F keyed (prepared-step held closed step p') (prepared-settled held closed
@@ -87,22 +87,22 @@ follow_round-requires c =
     let loop = c.loop-count in (
       pre.first_len.2,
       pre.first_len.3,
-      omega (arith, pre.n_in_bounds.0, loop.inv.0),
-      omega (arith, pre.n_in_bounds.1, loop.inv.1),
-      omega (arith, pre.n_in_bounds.2, loop.inv.2),
+      omega (arith, pre.n_in_bounds.0, loop.invariant.0),
+      omega (arith, pre.n_in_bounds.1, loop.invariant.1),
+      omega (arith, pre.n_in_bounds.2, loop.invariant.2),
     )
 
 pub copy-requires : goal.copy-requires
 copy-requires c =
     let make-round = c.make_round-more in
     let loop = c.loop-count in
-    (make-round.ensures.keys_len_unchanged.1, loop.inv.5)
+    (make-round.ensures.keys_len_unchanged.1, loop.invariant.5)
 
 pub overflow_add-made : goal.overflow_add-made
 overflow_add-made c =
     let loop = c.loop-count in
     let pre = c.requires in
-    omega (arith, loop.inv.7, loop.inv.6, pre.first_len.2)
+    omega (arith, loop.invariant.7, loop.invariant.6, pre.first_len.2)
 
 pub loop-count-smaller : goal.loop-count-smaller
 loop-count-smaller c =
@@ -119,16 +119,16 @@ loop-count-preserved c =
     let copy = c.copy in
     let if1 = c.if-more-count in
     let args = c.args in (
-      follow-round.ensures.tags_len_unchanged.0 ∙ loop.inv.0,
-      follow-round.ensures.tags_len_unchanged.1 ∙ loop.inv.1,
-      follow-round.ensures.tags_len_unchanged.2 ∙ loop.inv.2,
-      make-round.ensures.keys_len_unchanged.0 ∙ forget-keys.ensures.keys_len_unchanged ∙ loop.inv.3,
+      follow-round.ensures.tags_len_unchanged.0 ∙ loop.invariant.0,
+      follow-round.ensures.tags_len_unchanged.1 ∙ loop.invariant.1,
+      follow-round.ensures.tags_len_unchanged.2 ∙ loop.invariant.2,
+      make-round.ensures.keys_len_unchanged.0 ∙ forget-keys.ensures.keys_len_unchanged ∙ loop.invariant.3,
       make-round.ensures.keys_len_unchanged.1,
       ap length copy.ensures ∙ make-round.ensures.keys_len_unchanged.1,
       make-round.ensures.keys_len_unchanged.2,
-      omega (arith, if1.false, loop.inv.7),
+      omega (arith, if1.false, loop.invariant.7),
       λ F held closed classed t p.
-          let (t', p') = loop.inv.8 F held closed classed t p in
+          let (t', p') = loop.invariant.8 F held closed classed t p in
           let step = turned-step F closed loop.second loop.count loop.made t' args.n held.size in
           let keyed = prepared-keyed held closed step p' forget-keys.new.keys forget-keys.ensures.forgotten in
           let stepped = prepared-step held closed step p' in

@@ -97,10 +97,10 @@ returns c =
           (turned-first F closed args.labels.now first_round.new.list args.n first_round.result held.size held.label led)
           (prepared-first held closed first_round.new.list first-names.new.tags first-names.new.names
           (replicate 4096 0) (replicate 4096 1) named (λ x h. get_or-replicate {A = ℕ} 4096 x 1 0 (omega (arith, h, pre.2)))) in (
-            number-blocks.ensures.list_after (last-own F closed (refine.new.order).1.1.1.1.1.1.1.1.1.1.1.0 args.n held.size rested.first)
-                ∙ last-numbered F closed (refine.new.order).1.1.1.1.1.1.1.1.1.1.1.0 args.n held.size rested.first,
-            number-blocks2.ensures.list_after (last-own F closed (refine.new.order).1.1.1.1.1.1.1.1.1.1.1.1.0 args.n held.size rested.second)
-                ∙ last-numbered F closed (refine.new.order).1.1.1.1.1.1.1.1.1.1.1.1.0 args.n held.size rested.second,
+            number-blocks.ensures.list_after (last-own F closed refine.new.first args.n held.size rested.first)
+                ∙ last-numbered F closed refine.new.first args.n held.size rested.first,
+            number-blocks2.ensures.list_after (last-own F closed refine.new.second args.n held.size rested.second)
+                ∙ last-numbered F closed refine.new.second args.n held.size rested.second,
             rested.counted,
             rested.made,
           );
