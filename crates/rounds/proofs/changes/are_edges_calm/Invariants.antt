@@ -1,5 +1,5 @@
 -- `are_edges_calm` meets its contract. Assumes nothing.
-use Prim.Native.Nat.{ℕ, ◌-◌, ◌<◌, ◌≤◌}
+use Prim.Native.Nat.{ℕ, ◌<◌, ◌≤◌}
 use Rattle.comparison.specs.Held.{is_open, Opened}
 use Rattle.rounds.specs.Changes.{EdgeCalm}
 use Rattle.comparison.specs.Laws.Down.{Down}

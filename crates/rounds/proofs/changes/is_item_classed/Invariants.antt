@@ -1,5 +1,5 @@
 -- `is_item_classed` meets its contract. Assumes nothing.
-use Prim.Native.Nat.{◌-◌, ◌<◌, ◌≤◌}
+use Prim.Native.Nat.{◌<◌, ◌≤◌}
 use Rattle.comparison.specs.Held.{is_open, Opened}
 use Rattle.rounds.specs.Changes.{EdgeClassed}
 use Rattle.comparison.specs.Laws.Down.{Down}

@@ -1,5 +1,4 @@
 -- `mark_still` meets its contract. Assumes nothing.
-use Prim.Native.Nat.{◌-◌}
 use mathlib.Core.Path.{refl, ◌∙◌, ap}
 use lib.ListN.{length, length-set}
 use Rattle.rounds.proofs.changes.mark_still.Goals as goal

@@ -1,5 +1,4 @@
 -- `place_all` meets its contract. Assumes nothing.
-use Prim.Native.Nat.{◌-◌}
 use native.Mathlib.Omega.{arith}
 use mathlib.Core.Path.{refl, ◌∙◌}
 use Rattle.rounds.proofs.changes.place_all.Goals as goal

@@ -7,7 +7,7 @@ returns c =
     let stir-touched = c.stir_touched in
     let args = c.args in
     let mark-masks = c.mark_masks in
-    let mark-classes = c.mark_classes in 
+    let mark-classes = c.mark_classes in
     record {
       stirred_len_unchanged = stir-touched.ensures.stirred_len_unchanged;
       spared = λ opened. rests-spared args.n args.k args.changed.now args.flags.now args.resets.now args.spots.now

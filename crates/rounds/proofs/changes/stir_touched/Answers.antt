@@ -1,5 +1,5 @@
 -- `stir_touched` meets its contract. Assumes nothing.
-use Prim.Native.Nat.{ℕ, ◌-◌}
+use Prim.Native.Nat.{ℕ}
 use native.Mathlib.Omega.{arith}
 use mathlib.Core.Path.{refl, ◌∙◌, ap}
 use lib.ListN.{length, get_or, length-set}
@@ -53,7 +53,7 @@ pub returns : goal.returns
 returns c =
     let loop = c.loop-x in
     let args = c.args in
-    let loop-test = c.loop-x-test in 
+    let loop-test = c.loop-x-test in
     record {
       stirred_len_unchanged = loop.invariant.0;
       rests = λ opened. each_over (λ (y : ℕ). RestsAt args.k args.changed.now args.flags.now args.resets.now args.spots.now

@@ -1,5 +1,5 @@
 -- `fill_marks` meets its contract. Assumes nothing.
-use Prim.Native.Nat.{ℕ, ◌-◌}
+use Prim.Native.Nat.{ℕ}
 use native.Mathlib.Omega.{arith}
 use mathlib.Core.Path.{refl, sym, ◌∙◌, ap, ap₂, subst}
 use lib.ListN.{length, replicate, length-set, length-replicate}
@@ -121,7 +121,7 @@ returns c =
     let loop = c.loop-x in
     let args = c.args
     in
-    let loop-test = c.loop-x-test in 
+    let loop-test = c.loop-x-test in
     record {
       keys_len_unchanged = (loop.invariant.0, loop.invariant.1);
       marked_to = λ F keyed settled anchored step.

@@ -1,5 +1,5 @@
 -- `find_anchors` meets its contract. Assumes nothing.
-use Prim.Native.Nat.{ℕ, ◌-◌}
+use Prim.Native.Nat.{ℕ}
 use native.Mathlib.Omega.{arith}
 use mathlib.Core.Path.{refl, ◌∙◌, subst}
 use Rattle.bisimulation.specs.Finite.{related}
@@ -49,7 +49,7 @@ shape_of-anchors c =
 pub returns : goal.returns
 returns c =
     let loop = c.loop-x in
-    let args = c.args in 
+    let args = c.args in
     record {
       anchors_len_unchanged = loop.invariant.0;
       anchored = λ reps. subst (λ (i : ℕ). Anchored i args.old.now args.stirred.now loop.anchors) (omega (

@@ -10,7 +10,7 @@ use Rattle.rounds.proofs.joins.place_anchor.Goals as goal
 pub returns-then-not-is_clear : goal.returns-then-not-is_clear
 returns-then-not-is_clear c =
     let args = c.args in
-    let is-clear = c.is_clear in 
+    let is-clear = c.is_clear in
     record {
       anchors_len_unchanged = refl;
       anchored = λ long anchored. anchored-stirred args.old.now args.stirred.now args.anchors.now args.x anchored
@@ -21,7 +21,7 @@ pub returns-then-at16-gt0 : goal.returns-then-at16-gt0
 returns-then-at16-gt0 c =
     let args = c.args in
     let at16 = c.at16 in
-    let index_at = c.index_at-block in 
+    let index_at = c.index_at-block in
     record {
       anchors_len_unchanged = refl;
       anchored = λ long anchored. anchored-known args.old.now args.stirred.now args.anchors.now args.x anchored (λ z. omega (
@@ -38,7 +38,7 @@ returns c =
     let args = c.args in
     let index_at = c.index_at-block in
     let is-clear = c.is_clear in
-    let if1 = c.if-not-is_clear in 
+    let if1 = c.if-not-is_clear in
     record {
       anchors_len_unchanged = ap length put-link.ensures ∙ length-set args.anchors.now index_at.result (args.x + 1);
       anchored = λ long anchored. rw put-link.ensures (anchored-new args.old.now args.stirred.now args.anchors.now args.x anchored

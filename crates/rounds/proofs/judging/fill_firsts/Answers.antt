@@ -1,5 +1,4 @@
 -- `fill_firsts` meets its contract. Assumes nothing.
-use Prim.Native.Nat.{◌-◌}
 use native.Mathlib.Omega.{arith}
 use mathlib.Core.Path.{refl, sym, ◌∙◌, ap}
 use lib.ListN.{length, length-set}
@@ -59,7 +58,7 @@ shape_of-firsts c =
 pub returns : goal.returns
 returns c =
     let loop = c.loop-x in
-    let loop-test = c.loop-x-test in 
+    let loop-test = c.loop-x-test in
     record {
       firsts_len_unchanged = loop.invariant.1;
       reps = record { rep = λ z h. loop.invariant.2.rep z (omega (arith, h, loop-test.false)) };

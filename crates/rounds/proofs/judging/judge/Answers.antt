@@ -23,7 +23,7 @@ pub returns : goal.returns
 returns c =
     let list-firsts = c.list_firsts in
     let args = c.args in
-    let if1 = c.if-n-gt4096 in 
+    let if1 = c.if-n-gt4096 in
     record {
       value = λ F held closed.
           let reps = list-firsts.ensures.reps in

@@ -1,6 +1,6 @@
 -- `find_kin` meets its contract. Assumes nothing.
 use mathlib.Core.Path.{◌≡◌}
-use Prim.Native.Nat.{ℕ, suc, ◌-◌, ◌<◌}
+use Prim.Native.Nat.{ℕ, suc, ◌<◌}
 use Rattle.rounds.specs.Rounds.{Kins}
 use Rattle.rounds.proofs.kins.find_kin.Given as goal
 

@@ -23,7 +23,7 @@ returns-then-at64-ne0 c =
     let put-link = c.put_link in
     let put-link2 = c.put_link-then-at64-ne0 in
     let at16 = c.at16 in
-    let args = c.args in 
+    let args = c.args in
     record {
       older_len_unchanged = (
         ap length put-link.ensures ∙ length-set args.older.now args.x at16.result,
@@ -38,7 +38,7 @@ returns-then-at64-ne0 c =
 
 pub returns-else-at64-ne0 : goal.returns-else-at64-ne0
 returns-else-at64-ne0 c =
-    let args = c.args in 
+    let args = c.args in
     record {
       older_len_unchanged = (refl, refl);
       kins = λ olds kins. (kins-kept args.older.now args.x olds, kins-kept args.kins.now args.x kins);

@@ -1,5 +1,5 @@
 -- `sign_of` meets its contract. Assumes nothing.
-use Prim.Native.Nat.{◌<◌, ◌≤◌, ◌-◌}
+use Prim.Native.Nat.{◌<◌, ◌≤◌}
 use Rattle.rounds.proofs.kins.sign_of.Given as goal
 
 abbrev pub invariant-loop-e : goal.invariant-loop-e

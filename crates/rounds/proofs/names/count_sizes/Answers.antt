@@ -1,6 +1,5 @@
 -- `count_sizes` meets its contract. Assumes nothing.
 use mathlib.Core.Path.{refl, ◌∙◌}
-use Prim.Native.Nat.{◌-◌}
 use Rattle.rounds.proofs.names.count_sizes.Goals as goal
 
 pub loop-x-init : goal.loop-x-init

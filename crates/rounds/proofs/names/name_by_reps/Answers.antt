@@ -3,7 +3,6 @@ use Rattle.rounds.specs.Laws.Rounds.{copied_on}
 use native.Mathlib.Omega.{arith}
 use lib.ListN.{length, length-set}
 use mathlib.Core.Path.{refl, ◌∙◌, ap}
-use Prim.Native.Nat.{◌-◌}
 use Rattle.rounds.proofs.names.name_by_reps.Goals as goal
 
 pub loop-x-init : goal.loop-x-init
@@ -29,7 +28,7 @@ shape_of-names c =
 
 pub returns : goal.returns
 returns c =
-    let loop = c.loop-x in 
+    let loop = c.loop-x in
     record {
       names_len_unchanged = loop.invariant.0;
       by_index = λ x h. loop.invariant.1 x (omega (arith, c.loop-x-test.false, h));

@@ -3,7 +3,6 @@ use Rattle.rounds.specs.Laws.Names.{own_on}
 use native.Mathlib.Omega.{arith}
 use lib.ListN.{length, length-set}
 use mathlib.Core.Path.{refl, ◌∙◌, ap}
-use Prim.Native.Nat.{◌-◌}
 use Rattle.rounds.proofs.names.own_tags.Goals as goal
 
 pub loop-l-init : goal.loop-l-init
@@ -32,7 +31,7 @@ shape_of-tags c =
 
 pub returns : goal.returns
 returns c =
-    let loop = c.loop-l in 
+    let loop = c.loop-l in
     record {
       tags_len_unchanged = loop.invariant.0;
       by_index = λ l h. loop.invariant.1 l (omega (arith, c.loop-l-test.false, h));

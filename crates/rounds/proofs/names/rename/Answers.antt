@@ -3,7 +3,7 @@ use Rattle.rounds.specs.Laws.Names.{renamed-none, renamed-on}
 use native.Mathlib.Omega.{arith}
 use lib.ListN.{length, length-set, get_or}
 use mathlib.Core.Path.{refl, ◌∙◌, ap}
-use Prim.Native.Nat.{ℕ, ◌-◌}
+use Prim.Native.Nat.{ℕ}
 use Rattle.rounds.proofs.names.rename.Goals as goal
 
 pub loop-x-init : goal.loop-x-init
@@ -43,7 +43,7 @@ shape_of-changed c =
 
 pub returns : goal.returns
 returns c =
-    let loop = c.loop-x in 
+    let loop = c.loop-x in
     record {
       names_len_unchanged = (loop.invariant.0, loop.invariant.1);
       by_index = λ x h. loop.invariant.2.done x (omega (arith, c.loop-x-test.false, h));

@@ -9,7 +9,7 @@ use Rattle.rounds.proofs.names.tag_leader.Goals as goal
 pub returns-then-index_at-x : goal.returns-then-index_at-x
 returns-then-index_at-x c =
     let args = c.args in
-    let index_at = c.index_at in 
+    let index_at = c.index_at in
     record {
       holders_len_unchanged = (refl, refl);
       by_index = λ n hx long tagged.
@@ -20,7 +20,7 @@ returns-then-index_at-x c =
 pub returns-then-lead-x : goal.returns-then-lead-x
 returns-then-lead-x c =
     let args = c.args in
-    let index-at2 = c.index_at-lead in 
+    let index-at2 = c.index_at-lead in
     record {
       holders_len_unchanged = (refl, refl);
       by_index = λ n hx long tagged.
@@ -36,7 +36,7 @@ returns c =
     let index_at = c.index_at in
     let if1 = c.if-index_at-x in
     let if2 = c.if-lead-x in
-    let index-at2 = c.index_at-lead in 
+    let index-at2 = c.index_at-lead in
     record {
       holders_len_unchanged = (take-tag.ensures.holders_len_unchanged.0, take-tag.ensures.holders_len_unchanged.1 ∙ ap length put-link.ensures ∙ length-set args.tags.now args.x args.x);
       by_index = λ n hx long tagged.

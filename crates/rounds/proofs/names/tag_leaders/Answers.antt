@@ -2,7 +2,6 @@
 use Rattle.rounds.specs.Laws.Names.{tagged-start, tagged-over}
 use native.Mathlib.Omega.{arith}
 use mathlib.Core.Path.{refl, ◌∙◌}
-use Prim.Native.Nat.{◌-◌}
 use Rattle.rounds.proofs.names.tag_leaders.Goals as goal
 
 pub loop-x-init : goal.loop-x-init
@@ -41,7 +40,7 @@ shape_of-tags c =
 pub returns : goal.returns
 returns c =
     let loop = c.loop-x in
-    let args = c.args in 
+    let args = c.args in
     record {
       holders_len_unchanged = (loop.invariant.0, loop.invariant.1);
       tagged = λ kept tagged. tagged-over args.n args.old.now args.new.now loop.tags loop.x c.loop-x-test.false (loop.invariant.2 kept tagged);

@@ -15,7 +15,7 @@ returns-then-outgrows c =
     let swap-tags = c.swap_tags in
     let holder-of = c.holder_of-holder in
     let outgrows = c.outgrows in
-    let if1 = c.if-outgrows in 
+    let if1 = c.if-outgrows in
     record {
       holders_len_unchanged = (
         ap length put-link.ensures ∙ length-set args.holders.now args.lead (args.x + 1),

@@ -5,7 +5,6 @@ use Rattle.bisimulation.specs.Laws.Leads.{related-equivalence}
 use native.Mathlib.Omega.{arith}
 use mathlib.Core.Path.{sym, ◌∙◌, ap}
 use lib.ListN.{length, length-set}
-use Prim.Native.Nat.{◌-◌}
 use Rattle.rounds.proofs.numbering.number_blocks.Goals as goal
 
 pub loop-i-init : goal.loop-i-init
@@ -53,7 +52,7 @@ shape_of-list c =
 pub returns : goal.returns
 returns c =
     let loop = c.loop-i in
-    let args = c.args in 
+    let args = c.args in
     record {
       list_len = loop.invariant.0;
       list_after = λ reps. numbered-over args.n (related args.list.now) (related-equivalence args.n

@@ -3,7 +3,6 @@ use Rattle.rounds.specs.Laws.Rounds.{copied_on, copied-over}
 use native.Mathlib.Omega.{arith}
 use mathlib.Core.Path.{sym, ◌∙◌, ap}
 use lib.ListN.{length, length-set}
-use Prim.Native.Nat.{◌-◌}
 use Rattle.rounds.proofs.rounds.copy.Goals as goal
 
 pub loop-i-init : goal.loop-i-init

@@ -4,7 +4,6 @@ use Rattle.bisimulation.specs.Finite.{next}
 use native.Mathlib.Omega.{arith}
 use mathlib.Core.Path.{refl, sym, ◌∙◌}
 use mathlib.Core.Bool.{true≢false}
-use Prim.Native.Nat.{◌-◌}
 use Rattle.rounds.proofs.rounds.find_lead.Goals as goal
 
 pub loop-n-init : goal.loop-n-init
@@ -36,7 +35,7 @@ returns-then-is_keyed_next c =
     let is-keyed-next = c.is_keyed_next in
     let loop = c.loop-n in
     let args = c.args in
-    let if1 = c.if-is_keyed_next in 
+    let if1 = c.if-is_keyed_next in
     record {
       keys_len_unchanged = (is-keyed-next.ensures.keys_len_unchanged.0 ∙ loop.invariant.0, is-keyed-next.ensures.keys_len_unchanged.1 ∙ loop.invariant.1);
       searched = λ F equipped step chains hx e h.
@@ -73,7 +72,7 @@ returns-then-link-y c =
     let args = c.args in
     let at16 = c.at16-link in
     let if1 = c.if-is_keyed_next in
-    let if2 = c.if-link-y in 
+    let if2 = c.if-link-y in
     record {
       keys_len_unchanged = (is-keyed-next.ensures.keys_len_unchanged.0 ∙ loop.invariant.0, is-keyed-next.ensures.keys_len_unchanged.1 ∙ loop.invariant.1);
       searched = λ F equipped step chains hx e h.

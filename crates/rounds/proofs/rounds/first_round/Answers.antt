@@ -1,13 +1,13 @@
 -- `first_round` meets its contract. Assumes nothing.
 use lib.ListN.{length-replicate, get_or-replicate, replicate}
-use Prim.Native.Nat.{ℕ, ◌-◌}
+use Prim.Native.Nat.{ℕ}
 use Rattle.rounds.specs.Laws.Rounds.{seen_none}
 use Rattle.rounds.proofs.rounds.first_round.Goals as goal
 
 pub lead_labels-requires : goal.lead_labels-requires
 lead_labels-requires c =
     let pre = c.requires in
-    let args = c.args in 
+    let args = c.args in
     record {
       n_in_bounds = pre;
       seen_len = (

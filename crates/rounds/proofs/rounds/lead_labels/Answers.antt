@@ -5,7 +5,7 @@ use Rattle.bisimulation.specs.Finite.{related}
 use native.Mathlib.Omega.{arith}
 use mathlib.Core.Path.{refl, sym, ◌∙◌, ap, subst}
 use lib.ListN.{length, length-set}
-use Prim.Native.Nat.{ℕ, ◌-◌, ◌+◌}
+use Prim.Native.Nat.{ℕ, ◌+◌}
 use Rattle.rounds.proofs.rounds.lead_labels.Goals as goal
 
 pub loop-i-init : goal.loop-i-init
@@ -84,7 +84,7 @@ shape_of-list c =
 pub returns : goal.returns
 returns c =
     let loop = c.loop-i in
-    let args = c.args in 
+    let args = c.args in
     record {
       list_len_unchanged = (loop.invariant.0, omega (arith, loop.invariant.2, loop.invariant.3));
       led = subst (λ (k : ℕ). Led (related args.labels.now)

@@ -9,7 +9,7 @@ use Rattle.rounds.proofs.rounds.make_round.Goals as goal
 
 pub find_anchors-requires : goal.find_anchors-requires
 find_anchors-requires c =
-    let pre = c.requires in 
+    let pre = c.requires in
     record {
       n_le_most_items = (pre.1, omega (arith, pre.1, length-replicate {A = ℕ} 4096 0));
       by_index = λ b. zeros-at 4096 b;
@@ -31,7 +31,7 @@ returns c =
     let fill-marks = c.fill_marks in
     let find-anchors = c.find_anchors in
     let args = c.args in
-    let first_round = c.first_round in 
+    let first_round = c.first_round in
     record {
       keys_len_unchanged = (next-round.ensures.keys_len_unchanged.0 ∙ fill-marks.ensures.keys_len_unchanged.0, next-round.ensures.keys_len_unchanged.2, next-round.ensures.keys_len_unchanged.3);
       led = λ F keyed step settled.

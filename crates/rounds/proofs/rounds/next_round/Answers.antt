@@ -5,7 +5,7 @@ use Rattle.bisimulation.specs.Finite.{related, next}
 use native.Mathlib.Omega.{arith}
 use mathlib.Core.Path.{refl, sym, ◌∙◌, ap, subst}
 use lib.ListN.{length, length-set, length-replicate, replicate}
-use Prim.Native.Nat.{ℕ, ◌-◌}
+use Prim.Native.Nat.{ℕ}
 use Rattle.rounds.specs.Laws.Rounds.{kins-none, chains-none, led-none, led_on}
 use Rattle.rounds.specs.Laws.Joins.{zeros-at}
 use Rattle.rounds.proofs.rounds.next_round.Goals as goal
@@ -126,7 +126,7 @@ returns c =
     let loop = c.loop-x in
     let args = c.args
     in
-    let loop-test = c.loop-x-test in 
+    let loop-test = c.loop-x-test in
     record {
       keys_len_unchanged = (loop.invariant.0, loop.invariant.1, loop.invariant.2, omega (arith, loop.invariant.3, loop.invariant.4));
       led = λ F keyed sorted.

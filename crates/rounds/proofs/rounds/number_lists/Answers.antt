@@ -11,7 +11,7 @@ use Rattle.rounds.proofs.rounds.number_lists.Goals as goal
 pub returns-then-not-is_roomy : goal.returns-then-not-is_roomy
 returns-then-not-is_roomy c =
     let is-roomy = c.is_roomy in
-    let if1 = c.if-not-is_roomy in 
+    let if1 = c.if-not-is_roomy in
     record {
       first_after = λ F held closed one two. absurd (clash (is-roomy.ensures.1 held.few one two) (not-true is-roomy.result if1.true-raw));
       first_unchanged = (refl, refl, λ _. (refl, refl, refl, refl));
@@ -55,7 +55,7 @@ returns c =
     let args = c.args in
     let is-roomy = c.is_roomy in
     let if1 = c.if-not-is_roomy in
-    let run-rounds = c.run_rounds in 
+    let run-rounds = c.run_rounds in
     record {
       first_after = λ F held closed one two.
           let done = run-rounds.ensures.first_after F held closed in (

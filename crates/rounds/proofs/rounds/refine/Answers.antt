@@ -3,9 +3,7 @@ use Rattle.bisimulation.specs.Finite.{next}
 use Rattle.bisimulation.specs.Laws.Leads.{reps-own}
 use native.Mathlib.Omega.{arith}
 use mathlib.Core.Path.{refl, sym, ◌∙◌, ap}
-use mathlib.Core.Bool.{true}
 use lib.ListN.{length}
-use Prim.Native.Nat.{◌-◌}
 use Rattle.rounds.specs.Laws.Rounds.{turned-step, turned_on, turned-over}
 use Rattle.rounds.specs.Laws.Names.{leaders-kept}
 use Rattle.rounds.specs.Laws.Prepared.{prepared-step, prepared-settled, prepared-keyed, prepared-led, prepared-on}
@@ -68,7 +66,7 @@ returns-then-more-count c =
     let loop = c.loop-count in
     let args = c.args in
     let forget-keys = c.forget_keys in
-    let if1 = c.if-more-count in 
+    let if1 = c.if-more-count in
     record {
       first_len_2 = (make-round.ensures.keys_len_unchanged.1, loop.invariant.5);
       rested = λ F held closed classed t p.

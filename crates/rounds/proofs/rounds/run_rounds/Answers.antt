@@ -11,7 +11,7 @@ use Rattle.rounds.proofs.rounds.run_rounds.Goals as goal
 
 pub returns-then-k-gt128 : goal.returns-then-k-gt128
 returns-then-k-gt128 c =
-    let pre = c.requires in 
+    let pre = c.requires in
     record {
       first_len = (pre.0, pre.1);
       first_after = λ F held closed. absurd (omega (arith, held.few-edges, c.if-k-gt128.true));
@@ -39,7 +39,7 @@ refine-counted-requires c =
     let pre = c.requires in
     let first_round = c.first_round-blocks in
     let if1 = c.if-k-gt128 in
-    let first-names = c.first_names in 
+    let first-names = c.first_names in
     record {
       first_len = (pre.0, first_round.ensures.list_len_unchanged.0 ∙ pre.1, pre.2, omega (arith, if1.false), first_round.ensures.list_len_unchanged.1);
       n_in_bounds = (
@@ -88,7 +88,7 @@ returns c =
     let args = c.args in
     let refine = c.refine-counted in
     let is-classed = c.is_classed-classed in
-    let pre = c.requires in 
+    let pre = c.requires in
     record {
       first_len = (number-blocks.ensures.list_len, number-blocks2.ensures.list_len);
       first_after = λ F held closed. let led = first_round.ensures.led in

@@ -10,7 +10,7 @@ returns-then-found c =
     let find-lead = c.find_lead-found in
     let args = c.args in
     let pre = c.requires in
-    let if1 = c.if-found in 
+    let if1 = c.if-found in
     record {
       keys_len_unchanged = (find-lead.ensures.keys_len_unchanged.0, find-lead.ensures.keys_len_unchanged.1, refl);
       value = λ F before equipped step chains cleared long e h.
@@ -29,7 +29,7 @@ returns c =
     let put-link = c.put_link in
     let args = c.args in
     let pre = c.requires in
-    let if1 = c.if-found in 
+    let if1 = c.if-found in
     record {
       keys_len_unchanged = (find-lead.ensures.keys_len_unchanged.0, find-lead.ensures.keys_len_unchanged.1, ap length put-link.ensures ∙ length-set args.links.now find-lead.result.at args.x);
       value = λ F before equipped step chains cleared long e h.
