@@ -1,6 +1,6 @@
 -- Comparing two items under a block list, computed over slices that hold a structure. Shares are compared only at the targets of
 -- the two edges: elsewhere both are 0.
-use Rattle.std.specs.Prelude.{ℕ, ◌+◌, ◌*◌, ◌<◌, ◌≡◌, Bool, true, cond, ◌&&◌, List, eqb, length, get_or}
+use Rattle.std.specs.Prelude.{ℕ, ◌*◌, ◌<◌, ◌≡◌, Bool, true, cond, ◌&&◌, List, eqb, length, get_or}
 use Rattle.bisimulation.specs.Finite.{related, sum, all_below, some_below, any_of, all_of}
 use Rattle.comparison.specs.Held.{most_items, chain, is_open, action_at, whole_at, count_at, target_at, branches_from}
 

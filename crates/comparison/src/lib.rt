@@ -2,6 +2,7 @@
 // is plainly alike, and keys that part items without a comparison. For the crate of the rounds above: reading slices, available edges
 // and targets.
 #![tactic(auto)]
+
 mod codes;
 mod compare;
 mod keys;

@@ -1,13 +1,10 @@
 -- What the code of the rounds keeps turn by turn: labels seen, anchors and marks, leaders linked within blocks of equal marks,
 -- names and keys, numbers given, rounds made. A rep map holds for each item the lowest one that is related to it.
-use Rattle.std.specs.Prelude.{ℕ, suc, ◌+◌, ◌*◌, ◌-◌, ◌%◌, ◌≤◌, ◌<◌, ◌≡◌, Bool, true, false, cond, ◌&&◌, List, ◌⊎◌, eqb, length, get_or, set}
-use Rattle.bisimulation.specs.Structures.{Closed}
-use Rattle.bisimulation.specs.Finite.{Finite, structure, related, matches, next, lead, leaders, block_of, blocks, rounds}
+use Rattle.std.specs.Prelude.{ℕ, suc, ◌+◌, ◌*◌, ◌-◌, ◌%◌, ◌≤◌, ◌<◌, ◌≡◌, Bool, true, false, cond, ◌&&◌, List, ◌⊎◌, eqb, length, get_or}
+use Rattle.bisimulation.specs.Finite.{Finite, related, matches, next, lead, leaders, block_of, blocks, rounds}
 use Rattle.bisimulation.specs.Finite.{last_blocks, block_count}
 use Rattle.bisimulation.specs.Below.{EquivalenceBelow, FinerBelow, Reps}
-use Rattle.comparison.specs.Held.{Held}
-use Rattle.comparison.specs.Compare.{Below}
-use Rattle.comparison.specs.Keys.{key_of, Known}
+use Rattle.comparison.specs.Keys.{key_of}
 use Rattle.rounds.specs.Names.{Named, Changed}
 use Rattle.rounds.specs.Changes.{Settled, Stirred}
 

@@ -1,5 +1,6 @@
 // The partition layer, in between: the rounds over a finite structure in slices, its blocks and their numbers, and judging a proposal.
 #![tactic(auto)]
+
 mod changes;
 mod joins;
 mod judging;

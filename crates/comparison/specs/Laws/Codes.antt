@@ -1,7 +1,7 @@
 -- Edges are matched by their codes: in a closed structure those that answer have the code of the edge that they answer to
 -- (`answers-tell`), so that only edges of that code need to be compared with it. Edges that are their own pairs, and the shelf. Then the
 -- test of the next round from its parts.
-use Prim.Native.Nat.{ℕ, suc, ◌+◌, ◌*◌, ◌-◌, ◌≤◌, ◌<◌}
+use Prim.Native.Nat.{ℕ, ◌+◌, ◌*◌, ◌-◌, ◌≤◌, ◌<◌}
 use Rattle.std.proofs.Common.{arith, ◌∙◌, ap, subst, inl, inr, length-set, get_or-set_same, get_or-set_other}
 use Rattle.std.specs.Prelude.{◌≡◌, Bool, cond, ◌&&◌, List, ◌⊎◌, eqb, ltb, length, get_or, set, replicate}
 use Rattle.std.proofs.Math.Path.{refl, sym}

@@ -3,7 +3,7 @@ use Rattle.std.specs.Prelude.{ℕ, zero, suc, ◌+◌, ◌*◌, ◌-◌, ◌≤�
 use Rattle.std.proofs.Common.{arith, sym, ◌∙◌, ap₂, subst, inl, inr}
 use Rattle.std.proofs.Math.Path.{ap}
 use Rattle.std.proofs.Math.Bool.{Bool}
-use mathlib.Core.List.{List, [], ◌∷◌, Memᴰ}
+use mathlib.Core.List.{List, [], Memᴰ}
 use borrow.Author.Tests.{eq-eqb, eqb-true, ltb-true}
 use Rattle.bisimulation.specs.Finite.{related, sum, all_below}
 use Rattle.bisimulation.specs.Laws.Tests.{and-iff, all-below, all-of, any-of, of-any}

@@ -1,18 +1,18 @@
 -- Calm items: two that were related in this round stay so in the next (`calm-next`), and each keeps its key (`key-calm`). So only
 -- stirred items are compared (`stirred-settled`). Below these stand the steps of the loops that find calm items.
-use Rattle.std.specs.Prelude.{ℕ, zero, suc, ◌+◌, ◌*◌, ◌-◌, ◌%◌, ◌≤◌, ◌<◌, ◌≡◌, refl, Bool, true, false, cond, not, ◌&&◌, ◌||◌, ◌⊎◌, eqb, ltb, length, get_or, set}
+use Rattle.std.specs.Prelude.{ℕ, zero, suc, ◌+◌, ◌*◌, ◌<◌, ◌≡◌, true, false, cond, ◌⊎◌, eqb, ltb, length, get_or, set}
 use Rattle.std.proofs.Common.{arith, sym, ◌∙◌, ap, ap₂, subst, inl, inr, get_or-set_same, get_or-set_other, ltb-true, ltb-false}
-use mathlib.Core.List.{List, [], ◌∷◌, Memᴰ}
+use mathlib.Core.List.{List, [], Memᴰ}
 use Rattle.std.proofs.Math.Logic.{⊎_swap}
 use Rattle.std.proofs.Math.Seq.{set_out}
 use Rattle.bisimulation.specs.Structures.{Branch, Closed}
-use Rattle.bisimulation.specs.Finite.{Finite, structure, related, sum, any_of, next}
+use Rattle.bisimulation.specs.Finite.{Finite, structure, related, next}
 use Rattle.bisimulation.specs.Laws.Tests.{both, same?}
 use Rattle.bisimulation.specs.Laws.Matches.{next-iff}
 use Rattle.bisimulation.specs.Laws.Blocks.{Successor, delayed, landed, Beyond, matched-kept, successor-item}
 use Rattle.comparison.specs.Held.{Held, mask_room, most_items, chain, is_open}
-use Rattle.comparison.specs.Held.{action_at, whole_at, count_at, weight_at, mask_at, target_at, branches_from}
-use Rattle.comparison.specs.Laws.Steps.{each_none, each_on, each_over}
+use Rattle.comparison.specs.Held.{count_at, weight_at, mask_at, target_at, branches_from}
+use Rattle.comparison.specs.Laws.Steps.{each_on}
 use Rattle.rounds.specs.Names.{Changed}
 use Rattle.comparison.specs.Keys.{key_of}
 use Rattle.rounds.specs.Changes.{Calm, Stirred, Settled, BranchClassed, Classed, Still, Kept, MarkedAt, Marked}

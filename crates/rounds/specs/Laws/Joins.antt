@@ -1,20 +1,13 @@
 -- Items that join their block's anchor need no search: anchors as they are found, and what the marks then tell.
 use Rattle.std.specs.Prelude.{ℕ, zero, suc, ◌+◌, ◌-◌, ◌%◌, ◌≤◌, ◌<◌, ◌≡◌, refl, Bool, true, false, List, ◌⊎◌, eqb, length, get_or, set, replicate}
 use Rattle.std.proofs.Common.{arith, sym, ◌∙◌, ap, ap₂, inl, inr, get_or-set_same, get_or-set_other, eq-eqb, ne_eqb, eqb-true}
-use Rattle.bisimulation.specs.Structures.{Closed}
-use Rattle.bisimulation.specs.Finite.{Finite, structure, related, next, lead}
+use Rattle.bisimulation.specs.Finite.{related, lead}
 use Rattle.bisimulation.specs.Laws.Tests.{clash, fails, same?, same_test}
 use Rattle.bisimulation.specs.Laws.Leads.{related-equivalence, reps-own, reps-agree}
 use Rattle.bisimulation.specs.Below.{EquivalenceBelow, FinerBelow, Reps}
 use Rattle.bisimulation.specs.Laws.Leads.{lead_low, lead-lowest, lead-of, lead-found}
-use Rattle.comparison.specs.Held.{Held}
-use Rattle.comparison.specs.Compare.{next_in}
-use Rattle.comparison.specs.Keys.{key_of, Known}
 use Rattle.rounds.specs.Changes.{Settled}
 use Rattle.rounds.specs.Rounds.{Anchored, joined_by, join_mark, MarkedTo, Sorted}
-use Rattle.comparison.specs.Keys.{Keyed}
-use Rattle.comparison.specs.Laws.Compare.{next-held}
-use Rattle.comparison.specs.Laws.Keys.{key-same}
 use Rattle.comparison.specs.Laws.Steps.{below_one, cond_yes, cond_no}
 
 -- ---- Anchors

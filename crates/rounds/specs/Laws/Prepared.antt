@@ -1,6 +1,6 @@
 -- What the loop over the rounds keeps beside the rep map: names, keys and stirred items, one law for each step of a turn.
-use Rattle.std.specs.Prelude.{ℕ, ◌+◌, ◌≤◌, ◌<◌, ◌≡◌, refl, Bool, true, false, cond, List, ◌⊎◌, eqb, length, get_or, set}
-use Rattle.std.proofs.Common.{arith, sym, ◌∙◌, ap, subst, inl, inr, length-set, get_or-set_same, get_or-set_other, eqb-true}
+use Rattle.std.specs.Prelude.{ℕ, ◌<◌, ◌≡◌, true, false, List, ◌⊎◌, eqb, get_or}
+use Rattle.std.proofs.Common.{arith, sym, ◌∙◌, subst, inl, inr, eqb-true}
 use Rattle.std.proofs.Math.Logic.{⊎_map}
 use Rattle.bisimulation.specs.Structures.{Closed}
 use Rattle.bisimulation.specs.Finite.{Finite, structure, related, next}

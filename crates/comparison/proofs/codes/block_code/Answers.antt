@@ -15,7 +15,7 @@ unfolding block_code
 returns-then-weight-eq0 c =
     let args = c.args in
     let weigh = c.weigh-weight in
-    let if1 = c.if-weight-eq0 in 
+    let if1 = c.if-weight-eq0 in
     record {
       upper_bound = omega arith;
       by_index = λ b h gathered. sym (cond_yes {A = ℕ} (eqb (weighed args.list.now args.resets.now args.spots.now args.rows.now b args.x args.e) 0) 0
@@ -31,7 +31,7 @@ returns c =
     let weigh = c.weigh-weight in
     let at16 = c.at16 in
     let args = c.args in
-    let if1 = c.if-weight-eq0 in 
+    let if1 = c.if-weight-eq0 in
     record {
       upper_bound = mix-of.ensures.1;
       by_index = λ b h gathered. mix-of.ensures.0 ∙ ap₂ (λ (m s : ℕ). mixed m s) (ap (λ (u : ℕ). u % most_items) h) (share-of.ensures.0 ∙ ap₂

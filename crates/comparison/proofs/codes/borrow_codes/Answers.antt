@@ -82,7 +82,7 @@ pub returns : goal.returns
 returns c =
     let loop = c.loop-e in
     let args = c.args in
-    let loop-test = c.loop-e-test in 
+    let loop-test = c.loop-e-test in
     record {
       codes_len_unchanged = (loop.invariant.1, loop.invariant.2);
       by_index = λ n opened hx hy room coded told own.

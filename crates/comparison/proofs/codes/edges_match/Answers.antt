@@ -37,7 +37,7 @@ returns-then-f-eq0 c =
     let loop-test = c.loop-e-test in
     let seek-answer = c.seek_answer-f in
     let if1 = c.if-f-eq0 in
-    let below : loop.e - 1 < args.k = omega (arith, loop.invariant.0, loop-test.true) in 
+    let below : loop.e - 1 < args.k = omega (arith, loop.invariant.0, loop-test.true) in
     record {
       met_len_unchanged = loop.invariant.1;
       by_index = λ n opened hx hy one other told own met.
@@ -90,7 +90,7 @@ pub returns : goal.returns
 returns c =
     let loop = c.loop-e in
     let args = c.args in
-    let loop-test = c.loop-e-test in 
+    let loop-test = c.loop-e-test in
     record {
       met_len_unchanged = loop.invariant.1;
       by_index = λ n opened hx hy one other told own met.

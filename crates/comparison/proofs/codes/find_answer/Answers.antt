@@ -2,12 +2,13 @@
 use Prim.Native.Nat.{◌-◌}
 use native.Mathlib.Omega.{arith}
 use mathlib.Core.Path.{refl, sym, ◌∙◌}
-use mathlib.Core.Logic.{inl, inr, ⊎_elim}
+use mathlib.Core.Logic.{inl, inr}
 use Rattle.comparison.specs.Held.{is_open}
 use Rattle.comparison.specs.Laws.Compare.{answers-on}
 use Rattle.comparison.specs.Laws.Down.{down-first, down-on, down-over}
 use Rattle.comparison.specs.Laws.Codes.{NoAnswer, other-code, none_answers}
 use Rattle.comparison.proofs.codes.find_answer.Goals as goal
+use Rattle.comparison.proofs.codes.find_answer.Goals.{then-at64-code+else-is_answer, else-at64-code}
 
 pub loop-f-init : goal.loop-f-init
 loop-f-init c =
@@ -55,11 +56,13 @@ loop-f-preserved c =
           let ready = down.at loop-test.true in
           down-on (is_open args.flags.now args.y) (NoAnswer args.list.now args.flags.now args.resets.now args.spots.now args.rows.now args.x
           args.e args.y) args.k loop.f open-below2.result loop-test.true down
-          (⊎_elim (λ w. answers-on args.list.now args.flags.now args.resets.now args.spots.now args.rows.now args.x args.e args.y (loop.f -
-          1) ready ∙ sym w.1.ensures ∙ w.2.left)
-          (λ w. other-code args.k args.list.now args.flags.now args.resets.now args.spots.now args.rows.now args.x args.e args.y args.code
-          args.codes.now coded told (loop.f - 1) (omega (arith, loop.invariant.0, loop-test.true)) ready (λ s. w.left (at64.ensures ∙ s)))
-          if1.branch)
+          (elim if1.branch [
+            | then-at64-code+else-is_answer w ↦ answers-on args.list.now args.flags.now args.resets.now args.spots.now args.rows.now args.x args.e args.y
+                (loop.f - 1) ready ∙ sym w.is_answer.ensures ∙ w.if-is_answer.false
+            | else-at64-code w ↦ other-code args.k args.list.now args.flags.now args.resets.now args.spots.now args.rows.now args.x args.e
+                args.y args.code args.codes.now coded told (loop.f - 1) (omega (arith, loop.invariant.0, loop-test.true)) ready
+                (λ s. w.if-at64-code.false (at64.ensures ∙ s))
+          ])
           (open-below2.ensures.by_index n args.k opened hy (omega (arith, loop.invariant.0))),
     )
 

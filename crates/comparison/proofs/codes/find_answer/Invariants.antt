@@ -1,5 +1,5 @@
 -- `find_answer` meets its contract. Assumes nothing.
-use Prim.Native.Nat.{ℕ, ◌-◌, ◌≤◌, ◌<◌}
+use Prim.Native.Nat.{ℕ, ◌≤◌, ◌<◌}
 use Rattle.comparison.specs.Held.{is_open, Opened}
 use Rattle.comparison.specs.Keys.{Coded, ToldBy}
 use Rattle.comparison.specs.Laws.Down.{Down}

@@ -1,5 +1,4 @@
 -- `land_all` meets its contract. Assumes nothing.
-use Prim.Native.Nat.{◌-◌}
 use native.Mathlib.Omega.{arith}
 use mathlib.Core.Path.{sym}
 use Rattle.comparison.specs.Held.{count_at}

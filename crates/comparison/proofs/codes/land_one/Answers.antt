@@ -14,7 +14,7 @@ returns-then-is_first_into c =
     let number_at = c.number_at-v in
     let args = c.args in
     let is-first-into = c.is_first_into in
-    let if1 = c.if-is_first_into in 
+    let if1 = c.if-is_first_into in
     record {
       upper_bound = block-code.ensures.upper_bound;
       value = λ h gathered.
@@ -31,7 +31,7 @@ returns c =
     let number_at = c.number_at-v in
     let args = c.args in
     let is-first-into = c.is_first_into in
-    let if1 = c.if-is_first_into in 
+    let if1 = c.if-is_first_into in
     record {
       upper_bound = omega arith;
       value = λ h gathered.

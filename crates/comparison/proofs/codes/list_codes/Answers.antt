@@ -50,11 +50,11 @@ pub returns : goal.returns
 returns c =
     let loop = c.loop-e in
     let args = c.args in
-    let loop-test = c.loop-e-test in 
+    let loop-test = c.loop-e-test in
     record {
       codes_len_unchanged = loop.invariant.1;
       by_index = λ n opened hx room.
-            down-over (is_open args.flags.now args.x) (KeptAt args.x args.list.now args.resets.now args.spots.now args.rows.now loop.codes)
-            args.k loop.e loop-test.false (loop.invariant.2 n opened hx room);
+          down-over (is_open args.flags.now args.x) (KeptAt args.x args.list.now args.resets.now args.spots.now args.rows.now loop.codes)
+          args.k loop.e loop-test.false (loop.invariant.2 n opened hx room);
       by_index_2 = loop.invariant.3;
     }

@@ -13,7 +13,7 @@ pub returns-then-marked : goal.returns-then-marked
 returns-then-marked c =
     let set-mark = c.set_mark in
     let args = c.args in
-    let if1 = c.if-marked in 
+    let if1 = c.if-marked in
     record {
       marks_len_unchanged = ap length set-mark.ensures ∙ length-set args.marks.now args.e 1;
       marks_after = rw if1.true set-mark.ensures;
@@ -21,7 +21,7 @@ returns-then-marked c =
 
 pub returns-else-marked : goal.returns-else-marked
 returns-else-marked c =
-    let if1 = c.if-marked in 
+    let if1 = c.if-marked in
     record {
       marks_len_unchanged = refl;
       marks_after = rw if1.false refl;

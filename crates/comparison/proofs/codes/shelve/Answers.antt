@@ -12,7 +12,7 @@ pub returns-then-at64-after : goal.returns-then-at64-after
 returns-then-at64-after c =
     let args = c.args in
     let at64 = c.at64 in
-    let if1 = c.if-at64-after in 
+    let if1 = c.if-at64-after in
     record {
       shelf_len_unchanged = refl;
       by_index = λ n opened hx shelved. (shelved, shelved.1 args.x (sym at64.ensures ∙ if1.true ∙ add-one args.x));
@@ -24,13 +24,13 @@ returns c =
     let put64 = c.put64 in
     let list-codes = c.list_codes in
     let args = c.args in
-    let pre = c.requires in 
+    let pre = c.requires in
     record {
       shelf_len_unchanged = ap length put64.ensures ∙ length-set list-codes.new.codes 128 _ ∙ list-codes.ensures.codes_len_unchanged;
       by_index = λ n opened hx shelved.
-            rw put64.ensures (shelf-on args.k args.list.now args.flags.now args.resets.now args.spots.now args.rows.now args.x
-            list-codes.new.codes pre.0 (omega (arith, shelved.0, list-codes.ensures.codes_len_unchanged))
-            (list-codes.ensures.by_index n opened hx (omega (arith, shelved.0))));
+          rw put64.ensures (shelf-on args.k args.list.now args.flags.now args.resets.now args.spots.now args.rows.now args.x
+          list-codes.new.codes pre.0 (omega (arith, shelved.0, list-codes.ensures.codes_len_unchanged))
+          (list-codes.ensures.by_index n opened hx (omega (arith, shelved.0))));
       kept_past = λ i h. rw put64.ensures (get_or-set_other list-codes.new.codes 128 i (args.x + 1) 0 (λ s. absurd (omega (arith, s, h)))
-            ∙ list-codes.ensures.by_index_2 i (omega (arith, pre.0, h)));
+          ∙ list-codes.ensures.by_index_2 i (omega (arith, pre.0, h)));
     }

@@ -33,7 +33,7 @@ pub returns : goal.returns
 returns c =
     let args = c.args in
     let if2 = c.if-k-gt128 in
-    let if1 = c.if-n-gt4096 in 
+    let if1 = c.if-n-gt4096 in
     record {
       k_le_most_edges = λ t. let h = ltb-true args.y args.n t in (
         omega (arith, if2.false),

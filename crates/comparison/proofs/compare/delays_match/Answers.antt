@@ -11,6 +11,6 @@ pub returns : goal.returns
 returns c =
     let args = c.args in
     let mark-delays = c.mark_delays in
-    λ below hx. c.are_marked.ensures ∙ marked-answers args.n args.list.now args.nexts.now (mark-delays.new.marks).0
+    λ below hx. c.are_marked.ensures ∙ marked-answers args.n args.list.now args.nexts.now mark-delays.new.marks
     args.x args.y below hx (λ v h. mark-delays.ensures.by_index v (rw (length-replicate {A = ℕ} 4096 0) h) ∙ ap (λ (m : ℕ). cond
     (reaches_number args.n args.list.now args.nexts.now v args.y) 1 m) (get_or-replicate {A = ℕ} 4096 v 0 0 h))

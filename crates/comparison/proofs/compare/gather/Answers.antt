@@ -1,5 +1,5 @@
 -- `gather` meets its contract. Assumes nothing.
-use Prim.Native.Nat.{ℕ, ◌-◌}
+use Prim.Native.Nat.{ℕ}
 use native.Mathlib.Omega.{arith}
 use mathlib.Core.Path.{refl, ◌∙◌, ap}
 use lib.ListN.{length, get_or, length-set}
@@ -41,7 +41,7 @@ pub returns : goal.returns
 returns c =
     let loop = c.loop-i in
     let loop-test = c.loop-i-test in
-    let at16 = c.at16-count in 
+    let at16 = c.at16-count in
     record {
       got_len_unchanged = loop.invariant.1;
       gathered = λ i h room. loop.invariant.2 i (omega (arith, loop-test.false, h, at16.ensures.0)) room;

@@ -1,14 +1,13 @@
 -- `is_balanced_back` meets its contract. Assumes nothing.
-use Prim.Native.Nat.{ℕ, ◌-◌}
+use Prim.Native.Nat.{ℕ}
 use native.Mathlib.Omega.{arith}
 use mathlib.Core.Path.{refl, sym, ◌∙◌}
-use mathlib.Core.Bool.{true}
-use mathlib.Core.Logic.{⊎_elim}
-use borrow.Author.Tests.{not-true, not-false}
+use borrow.Author.Tests.{not-true}
 use Rattle.comparison.specs.Held.{count_at, target_at}
 use Rattle.comparison.specs.Compare.{balanced, balanced_over}
 use Rattle.comparison.specs.Laws.Compare.{all-on, all-fails, all-over, balanced-into}
 use Rattle.comparison.proofs.compare.is_balanced_back.Goals as goal
+use Rattle.comparison.proofs.compare.is_balanced_back.Goals.{then-not-is_into+else-not-is_balanced, else-not-is_into}
 
 pub loop-i-init : goal.loop-i-init
 loop-i-init c = (omega arith, λ one other there. refl)
@@ -62,10 +61,12 @@ loop-i-preserved c =
           args.rows.now args.x args.e args.y args.f (target_at args.resets.now args.spots.now args.rows.now args.y args.f j)) (loop.invariant.1 one
           other there)
           (let at = number_at.ensures (omega (arith, loop-test.true, at16.ensures.0)) other in
-          ⊎_elim (λ w. sym (w.1.ensures target at one other) ∙ not-false w.1.result w.2.left)
-          (λ w. let (i, h, same) = is-into.ensures (not-false is-into.result w.left) one in
-          balanced-into args.list.now args.resets.now args.spots.now args.rows.now args.x args.e args.y args.f target there (i, h, same ∙ at))
-          if1.branch),
+          elim if1.branch [
+            | then-not-is_into+else-not-is_balanced w ↦ sym (w.is_balanced.ensures target at one other) ∙ w.if-not-is_balanced.false
+            | else-not-is_into w ↦
+                let (i, h, same) = is-into.ensures w.if-not-is_into.false one in
+                balanced-into args.list.now args.resets.now args.spots.now args.rows.now args.x args.e args.y args.f target there (i, h, same ∙ at)
+          ]),
     )
 
 pub returns : goal.returns

@@ -1,8 +1,7 @@
 -- `is_balanced_there` meets its contract. Assumes nothing.
-use Prim.Native.Nat.{ℕ, ◌-◌}
+use Prim.Native.Nat.{ℕ}
 use native.Mathlib.Omega.{arith}
 use mathlib.Core.Path.{refl, sym, ◌∙◌}
-use mathlib.Core.Bool.{true}
 use borrow.Author.Tests.{not-true, not-false}
 use Rattle.comparison.specs.Held.{count_at, target_at}
 use Rattle.comparison.specs.Compare.{balanced, balanced_over}

@@ -1,5 +1,4 @@
 -- `is_into` meets its contract. Assumes nothing.
-use Prim.Native.Nat.{◌-◌}
 use native.Mathlib.Omega.{arith}
 use mathlib.Core.Path.{refl, sym, ◌∙◌}
 use Rattle.bisimulation.specs.Laws.Tests.{clash}

@@ -21,7 +21,7 @@ returns-then-n-next c =
     let index_at = c.index_at in
     let args = c.args in
     let at16 = c.at16-next in
-    let loop-test = c.loop-left-test in 
+    let loop-test = c.loop-left-test in
     record {
       marks_len_unchanged = ap length set-mark.ensures ∙ length-set loop.marks index_at.result 1 ∙ loop.invariant.0;
       by_index = rw (
@@ -60,7 +60,7 @@ returns c =
     let loop = c.loop-left in
     let index-at2 = c.index_at-2 in
     let args = c.args in
-    let loop-test = c.loop-left-test in 
+    let loop-test = c.loop-left-test in
     record {
       marks_len_unchanged = ap length set-mark2.ensures ∙ length-set loop.marks index-at2.result 1 ∙ loop.invariant.0;
       by_index = rw (

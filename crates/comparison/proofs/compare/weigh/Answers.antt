@@ -56,7 +56,7 @@ returns c =
     let loop = c.loop-i in
     let at16 = c.at16-count in
     let args = c.args in
-    let loop-test = c.loop-i-test in 
+    let loop-test = c.loop-i-test in
     record {
       upper_bound = omega (arith, loop.invariant.1, at16.ensures.1);
       by_index = λ b h gathered. sum_over args.list.now args.resets.now args.spots.now args.rows.now b

@@ -8,7 +8,7 @@ pub returns-then-is_code_new : goal.returns-then-is_code_new
 returns-then-is_code_new c =
     let args = c.args in
     let at64 = c.at64-code in
-    let new = c.is_code_new in 
+    let new = c.is_code_new in
     record {
       upper_bound = mod-lt at64.result (omega arith);
       by_index = λ n k opened hx he small.
@@ -20,7 +20,7 @@ pub returns : goal.returns
 returns c =
     let args = c.args in
     let at64 = c.at64-code in
-    let new = c.is_code_new in 
+    let new = c.is_code_new in
     record {
       upper_bound = omega arith;
       by_index = λ n k opened hx he small.

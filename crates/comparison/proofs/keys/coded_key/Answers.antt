@@ -16,7 +16,7 @@ returns c =
     let shelve = c.shelve in
     let borrow-codes = c.borrow_codes in
     let args = c.args in
-    let key-by = c.key_by-key in 
+    let key-by = c.key_by-key in
     record {
       keys_after = (put64.ensures, shelve.ensures.shelf_len_unchanged, borrow-codes.ensures.codes_len_unchanged.0, borrow-codes.ensures.codes_len_unchanged.1, shelve.ensures.kept_past);
       value = λ opened hx hy room shelved told own.

@@ -1,5 +1,4 @@
 -- `forget_keys` meets its contract. Assumes nothing.
-use Prim.Native.Nat.{◌-◌}
 use native.Mathlib.Omega.{arith}
 use mathlib.Core.Path.{refl, ◌∙◌}
 use Rattle.comparison.specs.Laws.KeyLoops.{forgotten-length, forgotten-on}
@@ -26,7 +25,7 @@ shape_of-keys c = c.loop-x.invariant.1
 pub returns : goal.returns
 returns c =
     let loop = c.loop-x in
-    let over = c.loop-x-test.false in 
+    let over = c.loop-x-test.false in
     record {
       keys_len_unchanged = loop.invariant.1;
       forgotten = (λ y h. loop.invariant.2.0 y (omega (arith, h, over)), λ y h. loop.invariant.2.1 y (omega (arith, h, loop.invariant.0)));

@@ -1,5 +1,5 @@
 -- `is_code_new` meets its contract. Assumes nothing.
-use Prim.Native.Nat.{ℕ, ◌-◌, ◌≤◌, ◌<◌}
+use Prim.Native.Nat.{ℕ, ◌≤◌, ◌<◌}
 use Rattle.comparison.specs.Held.{is_open, Opened}
 use Rattle.comparison.specs.Laws.Down.{Down}
 use Rattle.comparison.specs.Laws.KeyLoops.{NoCode}

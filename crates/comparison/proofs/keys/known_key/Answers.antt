@@ -9,15 +9,15 @@ pub returns-then-old-ne0 : goal.returns-then-old-ne0
 returns-then-old-ne0 c =
     let at64 = c.at64-old in
     let args = c.args in
-    let if1 = c.if-old-ne0 in 
+    let if1 = c.if-old-ne0 in
     record {
       keys_len_unchanged = (refl, refl);
       value = λ opened hx known shelved. (
-          at64.ensures ∙ known-old args.n args.k args.names.now args.keys.now args.nexts.now args.flags.now args.resets.now
-              args.spots.now args.rows.now known args.x hx (λ none. if1.true (at64.ensures ∙ none)),
-          known,
-          shelved,
-        );
+        at64.ensures ∙ known-old args.n args.k args.names.now args.keys.now args.nexts.now args.flags.now args.resets.now
+            args.spots.now args.rows.now known args.x hx (λ none. if1.true (at64.ensures ∙ none)),
+        known,
+        shelved,
+      );
       asked_for = (λ z. inl refl, λ i h. refl);
     }
 
@@ -35,16 +35,16 @@ returns c =
     let key-by = c.key_by-key in
     let shelve = c.shelve in
     let at64 = c.at64-old in
-    let if1 = c.if-old-ne0 in 
+    let if1 = c.if-old-ne0 in
     record {
       keys_len_unchanged = (ap length put64.ensures ∙ length-set args.keys.now args.x key-by.result, shelve.ensures.shelf_len_unchanged);
       value = λ opened hx known shelved.
-            let (shelved', coded) = shelve.ensures.by_index args.n opened hx shelved in
-            let key = key-by.ensures args.resets.now args.spots.now args.rows.now opened hx coded in (
-              key,
-              rw put64.ensures (known-new args.n args.k args.names.now args.keys.now args.nexts.now args.flags.now args.resets.now
-                  args.spots.now args.rows.now known args.x key-by.result key),
-              shelved',
-            );
+          let (shelved', coded) = shelve.ensures.by_index args.n opened hx shelved in
+          let key = key-by.ensures args.resets.now args.spots.now args.rows.now opened hx coded in (
+            key,
+            rw put64.ensures (known-new args.n args.k args.names.now args.keys.now args.nexts.now args.flags.now args.resets.now
+                args.spots.now args.rows.now known args.x key-by.result key),
+            shelved',
+          );
       asked_for = (rw put64.ensures (asked-put args.x key-by.result args.keys.now (sym at64.ensures ∙ if1.false)), shelve.ensures.kept_past);
     }

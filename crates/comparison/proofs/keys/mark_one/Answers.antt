@@ -12,7 +12,7 @@ pub returns-then-old : goal.returns-then-old
 returns-then-old c =
     let args = c.args in
     let is_set = c.is_set-old in
-    let if1 = c.if-old in 
+    let if1 = c.if-old in
     record {
       marks_after = search rules;
       value = (
@@ -27,7 +27,7 @@ returns c =
     let scatter-of = c.scatter_of in
     let args = c.args in
     let is_set = c.is_set-old in
-    let if1 = c.if-old in 
+    let if1 = c.if-old in
     record {
       marks_after = search rules;
       value = (

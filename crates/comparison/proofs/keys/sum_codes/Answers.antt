@@ -44,7 +44,7 @@ pub returns : goal.returns
 unfolding edge_key
 returns c =
     let args = c.args in
-    let loop = c.loop-e in 
+    let loop = c.loop-e in
     record {
       upper_bound = omega (arith, loop.invariant.1);
       by_index = λ n list resets spots rows opened hx coded.

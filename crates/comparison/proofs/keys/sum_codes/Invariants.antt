@@ -1,5 +1,5 @@
 -- `sum_codes` meets its contract. Assumes nothing.
-use Prim.Native.Nat.{ℕ, ◌+◌, ◌*◌, ◌-◌, ◌≤◌, ◌<◌}
+use Prim.Native.Nat.{ℕ, ◌+◌, ◌*◌, ◌≤◌, ◌<◌}
 use mathlib.Core.List.{List}
 use Rattle.comparison.specs.Held.{is_open, Opened}
 use Rattle.comparison.specs.Keys.{Coded}

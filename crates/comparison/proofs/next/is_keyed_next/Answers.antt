@@ -11,19 +11,19 @@ use Rattle.comparison.proofs.next.is_keyed_next.Goals as goal
 pub returns-then-not-are_items : goal.returns-then-not-are_items
 returns-then-not-are_items c =
     let are-items = c.are_items in
-    let if1 = c.if-not-are_items in 
+    let if1 = c.if-not-are_items in
     record {
       keys_len_unchanged = (refl, refl, λ i h. refl);
       value = λ F equipped hx hy. let keyed = equipped.keyed in absurd (clash (are-items.ensures.value keyed.held.few keyed.held.few-edges hx hy) (not-true
-            are-items.result if1.true-raw));
+          are-items.result if1.true-raw));
       both_asked = (λ z. inl refl, λ h. (refl, refl, refl), λ h. (refl, refl, refl));
       keys_unchanged = λ short. (
-            refl,
-            refl,
-            λ F held closed below hx hy. absurd (clash (are-items.ensures.value held.few held.few-edges hx hy)
-                (not-true
-                are-items.result if1.true-raw)),
-          );
+        refl,
+        refl,
+        λ F held closed below hx hy. absurd (clash (are-items.ensures.value held.few held.few-edges hx hy)
+            (not-true
+            are-items.result if1.true-raw)),
+      );
     }
 
 pub returns-then-shelf-lt129 : goal.returns-then-shelf-lt129
@@ -32,15 +32,15 @@ returns-then-shelf-lt129 c =
     let if1 = c.if-not-are_items in
     let if2 = c.if-shelf-lt129 in
     let is-next = c.is_next in
-    let items = not-false are-items.result if1.false-raw in 
+    let items = not-false are-items.result if1.false-raw in
     record {
       keys_len_unchanged = (refl, refl, λ i h. refl);
       value = λ F equipped hx hy. absurd (omega (arith, equipped.shelved.0, if2.true));
       both_asked = (
-            λ z. inl refl,
-            λ h. absurd (clash items (are-items.ensures.value_2.0 h)),
-            λ h. absurd (clash items (are-items.ensures.value_2.1 h)),
-          );
+        λ z. inl refl,
+        λ h. absurd (clash items (are-items.ensures.value_2.0 h)),
+        λ h. absurd (clash items (are-items.ensures.value_2.1 h)),
+      );
       keys_unchanged = λ short. (refl, refl, is-next.ensures.value);
     }
 
@@ -52,20 +52,20 @@ returns-then-is_twin c =
     let is-twin = c.is_twin in
     let if4 = c.if-is_twin in
     let if2 = c.if-shelf-lt129 in
-    let items = not-false are-items.result if1.false-raw in 
+    let items = not-false are-items.result if1.false-raw in
     record {
       keys_len_unchanged = (refl, refl, λ i h. refl);
       value = λ F equipped hx hy. let keyed = equipped.keyed in (
-          sym (twins-meet keyed.held keyed.closed args.names.now args.x args.y hx hy (is-twin.ensures.y_value
-              if4.true keyed.held.onward keyed.held.opened hx hy)),
-          equipped,
-        );
+        sym (twins-meet keyed.held keyed.closed args.names.now args.x args.y hx hy (is-twin.ensures.y_value
+            if4.true keyed.held.onward keyed.held.opened hx hy)),
+        equipped,
+      );
       both_asked = (
-            λ z. inl refl,
-            λ h. absurd (clash items
-                (are-items.ensures.value_2.0 h)),
-            λ h. absurd (clash items (are-items.ensures.value_2.1 h)),
-          );
+        λ z. inl refl,
+        λ h. absurd (clash items
+            (are-items.ensures.value_2.0 h)),
+        λ h. absurd (clash items (are-items.ensures.value_2.1 h)),
+      );
       keys_unchanged = λ short. absurd (omega (arith, short, if2.false));
     }
 
@@ -91,29 +91,29 @@ returns-then-known-eq0 c =
     let at642 = c.at64-known in
     let if5 = c.if-known-eq0 in
     let if2 = c.if-shelf-lt129 in
-    let items = not-false are-items.result if1.false-raw in 
+    let items = not-false are-items.result if1.false-raw in
     record {
       keys_len_unchanged = (
-        is-newly-keyed-next.ensures.keys_len_unchanged.0 ∙ known-key.ensures.0.0,
-        is-newly-keyed-next.ensures.keys_len_unchanged.1 ∙ known-key.ensures.0.1,
+        is-newly-keyed-next.ensures.keys_len_unchanged.0 ∙ known-key.ensures.keys_len_unchanged.0,
+        is-newly-keyed-next.ensures.keys_len_unchanged.1 ∙ known-key.ensures.keys_len_unchanged.1,
         λ i h.
-            is-newly-keyed-next.ensures.keys_len_unchanged.2 i h ∙ known-key.ensures.1.1.1 i h,
+            is-newly-keyed-next.ensures.keys_len_unchanged.2 i h ∙ known-key.ensures.asked_for.1 i h,
       );
       value = λ F equipped hx hy.
-            let keyed = equipped.keyed in
-            let (one, known, shelved) = known-key.ensures.1.0 keyed.held.opened hx keyed.keyed equipped.shelved in
-            is-newly-keyed-next.ensures.value F args.labels.now (record {
-              keyed = keyed-on keyed known-key.last.1.1.1.1.1.1.1.1.1.0
-                  known;
-              shelved = shelved;
-            }) hx hy one;
+          let keyed = equipped.keyed in
+          let (one, known, shelved) = known-key.ensures.value keyed.held.opened hx keyed.keyed equipped.shelved in
+          is-newly-keyed-next.ensures.value F args.labels.now (record {
+            keyed = keyed-on keyed known-key.new.keys
+                known;
+            shelved = shelved;
+          }) hx hy one;
       both_asked = (
-            asked-both args.x args.y args.keys.now known-key.last.1.1.1.1.1.1.1.1.1.0 is-newly-keyed-next.new.keys
-                known-key.ensures.1.1.0 (is-newly-keyed-next.ensures.asked_for (sym at642.ensures ∙ if5.true)),
-            λ h. absurd (clash items
-                (are-items.ensures.value_2.0 h)),
-            λ h. absurd (clash items (are-items.ensures.value_2.1 h)),
-          );
+        asked-both args.x args.y args.keys.now known-key.new.keys is-newly-keyed-next.new.keys
+            known-key.ensures.asked_for.0 (is-newly-keyed-next.ensures.asked_for (sym at642.ensures ∙ if5.true)),
+        λ h. absurd (clash items
+            (are-items.ensures.value_2.0 h)),
+        λ h. absurd (clash items (are-items.ensures.value_2.1 h)),
+      );
       keys_unchanged = λ short. absurd (omega (arith, short, if2.false));
     }
 
@@ -127,29 +127,29 @@ returns-then-one-known c =
     let if5 = c.if-known-eq0 in
     let if6 = c.if-one-known in
     let if2 = c.if-shelf-lt129 in
-    let items = not-false are-items.result if1.false-raw in 
+    let items = not-false are-items.result if1.false-raw in
     record {
-      keys_len_unchanged = (known-key.ensures.0.0, known-key.ensures.0.1, known-key.ensures.1.1.1);
+      keys_len_unchanged = (known-key.ensures.keys_len_unchanged.0, known-key.ensures.keys_len_unchanged.1, known-key.ensures.asked_for.1);
       value = λ F equipped hx hy.
-            let keyed = equipped.keyed in
-            let (one, known, shelved) = known-key.ensures.1.0 keyed.held.opened hx keyed.keyed equipped.shelved in
-            let other = at642.ensures ∙ known-old args.n args.k args.names.now known-key.new.1.1.1.1.1.1.1.1.1.0 args.nexts.now
-            args.flags.now
-            args.resets.now args.spots.now args.rows.now known args.y hy (λ none. if5.false (at642.ensures ∙ none)) in (
-              sym (keys-part keyed args.x args.y known-key.result at642.result hx hy one other if6.true),
-              record {
-                keyed = keyed-on keyed
-                    known-key.new.1.1.1.1.1.1.1.1.1.0 known;
-                shelved = shelved;
-              },
-            );
-      both_asked = (
-            asked-both args.x args.y args.keys.now known-key.new.1.1.1.1.1.1.1.1.1.0 known-key.new.1.1.1.1.1.1.1.1.1.0
-                known-key.ensures.1.1.0
-                (λ z. inl refl),
-            λ h. absurd (clash items (are-items.ensures.value_2.0 h)),
-            λ h. absurd (clash items (are-items.ensures.value_2.1 h)),
+          let keyed = equipped.keyed in
+          let (one, known, shelved) = known-key.ensures.value keyed.held.opened hx keyed.keyed equipped.shelved in
+          let other = at642.ensures ∙ known-old args.n args.k args.names.now known-key.new.keys args.nexts.now
+          args.flags.now
+          args.resets.now args.spots.now args.rows.now known args.y hy (λ none. if5.false (at642.ensures ∙ none)) in (
+            sym (keys-part keyed args.x args.y known-key.result at642.result hx hy one other if6.true),
+            record {
+              keyed = keyed-on keyed
+                  known-key.new.keys known;
+              shelved = shelved;
+            },
           );
+      both_asked = (
+        asked-both args.x args.y args.keys.now known-key.new.keys known-key.new.keys
+            known-key.ensures.asked_for.0
+            (λ z. inl refl),
+        λ h. absurd (clash items (are-items.ensures.value_2.0 h)),
+        λ h. absurd (clash items (are-items.ensures.value_2.1 h)),
+      );
       keys_unchanged = λ short. absurd (omega (arith, short, if2.false));
     }
 
@@ -161,25 +161,25 @@ returns c =
     let is-next2 = c.is_next-2 in
     let args = c.args in
     let if2 = c.if-shelf-lt129 in
-    let items = not-false are-items.result if1.false-raw in 
+    let items = not-false are-items.result if1.false-raw in
     record {
-      keys_len_unchanged = (known-key.ensures.0.0, known-key.ensures.0.1, known-key.ensures.1.1.1);
+      keys_len_unchanged = (known-key.ensures.keys_len_unchanged.0, known-key.ensures.keys_len_unchanged.1, known-key.ensures.asked_for.1);
       value = λ F equipped hx hy.
-            let keyed = equipped.keyed in
-            let (_, known, shelved) = known-key.ensures.1.0 keyed.held.opened hx keyed.keyed equipped.shelved in (
-              is-next2.ensures.value F keyed.held keyed.closed keyed.below hx hy,
-              record {
-                keyed = keyed-on keyed
-                    known-key.new.1.1.1.1.1.1.1.1.1.0 known;
-                shelved = shelved;
-              },
-            );
-      both_asked = (
-            asked-both args.x args.y args.keys.now known-key.new.1.1.1.1.1.1.1.1.1.0 known-key.new.1.1.1.1.1.1.1.1.1.0
-                known-key.ensures.1.1.0
-                (λ z. inl refl),
-            λ h. absurd (clash items (are-items.ensures.value_2.0 h)),
-            λ h. absurd (clash items (are-items.ensures.value_2.1 h)),
+          let keyed = equipped.keyed in
+          let (_, known, shelved) = known-key.ensures.value keyed.held.opened hx keyed.keyed equipped.shelved in (
+            is-next2.ensures.value F keyed.held keyed.closed keyed.below hx hy,
+            record {
+              keyed = keyed-on keyed
+                  known-key.new.keys known;
+              shelved = shelved;
+            },
           );
+      both_asked = (
+        asked-both args.x args.y args.keys.now known-key.new.keys known-key.new.keys
+            known-key.ensures.asked_for.0
+            (λ z. inl refl),
+        λ h. absurd (clash items (are-items.ensures.value_2.0 h)),
+        λ h. absurd (clash items (are-items.ensures.value_2.1 h)),
+      );
       keys_unchanged = λ short. absurd (omega (arith, short, if2.false));
     }

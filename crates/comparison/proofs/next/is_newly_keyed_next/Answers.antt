@@ -14,7 +14,7 @@ pub returns-then-one-other : goal.returns-then-one-other
 returns-then-one-other c =
     let coded-key = c.coded_key-other in
     let args = c.args in
-    let if1 = c.if-one-other in 
+    let if1 = c.if-one-other in
     record {
       keys_len_unchanged = (
         ap length coded-key.ensures.keys_after.0 ∙ length-set args.keys.now args.y coded-key.result,
@@ -22,20 +22,20 @@ returns-then-one-other c =
         coded-key.ensures.keys_after.4,
       );
       value = λ F labels equipped hx hy one.
-            let keyed = equipped.keyed in
-            let back = answers-tell F args.n args.k args.names.now labels args.nexts.now args.flags.now args.resets.now args.spots.now
-            args.rows.now keyed.held keyed.closed args.y args.x hy hx in
-            let (other, shelved, ones, others, own) = coded-key.ensures.value keyed.held.opened hx hy
-            (omega (arith, length-replicate {A = ℕ} 128 0)) equipped.shelved back (own-none args.k args.names.now args.flags.now
-            args.resets.now args.spots.now args.rows.now args.x args.y 128) in (
-              sym (keys-part keyed args.x args.y args.one coded-key.result hx hy one other if1.true),
-              record {
-                keyed = keyed-on keyed coded-key.new.keys
-                    (rw coded-key.ensures.keys_after.0 (known-new args.n args.k args.names.now args.keys.now args.nexts.now args.flags.now
-                    args.resets.now args.spots.now args.rows.now keyed.keyed args.y coded-key.result other));
-                shelved = shelved;
-              },
-            );
+          let keyed = equipped.keyed in
+          let back = answers-tell F args.n args.k args.names.now labels args.nexts.now args.flags.now args.resets.now args.spots.now
+          args.rows.now keyed.held keyed.closed args.y args.x hy hx in
+          let (other, shelved, ones, others, own) = coded-key.ensures.value keyed.held.opened hx hy
+          (omega (arith, length-replicate {A = ℕ} 128 0)) equipped.shelved back (own-none args.k args.names.now args.flags.now
+          args.resets.now args.spots.now args.rows.now args.x args.y 128) in (
+            sym (keys-part keyed args.x args.y args.one coded-key.result hx hy one other if1.true),
+            record {
+              keyed = keyed-on keyed coded-key.new.keys
+                  (rw coded-key.ensures.keys_after.0 (known-new args.n args.k args.names.now args.keys.now args.nexts.now args.flags.now
+                  args.resets.now args.spots.now args.rows.now keyed.keyed args.y coded-key.result other));
+              shelved = shelved;
+            },
+          );
       asked_for = λ none. rw coded-key.ensures.keys_after.0 (asked-put args.y coded-key.result args.keys.now none);
     }
 
@@ -44,7 +44,7 @@ returns-then-not-may_be_next c =
     let coded-key = c.coded_key-other in
     let args = c.args in
     let may-be-next = c.may_be_next in
-    let if2 = c.if-not-may_be_next in 
+    let if2 = c.if-not-may_be_next in
     record {
       keys_len_unchanged = (
         ap length coded-key.ensures.keys_after.0 ∙ length-set args.keys.now args.y coded-key.result,
@@ -52,23 +52,23 @@ returns-then-not-may_be_next c =
         coded-key.ensures.keys_after.4,
       );
       value = λ F labels equipped hx hy one.
-            let keyed = equipped.keyed in
-            let back = answers-tell F args.n args.k args.names.now labels args.nexts.now args.flags.now args.resets.now args.spots.now
-            args.rows.now keyed.held keyed.closed args.y args.x hy hx in
-            let (other, shelved, ones, others, own) = coded-key.ensures.value keyed.held.opened hx hy
-            (omega (arith, length-replicate {A = ℕ} 128 0)) equipped.shelved back (own-none args.k args.names.now args.flags.now
-            args.resets.now args.spots.now args.rows.now args.x args.y 128) in (
-              sym (next-fails args.n args.k args.names.now args.nexts.now args.flags.now args.resets.now args.spots.now args.rows.now
-                  args.x args.y (sym (may-be-next.ensures keyed.below keyed.held.onward hx hy) ∙ not-true may-be-next.result
-                  if2.true-raw)) ∙ next-held F args.n args.k args.names.now labels args.nexts.now args.flags.now args.resets.now
-                  args.spots.now args.rows.now keyed.held keyed.closed args.x args.y hx hy,
-              record {
-                keyed = keyed-on keyed coded-key.new.keys
-                    (rw coded-key.ensures.keys_after.0 (known-new args.n args.k args.names.now args.keys.now args.nexts.now args.flags.now
-                    args.resets.now args.spots.now args.rows.now keyed.keyed args.y coded-key.result other));
-                shelved = shelved;
-              },
-            );
+          let keyed = equipped.keyed in
+          let back = answers-tell F args.n args.k args.names.now labels args.nexts.now args.flags.now args.resets.now args.spots.now
+          args.rows.now keyed.held keyed.closed args.y args.x hy hx in
+          let (other, shelved, ones, others, own) = coded-key.ensures.value keyed.held.opened hx hy
+          (omega (arith, length-replicate {A = ℕ} 128 0)) equipped.shelved back (own-none args.k args.names.now args.flags.now
+          args.resets.now args.spots.now args.rows.now args.x args.y 128) in (
+            sym (next-fails args.n args.k args.names.now args.nexts.now args.flags.now args.resets.now args.spots.now args.rows.now
+                args.x args.y (sym (may-be-next.ensures keyed.below keyed.held.onward hx hy) ∙ not-true may-be-next.result
+                if2.true-raw)) ∙ next-held F args.n args.k args.names.now labels args.nexts.now args.flags.now args.resets.now
+                args.spots.now args.rows.now keyed.held keyed.closed args.x args.y hx hy,
+            record {
+              keyed = keyed-on keyed coded-key.new.keys
+                  (rw coded-key.ensures.keys_after.0 (known-new args.n args.k args.names.now args.keys.now args.nexts.now args.flags.now
+                  args.resets.now args.spots.now args.rows.now keyed.keyed args.y coded-key.result other));
+              shelved = shelved;
+            },
+          );
       asked_for = λ none. rw coded-key.ensures.keys_after.0 (asked-put args.y coded-key.result args.keys.now none);
     }
 
@@ -82,7 +82,7 @@ returns c =
     let args = c.args in
     let edges-agree = c.edges_agree in
     let may-be-next = c.may_be_next in
-    let if2 = c.if-not-may_be_next in 
+    let if2 = c.if-not-may_be_next in
     record {
       keys_len_unchanged = (
         ap length coded-key.ensures.keys_after.0 ∙ length-set args.keys.now args.y coded-key.result,
@@ -90,26 +90,26 @@ returns c =
         coded-key.ensures.keys_after.4,
       );
       value = λ F labels equipped hx hy one.
-            let keyed = equipped.keyed in
-            let back = answers-tell F args.n args.k args.names.now labels args.nexts.now args.flags.now args.resets.now args.spots.now
-            args.rows.now keyed.held keyed.closed args.y args.x hy hx in
-            let (other, shelved, ones, others, own) = coded-key.ensures.value keyed.held.opened hx hy
-            (omega (arith, length-replicate {A = ℕ} 128 0)) equipped.shelved back (own-none args.k args.names.now args.flags.now
-            args.resets.now args.spots.now args.rows.now args.x args.y 128) in (
-              edges-agree.ensures args.n keyed.held.opened hx hy ones others
-                  (answers-tell F args.n args.k args.names.now labels args.nexts.now args.flags.now args.resets.now args.spots.now
-                  args.rows.now keyed.held keyed.closed args.x args.y hx hy) back own
-                  ∙ sym (next-edges args.n args.k args.names.now args.nexts.now args.flags.now args.resets.now args.spots.now
-                  args.rows.now args.x args.y (sym (may-be-next.ensures keyed.below keyed.held.onward hx hy) ∙ not-false
-                  may-be-next.result if2.false-raw))
-                  ∙ next-held F args.n args.k args.names.now labels args.nexts.now args.flags.now args.resets.now args.spots.now
-                  args.rows.now keyed.held keyed.closed args.x args.y hx hy,
-              record {
-                keyed = keyed-on keyed coded-key.new.keys
-                    (rw coded-key.ensures.keys_after.0 (known-new args.n args.k args.names.now args.keys.now args.nexts.now args.flags.now
-                    args.resets.now args.spots.now args.rows.now keyed.keyed args.y coded-key.result other));
-                shelved = shelved;
-              },
-            );
+          let keyed = equipped.keyed in
+          let back = answers-tell F args.n args.k args.names.now labels args.nexts.now args.flags.now args.resets.now args.spots.now
+          args.rows.now keyed.held keyed.closed args.y args.x hy hx in
+          let (other, shelved, ones, others, own) = coded-key.ensures.value keyed.held.opened hx hy
+          (omega (arith, length-replicate {A = ℕ} 128 0)) equipped.shelved back (own-none args.k args.names.now args.flags.now
+          args.resets.now args.spots.now args.rows.now args.x args.y 128) in (
+            edges-agree.ensures args.n keyed.held.opened hx hy ones others
+                (answers-tell F args.n args.k args.names.now labels args.nexts.now args.flags.now args.resets.now args.spots.now
+                args.rows.now keyed.held keyed.closed args.x args.y hx hy) back own
+                ∙ sym (next-edges args.n args.k args.names.now args.nexts.now args.flags.now args.resets.now args.spots.now
+                args.rows.now args.x args.y (sym (may-be-next.ensures keyed.below keyed.held.onward hx hy) ∙ not-false
+                may-be-next.result if2.false-raw))
+                ∙ next-held F args.n args.k args.names.now labels args.nexts.now args.flags.now args.resets.now args.spots.now
+                args.rows.now keyed.held keyed.closed args.x args.y hx hy,
+            record {
+              keyed = keyed-on keyed coded-key.new.keys
+                  (rw coded-key.ensures.keys_after.0 (known-new args.n args.k args.names.now args.keys.now args.nexts.now args.flags.now
+                  args.resets.now args.spots.now args.rows.now keyed.keyed args.y coded-key.result other));
+              shelved = shelved;
+            },
+          );
       asked_for = λ none. rw coded-key.ensures.keys_after.0 (asked-put args.y coded-key.result args.keys.now none);
     }

@@ -12,7 +12,7 @@ use Rattle.comparison.proofs.next.is_next.Goals as goal
 pub returns-then-not-are_items : goal.returns-then-not-are_items
 returns-then-not-are_items c =
     let are-items = c.are_items in
-    let if1 = c.if-not-are_items in 
+    let if1 = c.if-not-are_items in
     record {
       value = λ F held closed below hx hy. absurd (clash (are-items.ensures.value held.few held.few-edges hx hy) (not-true are-items.result
           if1.true-raw));
@@ -23,7 +23,7 @@ pub returns-then-not-may_be_next : goal.returns-then-not-may_be_next
 returns-then-not-may_be_next c =
     let args = c.args in
     let may-be-next = c.may_be_next in
-    let if2 = c.if-not-may_be_next in 
+    let if2 = c.if-not-may_be_next in
     record {
       value = λ F held closed below hx hy. sym (next-fails args.n args.k args.list.now args.nexts.now args.flags.now args.resets.now
           args.spots.now args.rows.now args.x args.y (sym (may-be-next.ensures below held.onward hx hy) ∙ not-true may-be-next.result
@@ -61,7 +61,7 @@ returns c =
     let edges-agree = c.edges_agree in
     let may-be-next = c.may_be_next in
     let if2 = c.if-not-may_be_next in
-    let items = not-false are-items.result if1.false-raw in 
+    let items = not-false are-items.result if1.false-raw in
     record {
       value = λ F held closed below hx hy.
           let ones = list-codes.ensures.by_index args.n held.opened hx (omega (arith, length-replicate {A = ℕ} 128 0)) in

@@ -1,5 +1,5 @@
 -- `is_paired` meets its contract. Assumes nothing.
-use Prim.Native.Nat.{ℕ, ◌-◌}
+use Prim.Native.Nat.{ℕ}
 use native.Mathlib.Omega.{arith}
 use mathlib.Core.Path.{refl, sym, ◌∙◌, ap₂}
 use borrow.Author.Tests.{not-false}

@@ -55,7 +55,7 @@ returns c =
     let are-items = c.are_items in
     let if1 = c.if-not-are_items in
     let are-paired = c.are_paired in
-    let items = not-false are-items.result if1.false-raw in 
+    let items = not-false are-items.result if1.false-raw in
     record {
       y_value = λ t onward opened hx hy.
           let same = sym is-related.ensures ∙ not-false is-related.result if2.false-raw in

@@ -1,7 +1,6 @@
 -- `runs_alike` meets its contract. Assumes nothing.
 use native.Mathlib.Omega.{arith}
 use mathlib.Core.Path.{refl, sym, ◌∙◌}
-use mathlib.Core.Bool.{true}
 use borrow.Author.Tests.{not-false, leb-true}
 use Rattle.bisimulation.specs.Laws.Tests.{clash}
 use Rattle.comparison.specs.Laws.Twins.{beside-start, beside-ends, beside-met, beside-over, beside-on}

@@ -1,0 +1,16 @@
+-- `judge_firsts` meets its contract. Assumes nothing.
+use Prim.Native.Nat.{◌-◌}
+use Rattle.bisimulation.specs.Structures.{Closed}
+use Rattle.bisimulation.specs.Finite.{Finite, structure, related}
+use Rattle.bisimulation.specs.Below.{Reps}
+use Rattle.comparison.specs.Held.{Held}
+use Rattle.rounds.specs.Laws.Rounds.{JudgedTo}
+use Rattle.rounds.proofs.judging.judge_firsts.Given as goal
+
+abbrev pub invariant-loop-x : goal.invariant-loop-x
+invariant-loop-x l =
+    (F : Finite) → Held F l.n l.k l.labels l.nexts l.flags l.resets l.spots l.rows → Closed (structure F) → Reps (related l.firsts) l.n l.firsts →
+    JudgedTo F l.firsts l.x
+
+abbrev pub decreases-loop-x : goal.decreases-loop-x
+decreases-loop-x l = l.n - l.x
