@@ -1,5 +1,6 @@
 // Text that is put together at the front of a slice: bytes, words and decimal numbers.
 #![tactic(auto)]
+
 mod writing;
 
 pub use writing::{put, put_field, put_named, put_number, put_word};

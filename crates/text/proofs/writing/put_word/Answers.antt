@@ -2,7 +2,7 @@
 use Rattle.text.specs.Laws.Writing.{adds_none, adds_then, adds_same}
 use native.Mathlib.Numerals.{add-one}
 use mathlib.Core.Path.{sym, ◌∙◌, ap}
-use Prim.Native.Nat.{ℕ, ◌-◌}
+use Prim.Native.Nat.{ℕ}
 use lib.ListN.{take}
 use lib.Seq.{take-suc, take_all}
 use Rattle.text.proofs.writing.put_word.Goals as goal

@@ -6,7 +6,7 @@ use mathlib.Core.Path.{sym, subst}
 use mathlib.Core.List.{List}
 use lib.ListN.{take, get_or, set}
 use lib.Seq.{length-take-le}
-use Prim.Native.Nat.{ℕ, ◌+◌, ◌-◌, ◌<◌}
+use Prim.Native.Nat.{ℕ, ◌+◌, ◌<◌}
 use Rattle.totals.proofs.totals.count_labels.Goals as goal
 
 pub loop-i-init : goal.loop-i-init

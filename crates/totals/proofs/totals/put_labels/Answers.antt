@@ -6,10 +6,9 @@ use Rattle.totals.specs.Counts.{totals_below}
 use Rattle.totals.specs.Laws.Counts.{label-put, label-left}
 use native.Mathlib.Omega.{arith}
 use mathlib.Core.Path.{◌≡◌, refl, ap, ◌∙◌}
-use mathlib.Core.Logic.{⊎_elim}
-use lib.ListN.{length}
-use Prim.Native.Nat.{ℕ, ◌-◌, ◌<◌}
+use Prim.Native.Nat.{ℕ, ◌<◌}
 use Rattle.totals.proofs.totals.put_labels.Goals as goal
+use Rattle.totals.proofs.totals.put_labels.Goals.{then-regions-label-gt0, else-regions-label-gt0}
 
 pub loop-label-init : goal.loop-label-init
 loop-label-init c =
@@ -22,10 +21,14 @@ loop-label-preserved c =
     let args = c.args in
     let loop-test = c.loop-label-test in
     let below : loop.label < 256 = omega (arith, loop-test.true) in (
-      ⊎_elim (λ w ls ks r b. label-put ls ks loop.label args.regions.now args.blocks.now r b below w.7 w.8 w.0.taken
-          (loop.invariant.0 ls ks r b) w.4.ensures) (λ w ls ks r b. label-left ls ks loop.label args.regions.now args.blocks.now r b
-          below w.1 w.2 w.0.left (loop.invariant.0 ls ks r b)) c.if-regions-label-gt0.branch,
-      ⊎_elim (λ w. ap length w.7 ∙ (w.4.ensures.as_long ∙ loop.invariant.1)) (λ w. ap length w.1 ∙ loop.invariant.1) c.if-regions-label-gt0.branch,
+      (λ ls ks r b.
+          elim c.if-regions-label-gt0.branch [
+            | then-regions-label-gt0 w ↦ label-put ls ks loop.label args.regions.now args.blocks.now r b below w.text-is w.now-is
+                w.if-regions-label-gt0.true (loop.invariant.0 ls ks r b) w.put_label-now.ensures
+            | else-regions-label-gt0 w ↦ label-left ls ks loop.label args.regions.now args.blocks.now r b below w.text-is w.now-is
+                w.if-regions-label-gt0.false (loop.invariant.0 ls ks r b)
+          ]),
+      c.if-regions-label-gt0.auto.text ∙ loop.invariant.1,
       omega (arith, loop-test.true),
     )
 
