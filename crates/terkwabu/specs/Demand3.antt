@@ -16,7 +16,7 @@
 -- What these files rest on is named in their first lines.
 use Rattle.std.specs.Prelude.{ℕ, ◌<◌, ◌≡◌, ◌↔◌, ◌⊎◌, List, get_or}
 use Rattle.std.proofs.Common.{⊎_elim}
-use Rattle.std.proofs.Math.Logic.{Iff.trans}
+use mathlib.Core.Logic.Iff
 use Rattle.regions.specs.Passed.{Model, read_table, accepted, Region}
 use Rattle.regions.specs.Entries.{region_at}
 use Rattle.regions.specs.Explore.{listed}

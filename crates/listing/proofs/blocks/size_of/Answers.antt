@@ -1,0 +1,38 @@
+-- `size_of` meets its contract. Assumes nothing.
+use Rattle.listing.specs.Printed.{size_below}
+use Rattle.listing.specs.Laws.Blocks.{size-hit, size-miss}
+use native.Mathlib.Omega.{arith}
+use mathlib.Core.Path.{◌≡◌, refl, sym, ◌∙◌, ap}
+use mathlib.Core.Logic.{⊎_elim}
+use lib.ListN.{length}
+use Prim.Native.Nat.{ℕ, ◌-◌}
+use Rattle.listing.proofs.blocks.size_of.Goals as goal
+
+pub loop-x-init : goal.loop-x-init
+loop-x-init c = (refl, omega arith, omega arith)
+
+pub loop-x-preserved : goal.loop-x-preserved
+loop-x-preserved c =
+    let args = c.args in
+    let loop = c.loop-x in
+    let inside = c.loop-x-test.true in
+    let block_at = c.block_at in
+    ⊎_elim
+    (λ p. (
+      p.1 ∙ size-hit args.list.now args.b loop.x loop.size loop.invariant.0 (sym block_at.ensures ∙ p.0.taken),
+      omega (arith, p.1, loop.invariant.1),
+      omega (arith, inside),
+    ))
+    (λ p. (
+      p.1 ∙ size-miss args.list.now args.b loop.x loop.size loop.invariant.0 (λ e. p.0.left (block_at.ensures ∙ e)),
+      omega (arith, p.1, loop.invariant.1),
+      omega (arith, inside),
+    ))
+    c.if-block_at-b.branch-raw
+
+pub returns : goal.returns
+returns c =
+    let args = c.args in
+    let loop = c.loop-x in
+    let all : loop.x ≡ length args.list.now = omega (arith, loop.invariant.2, c.loop-x-test.false) in
+    loop.invariant.0 ∙ ap (λ (k : ℕ). size_below args.list.now args.b k) all

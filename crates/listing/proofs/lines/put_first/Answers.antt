@@ -1,0 +1,11 @@
+-- `put_first` meets its contract. Assumes nothing.
+use Rattle.text.specs.Laws.Writing.{adds_then}
+use Rattle.listing.proofs.lines.put_first.Goals as goal
+
+pub returns : goal.returns
+returns c =
+    let put-named = c.put_named-one in
+    let put-named2 = c.put_named-two in
+    let put-named3 = c.put_named-three in
+    let put = c.put in
+    adds_then put-named.ensures (adds_then put-named2.ensures (adds_then put-named3.ensures put.ensures))
