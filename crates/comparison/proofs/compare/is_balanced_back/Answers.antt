@@ -2,7 +2,6 @@
 use Prim.Native.Nat.{ℕ}
 use native.Mathlib.Omega.{arith}
 use mathlib.Core.Path.{refl, sym, ◌∙◌}
-use borrow.Author.Tests.{not-true}
 use Rattle.comparison.specs.Held.{count_at, target_at}
 use Rattle.comparison.specs.Compare.{balanced, balanced_over}
 use Rattle.comparison.specs.Laws.Compare.{all-on, all-fails, all-over, balanced-into}
@@ -38,7 +37,7 @@ returns-then-not-is_balanced c =
     args.rows.now args.x args.e args.y args.f (target_at args.resets.now args.spots.now args.rows.now args.y args.f j)) loop.i (omega
     (arith, loop-test.true, at16.ensures.0))
     (sym (is-balanced.ensures (target_at args.resets.now args.spots.now args.rows.now args.y args.f loop.i) (number_at.ensures (omega
-    (arith, loop-test.true, at16.ensures.0)) other) one other) ∙ not-true is-balanced.result if2.true-raw))
+    (arith, loop-test.true, at16.ensures.0)) other) one other) ∙ if2.true))
 
 pub overflow_add-i : goal.overflow_add-i
 overflow_add-i c =
