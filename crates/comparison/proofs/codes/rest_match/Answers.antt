@@ -64,5 +64,6 @@ returns c =
     let loop-test = c.loop-e-test in
     λ n opened hx hy one other told met. sym (all-answered args.k args.list.now args.flags.now args.resets.now args.spots.now
     args.rows.now args.x args.y (down-over (is_open args.flags.now args.x) (HasAnswer args.k args.list.now args.flags.now
-    args.resets.now args.spots.now args.rows.now args.x args.y) args.k loop.e loop-test.false (loop.invariant.1 n opened hx hy one other told
+    args.resets.now args.spots.now args.rows.now args.x args.y) args.k loop.e loop-test.false
+    (loop.invariant.1 n opened hx hy one other told
     met)))

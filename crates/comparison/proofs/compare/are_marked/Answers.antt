@@ -16,7 +16,8 @@ returns-then-not-is_set c =
     let index_at = c.index_at in
     let is_set = c.is_set in
     sym (loop.invariant ∙ each-fails args.n args.nexts.now (λ (u : ℕ). eqb (get_or args.marks.now (get_or args.list.now u 0) 0) 1)
-    loop.left loop.at (ap (λ (j : ℕ). eqb (get_or args.marks.now j 0) 1) (sym index_at.ensures) ∙ sym is_set.ensures ∙ c.if-not-is_set.true))
+    loop.left loop.at (ap (λ (j : ℕ). eqb (get_or args.marks.now j 0) 1) (sym index_at.ensures) ∙ sym is_set.ensures
+    ∙ c.if-not-is_set.true))
 
 pub returns-then-n-next : goal.returns-then-n-next
 returns-then-n-next c =

@@ -55,7 +55,8 @@ loop-i-preserved c =
     let if1 = c.if-not-is_balanced in (
       omega (arith, loop-test.true),
       λ one other. all-on loop.i (λ (j : ℕ). balanced args.list.now args.resets.now args.spots.now
-          args.rows.now args.x args.e args.y args.f (target_at args.resets.now args.spots.now args.rows.now args.x args.e j)) (loop.invariant.1 one
+          args.rows.now args.x args.e args.y args.f (target_at args.resets.now args.spots.now args.rows.now args.x args.e j))
+          (loop.invariant.1 one
           other)
           (sym (is-balanced.ensures (target_at args.resets.now args.spots.now args.rows.now args.x args.e loop.i) (number_at.ensures (omega
           (arith, loop-test.true, at16.ensures.0)) one) one other) ∙ if1.false),

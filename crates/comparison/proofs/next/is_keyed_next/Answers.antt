@@ -13,7 +13,8 @@ returns-then-not-are_items c =
     let if1 = c.if-not-are_items in
     record {
       keys_len_unchanged = (refl, refl, λ i h. refl);
-      value = λ F equipped hx hy. let keyed = equipped.keyed in absurd (clash (are-items.ensures.value keyed.held.few keyed.held.few-edges hx hy) if1.true);
+      value = λ F equipped hx hy. let keyed = equipped.keyed in
+          absurd (clash (are-items.ensures.value keyed.held.few keyed.held.few-edges hx hy) if1.true);
       both_asked = (λ z. inl refl, λ h. (refl, refl, refl), λ h. (refl, refl, refl));
       keys_unchanged = λ short. (
         refl,

@@ -58,7 +58,8 @@ returns-then-not-may_be_next c =
           (omega (arith, length-replicate {A = ℕ} 128 0)) equipped.shelved back (own-none args.k args.names.now args.flags.now
           args.resets.now args.spots.now args.rows.now args.x args.y 128) in (
             sym (next-fails args.n args.k args.names.now args.nexts.now args.flags.now args.resets.now args.spots.now args.rows.now
-                args.x args.y (sym (may-be-next.ensures keyed.below keyed.held.onward hx hy) ∙ if2.true)) ∙ next-held F args.n args.k args.names.now labels args.nexts.now args.flags.now args.resets.now
+                args.x args.y (sym (may-be-next.ensures keyed.below keyed.held.onward hx hy) ∙ if2.true))
+                ∙ next-held F args.n args.k args.names.now labels args.nexts.now args.flags.now args.resets.now
                 args.spots.now args.rows.now keyed.held keyed.closed args.x args.y hx hy,
             record {
               keyed = keyed-on keyed coded-key.new.keys

@@ -44,7 +44,8 @@ loop-e-preserved c =
       λ n opened inside. down-on (is_open args.flags.now args.x) (EdgeCalm args.changed.now args.resets.now args.spots.now args.rows.now
           args.x) args.k loop.e open-edge2.result loop-test.true (loop.invariant.1 n opened inside)
           (is-edge-calm.ensures if1.false)
-          (open-edge2.ensures ∙ edge-open n args.k args.flags.now args.x (loop.e - 1) opened pre.1 (omega (arith, loop.invariant.0, pre.0)) inside
+          (open-edge2.ensures ∙ edge-open n args.k args.flags.now args.x (loop.e - 1) opened pre.1 (omega (arith, loop.invariant.0, pre.0))
+          inside
           (omega (arith, loop.invariant.0))),
     )
 

@@ -33,5 +33,6 @@ returns c =
     record {
       stirred_len_unchanged = stir-some.ensures.stirred_len_unchanged;
       stirred = λ opened yes. spared-stirred args.n args.k args.changed.now args.nexts.now args.flags.now args.resets.now args.spots.now
-          args.rows.now mark-still.new.still stir-some.new.stirred (is-still.ensures if2.false) (yes if1.false) (stir-some.ensures.spared opened);
+          args.rows.now mark-still.new.still stir-some.new.stirred (is-still.ensures if2.false) (yes if1.false)
+          (stir-some.ensures.spared opened);
     }
