@@ -115,4 +115,5 @@ pub record Held (F : Finite) (n k : ℕ) (labels nexts flags resets spots rows :
   pub available : (x e : ℕ) → x < n → e < k → F.available x e ≡ is_open flags x e
   pub action : (x e : ℕ) → x < n → e < k → F.action x e ≡ action_at rows e
   pub whole : (x e : ℕ) → x < n → e < k → F.whole x e ≡ whole_at rows e
-  pub branches : (x e : ℕ) → x < n → e < k → F.available x e ≡ true → F.branches x e ≡ branches_from resets spots rows x e 0 (count_at rows e)
+  pub branches : (x e : ℕ) → x < n → e < k → F.available x e ≡ true
+      → F.branches x e ≡ branches_from resets spots rows x e 0 (count_at rows e)

@@ -1,6 +1,7 @@
 -- A key for each item under a block list: a number that is equal for items that the next round relates (`key-same` in Laws/Keys), so
 -- that items with different keys need not be compared. How numbers are scattered and joined is our choice; only speed depends on it.
-use Rattle.std.specs.Prelude.{ℕ, zero, suc, ◌+◌, ◌*◌, ◌/◌, ◌%◌, ◌≤◌, ◌<◌, ◌≡◌, Bool, true, false, cond, not, ◌&&◌, List, ◌⊎◌, eqb, length, get_or, set}
+use Rattle.std.specs.Prelude.{ℕ, zero, suc, ◌+◌, ◌*◌, ◌/◌, ◌%◌, ◌≤◌, ◌<◌, ◌≡◌, Bool, true}
+use Rattle.std.specs.Prelude.{false, cond, not, ◌&&◌, List, ◌⊎◌, eqb, length, get_or, set}
 use Rattle.bisimulation.specs.Structures.{Closed}
 use Rattle.bisimulation.specs.Finite.{Finite, structure, related, some_below, any_of}
 use Rattle.comparison.specs.Held.{most_items, most_edges, chain, action_at, whole_at, count_at, target_at}

@@ -46,7 +46,8 @@ module _ (n k : ℕ) (list list' nexts flags resets spots rows : List ℕ) (x : 
   branch_kept e h t i b =
       let c = target_at resets spots rows x e i in
       let first : is_first_into list' resets spots rows c x e i ≡ is_first_into list resets spots rows c x e i =
-      ap not (some-agree i (λ j. related list' (target_at resets spots rows x e j) c) (λ j. related list (target_at resets spots rows x e j) c)
+      ap not (some-agree i (λ j. related list' (target_at resets spots rows x e j) c)
+      (λ j. related list (target_at resets spots rows x e j) c)
       (λ j a. ap₂ (λ (u v : ℕ). eqb u v) (lands e j h t (omega arith)) (lands e i h t b))) in
       let weight : weighed list' resets spots rows c x e ≡ weighed list resets spots rows c x e =
       weight-kept e c 0 (count_at rows e) h t (omega arith) (lands e i h t b) in

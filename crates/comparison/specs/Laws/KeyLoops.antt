@@ -1,6 +1,8 @@
 -- What the loops that compute keys keep, one law for each turn, and that nothing grows too large there.
-use Rattle.std.specs.Prelude.{ℕ, zero, suc, ◌+◌, ◌*◌, ◌-◌, ◌%◌, ◌≤◌, ◌<◌, ◌≡◌, Bool, true, false, ◌&&◌, ◌||◌, List, [], ◌∷◌, ◌⊎◌, ltb, length, get_or, set, replicate}
-use Rattle.std.proofs.Common.{arith, mul-le-mul, mod-lt, mod-eq_of_lt, add-one, ◌∙◌, ap₂, subst, inl, inr, length-set, get_or-set_same, get_or-set_other, eq-eqb, ne_eqb, lt-ltb, eqb-true, ltb-true, ltb-false}
+use Rattle.std.specs.Prelude.{ℕ, zero, suc, ◌+◌, ◌*◌, ◌-◌, ◌%◌, ◌≤◌, ◌<◌, ◌≡◌, Bool, true, false, ◌&&◌}
+use Rattle.std.specs.Prelude.{◌||◌, List, [], ◌∷◌, ◌⊎◌, ltb, length, get_or, set, replicate}
+use Rattle.std.proofs.Common.{arith, mul-le-mul, mod-lt, mod-eq_of_lt, add-one, ◌∙◌, ap₂, subst, inl, inr, length-set, get_or-set_same}
+use Rattle.std.proofs.Common.{get_or-set_other, eq-eqb, ne_eqb, lt-ltb, eqb-true, ltb-true, ltb-false}
 use Rattle.std.proofs.Math.Path.{refl, sym, ap}
 use Rattle.std.proofs.Math.Bool.{cond, not}
 use Rattle.std.proofs.Math.Dec.{eqb}

@@ -252,7 +252,8 @@ module _ (list resets spots rows : List ℕ) where
   landed-blocks x e m small =
       sum-agree (count_at rows e) (landed_by list resets spots rows x e)
       (λ i. cond (is_first (λ _. true) (leads_to x e) (block_adds x e) i) (block_adds x e (leads_to x e i)) 0)
-      (λ i _. ap (λ (s : ℕ). cond (is_first (λ _. true) (leads_to x e) (block_adds x e) i) (number_code (leads_to x e i) s (whole_at rows e)) 0)
+      (λ i _. ap (λ (s : ℕ). cond (is_first (λ _. true) (leads_to x e) (block_adds x e) i)
+      (number_code (leads_to x e i) s (whole_at rows e)) 0)
       (sum-into list (target_at resets spots rows x e i) (branches x e)))
       ∙ codes-once (λ _. true) (leads_to x e) (block_adds x e) (count_at rows e) m small
       ∙ sum-agree m (λ v. cond (is_led x e v) (block_adds x e v) 0) (block_adds x e) (λ v _. led-adds x e v)

@@ -1,7 +1,8 @@
 -- The index of first items: a search along a bucket finds the lead of an item (`looking-found`, `looking-none`), and the index grows by
 -- an item that leads (`indexed-on`) and stays by one that does not (`indexed-past`).
 use Rattle.std.specs.Prelude.{ℕ, suc, ◌+◌, ◌-◌, ◌%◌, ◌≤◌, ◌<◌, ◌≡◌, refl, Bool, true, false, List, ◌⊎◌, eqb, ltb, get_or, set, replicate}
-use Rattle.std.proofs.Common.{arith, add-one, sym, ◌∙◌, ap, inl, inr, length-set, get_or-set_same, get_or-set_other, eq-eqb, eqb-true, ltb-true, ltb-false}
+use Rattle.std.proofs.Common.{arith, add-one, sym, ◌∙◌, ap, inl, inr, length-set, get_or-set_same}
+use Rattle.std.proofs.Common.{get_or-set_other, eq-eqb, eqb-true, ltb-true, ltb-false}
 use Rattle.std.proofs.lemmas.List.{length-replicate, get_or-replicate}
 use Rattle.bisimulation.specs.Finite.{related, lead}
 use Rattle.bisimulation.specs.Laws.Tests.{clash, both, same?, and-iff, fails}

@@ -1,5 +1,6 @@
 -- Items that join their block's anchor need no search: anchors as they are found, and what the marks then tell.
-use Rattle.std.specs.Prelude.{ℕ, zero, suc, ◌+◌, ◌-◌, ◌%◌, ◌≤◌, ◌<◌, ◌≡◌, refl, Bool, true, false, List, ◌⊎◌, eqb, length, get_or, set, replicate}
+use Rattle.std.specs.Prelude.{ℕ, zero, suc, ◌+◌, ◌-◌, ◌%◌, ◌≤◌, ◌<◌, ◌≡◌, refl, Bool, true}
+use Rattle.std.specs.Prelude.{false, List, ◌⊎◌, eqb, length, get_or, set, replicate}
 use Rattle.std.proofs.Common.{arith, sym, ◌∙◌, ap, ap₂, inl, inr, get_or-set_same, get_or-set_other, eq-eqb, ne_eqb, eqb-true}
 use Rattle.bisimulation.specs.Finite.{related, lead}
 use Rattle.bisimulation.specs.Laws.Tests.{clash, fails, same?, same_test}

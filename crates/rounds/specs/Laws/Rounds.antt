@@ -1,6 +1,7 @@
 -- Laws on what the code of the rounds keeps, one for each turn of a loop.
 use Prim.Native.Nat.{ℕ, suc, ◌+◌, ◌-◌, ◌≤◌, ◌<◌}
-use Rattle.std.proofs.Common.{arith, add-one, sym, ◌∙◌, subst, inl, inr, length-set, ext_get_or, get_or-set_same, get_or-set_other, eq-eqb, ne_eqb, eqb-true}
+use Rattle.std.proofs.Common.{arith, add-one, sym, ◌∙◌, subst, inl, inr, length-set, ext_get_or}
+use Rattle.std.proofs.Common.{get_or-set_same, get_or-set_other, eq-eqb, ne_eqb, eqb-true}
 use Rattle.std.proofs.Math.Decide.{dec_lt}
 use Rattle.std.specs.Prelude.{◌≡◌, refl, false, ◌&&◌, ◌↔◌, ◌⊎◌, length, get_or, set}
 use Rattle.std.proofs.Math.Path.{ap, ap₂}
@@ -15,7 +16,8 @@ use Rattle.bisimulation.specs.Laws.Tests.{clash, fails, same?, same_test, and-if
 use Rattle.bisimulation.specs.Laws.Rounds.{matched-agree}
 use Rattle.bisimulation.specs.Laws.Leads.{related-equivalence, reps-own}
 use Rattle.bisimulation.specs.Below.{EquivalenceBelow, AgreeBelow, Reps}
-use Rattle.bisimulation.specs.Laws.Leads.{lead_low, lead-lowest, lead-related, lead-of, lead-iff, lead-lead, lead-found, lead-none, lead-agree, leaders-agree}
+use Rattle.bisimulation.specs.Laws.Leads.{lead_low, lead-lowest, lead-related, lead-of, lead-iff, lead-lead}
+use Rattle.bisimulation.specs.Laws.Leads.{lead-found, lead-none, lead-agree, leaders-agree}
 use Rattle.bisimulation.specs.Laws.Leads.{block_new, block-old, blocks-by-at, blocks-by-length, leader-finer, lead-first}
 use Rattle.bisimulation.specs.Laws.Blocks.{first-reps, first-agree, next-classes, next-finer, next-reps, next-count}
 use Rattle.bisimulation.specs.Laws.Blocks.{reps-numbered, turn-stop, turn_on, count-grows, rounds-stay}

@@ -3,7 +3,7 @@ use Prim.Native.Nat.{ℕ}
 use native.Mathlib.Omega.{arith}
 use mathlib.Core.Path.{◌≡◌, refl, sym, ◌∙◌}
 use lib.ListN.{get_or}
-use borrow.Author.Tests.{eqb-true, not-false}
+use borrow.Author.Tests.{eqb-true}
 use Rattle.bisimulation.specs.Laws.Tests.{clash}
 use Rattle.comparison.specs.Held.{is_open}
 use Rattle.comparison.specs.Laws.Down.{down-first, down-on, down-over}
@@ -32,7 +32,7 @@ loop-e-preserved c =
       omega (arith, open-below2.ensures.upper_bound, loop.invariant.0),
       λ n opened hx. down-on (is_open args.flags.now args.x) (λ (g : ℕ). get_or
           args.met.now g 0 ≡ 1) args.k loop.e open-below2.result loop-test.true (loop.invariant.1 n opened hx)
-          (eqb-true _ 1 (sym is_set.ensures ∙ not-false is_set.result if1.false-raw)) (open-below2.ensures.by_index n args.k opened hx (omega (
+          (eqb-true _ 1 (sym is_set.ensures ∙ if1.false)) (open-below2.ensures.by_index n args.k opened hx (omega (
             arith,
             loop.invariant.0,
           ))),

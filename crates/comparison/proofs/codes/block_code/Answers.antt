@@ -18,7 +18,8 @@ returns-then-weight-eq0 c =
     let if1 = c.if-weight-eq0 in
     record {
       upper_bound = omega arith;
-      by_index = λ b h gathered. sym (cond_yes {A = ℕ} (eqb (weighed args.list.now args.resets.now args.spots.now args.rows.now b args.x args.e) 0) 0
+      by_index = λ b h gathered. sym (cond_yes {A = ℕ} (eqb (weighed args.list.now args.resets.now args.spots.now args.rows.now b args.x
+          args.e) 0) 0
           (mixed (mark_of args.list.now b) (share_of (weighed args.list.now args.resets.now args.spots.now args.rows.now b args.x args.e)
           (whole_at args.rows.now args.e))) (eq-eqb _ 0 (sym (weigh.ensures.by_index b h gathered) ∙ if1.true)));
     }
@@ -34,7 +35,8 @@ returns c =
     let if1 = c.if-weight-eq0 in
     record {
       upper_bound = mix-of.ensures.1;
-      by_index = λ b h gathered. mix-of.ensures.0 ∙ ap₂ (λ (m s : ℕ). mixed m s) (ap (λ (u : ℕ). u % most_items) h) (share-of.ensures.0 ∙ ap₂
+      by_index = λ b h gathered. mix-of.ensures.0 ∙ ap₂ (λ (m s : ℕ). mixed m s) (ap (λ (u : ℕ). u % most_items) h)
+          (share-of.ensures.0 ∙ ap₂
           (λ (w d : ℕ). share_of w d) (weigh.ensures.by_index b h gathered) at16.ensures.0)
           ∙ sym (cond_no {A = ℕ} (eqb (weighed args.list.now args.resets.now args.spots.now args.rows.now b args.x args.e) 0) 0 (mixed
           (mark_of args.list.now b) (share_of (weighed args.list.now args.resets.now args.spots.now args.rows.now b args.x args.e)

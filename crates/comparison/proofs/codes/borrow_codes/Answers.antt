@@ -67,7 +67,8 @@ loop-e-preserved c =
                 (borrow-code.ensures (λ t. own-told args.k args.list.now args.flags.now args.resets.now args.spots.now args.rows.now args.x
                 args.y (loop.e - 1) args.ones.now coded told below ready (answer t)))
                 (open-below2.ensures.by_index n args.k opened hy (omega (arith, loop.invariant.0)))),
-            rw mark-if.ensures.marks_after (own_on args.k args.list.now args.flags.now args.resets.now args.spots.now args.rows.now args.x args.y
+            rw mark-if.ensures.marks_after (own_on args.k args.list.now args.flags.now args.resets.now args.spots.now args.rows.now args.x
+                args.y
                 (loop.e - 1) is-own-pair.result loop.own own' ready answer),
           ),
     )

@@ -1,6 +1,5 @@
 -- `edges_agree` meets its contract. Assumes nothing.
 use mathlib.Core.Path.{sym, ◌∙◌}
-use borrow.Author.Tests.{not-true, not-false}
 use Rattle.comparison.specs.Compare.{edges_answered}
 use Rattle.comparison.specs.Laws.Codes.{all-answered, met-none}
 use Rattle.comparison.specs.Laws.KeyLoops.{and_no, and_yes}
@@ -16,7 +15,7 @@ returns-then-not-edges_match c =
     (edges_answered args.k args.list.now args.flags.now args.resets.now args.spots.now args.rows.now args.y args.x) (sym
     (edges-match.ensures.by_index n opened hx hy one other there own (met-none args.k args.list.now args.flags.now args.resets.now
     args.spots.now
-    args.rows.now args.y args.x 128)).0 ∙ not-true edges-match.result if1.true-raw))
+    args.rows.now args.y args.x 128)).0 ∙ if1.true))
 
 pub returns-then-are_all_met : goal.returns-then-are_all_met
 returns-then-are_all_met c =
@@ -31,7 +30,7 @@ returns-then-are_all_met c =
     args.spots.now args.rows.now args.y args.x 128) in
     sym (and_yes (edges_answered args.k args.list.now args.flags.now args.resets.now args.spots.now args.rows.now args.x args.y)
     (edges_answered args.k args.list.now args.flags.now args.resets.now args.spots.now args.rows.now args.y args.x) (sym same ∙
-    not-false edges-match.result if1.false-raw)
+    if1.false)
     ∙ all-answered args.k args.list.now args.flags.now args.resets.now args.spots.now args.rows.now args.y args.x (λ f hf ready. met f
     (are-all-met.ensures if2.true n opened hy f hf ready)))
 
@@ -48,4 +47,4 @@ returns c =
     rest-match.ensures n opened hy hx other one back met
     ∙ sym (and_yes (edges_answered args.k args.list.now args.flags.now args.resets.now args.spots.now args.rows.now args.x args.y)
     (edges_answered args.k args.list.now args.flags.now args.resets.now args.spots.now args.rows.now args.y args.x) (sym same ∙
-    not-false edges-match.result if1.false-raw))
+    if1.false))

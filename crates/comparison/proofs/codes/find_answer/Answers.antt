@@ -16,7 +16,8 @@ loop-f-init c =
     let args = c.args in (
       open-below.ensures.upper_bound,
       λ n opened hy coded told. down-first (is_open args.flags.now args.y) (NoAnswer args.list.now args.flags.now
-          args.resets.now args.spots.now args.rows.now args.x args.e args.y) args.k open-below.result (open-below.ensures.by_index n args.k opened
+          args.resets.now args.spots.now args.rows.now args.x args.e args.y) args.k open-below.result
+          (open-below.ensures.by_index n args.k opened
           hy (omega arith)),
     )
 
@@ -38,7 +39,8 @@ returns-then-is_answer c =
       loop.f - 1,
       omega (arith, loop-test.true),
       omega (arith, loop.invariant.0, loop-test.true),
-      answers-on args.list.now args.flags.now args.resets.now args.spots.now args.rows.now args.x args.e args.y (loop.f - 1) ((loop.invariant.1
+      answers-on args.list.now args.flags.now args.resets.now args.spots.now args.rows.now args.x args.e args.y (loop.f - 1)
+          ((loop.invariant.1
           n opened hy coded told).at loop-test.true) ∙ sym is-answer.ensures ∙ if2.true,
     )
 
@@ -57,7 +59,8 @@ loop-f-preserved c =
           down-on (is_open args.flags.now args.y) (NoAnswer args.list.now args.flags.now args.resets.now args.spots.now args.rows.now args.x
           args.e args.y) args.k loop.f open-below2.result loop-test.true down
           (elim if1.branch [
-            | then-at64-code+else-is_answer w ↦ answers-on args.list.now args.flags.now args.resets.now args.spots.now args.rows.now args.x args.e args.y
+            | then-at64-code+else-is_answer w ↦ answers-on args.list.now args.flags.now args.resets.now args.spots.now args.rows.now args.x
+                args.e args.y
                 (loop.f - 1) ready ∙ sym w.is_answer.ensures ∙ w.if-is_answer.false
             | else-at64-code w ↦ other-code args.k args.list.now args.flags.now args.resets.now args.spots.now args.rows.now args.x args.e
                 args.y args.code args.codes.now coded told (loop.f - 1) (omega (arith, loop.invariant.0, loop-test.true)) ready

@@ -10,7 +10,8 @@ use Rattle.comparison.proofs.codes.is_first_into.Given as goal
 
 abbrev pub invariant-loop-j : goal.invariant-loop-j
 invariant-loop-j l =
-    (l.j ≤ l.i) × ((c : ℕ) → l.v ≡ get_or l.list c 0 → l.i < count_at l.rows l.e → Gathered l.x l.e l.list l.resets l.spots l.rows l.got → some_below l.j (λ j. related
+    (l.j ≤ l.i) × ((c : ℕ) → l.v ≡ get_or l.list c 0 → l.i < count_at l.rows l.e → Gathered l.x l.e l.list l.resets l.spots l.rows l.got
+    → some_below l.j (λ j. related
     l.list (target_at l.resets l.spots l.rows l.x l.e j) c) ≡ false)
 
 abbrev pub decreases-loop-j : goal.decreases-loop-j

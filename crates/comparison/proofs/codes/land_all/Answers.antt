@@ -57,5 +57,6 @@ returns c =
     let at16 = c.at16-count in
     let loop-test = c.loop-i-test in
     λ gathered. sum_done (count_at args.rows.now args.e) loop.i (landed_by args.list.now args.resets.now args.spots.now args.rows.now
-    args.x args.e) loop.total (omega (arith, loop.invariant.0, at16.ensures.0)) (omega (arith, loop-test.false, at16.ensures.0)) (loop.invariant.2
+    args.x args.e) loop.total (omega (arith, loop.invariant.0, at16.ensures.0)) (omega (arith, loop-test.false, at16.ensures.0))
+    (loop.invariant.2
     gathered)

@@ -7,7 +7,8 @@ use Rattle.comparison.proofs.codes.land_all.Given as goal
 
 abbrev pub invariant-loop-i : goal.invariant-loop-i
 invariant-loop-i l =
-    (l.i ≤ l.count) × (l.total ≤ 2147483628 * l.i) × (Gathered l.x l.e l.list l.resets l.spots l.rows l.got → l.total ≡ sum_below l.i (landed_by l.list l.resets l.spots
+    (l.i ≤ l.count) × (l.total ≤ 2147483628 * l.i) × (Gathered l.x l.e l.list l.resets l.spots l.rows l.got
+    → l.total ≡ sum_below l.i (landed_by l.list l.resets l.spots
     l.rows l.x l.e))
 
 abbrev pub decreases-loop-i : goal.decreases-loop-i

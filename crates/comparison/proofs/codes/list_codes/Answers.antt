@@ -36,7 +36,8 @@ loop-e-preserved c =
       λ n opened hx room.
           rw put64.ensures (kept_on args.k args.x loop.e open-below2.result code_of_lem.result args.list.now args.flags.now args.resets.now
           args.spots.now
-          args.rows.now loop.codes loop-test.true (omega (arith, loop.invariant.0, loop.invariant.1, pre.0, room)) (loop.invariant.2 n opened hx room)
+          args.rows.now loop.codes loop-test.true (omega (arith, loop.invariant.0, loop.invariant.1, pre.0, room))
+          (loop.invariant.2 n opened hx room)
           code_of_lem.ensures.0 (open-below2.ensures.by_index n args.k opened hx (omega (arith, loop.invariant.0)))),
       λ i h.
           rw put64.ensures (get_or-set_other loop.codes (loop.e - 1) i code_of_lem.result 0

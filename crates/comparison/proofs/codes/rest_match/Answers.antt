@@ -2,7 +2,6 @@
 use Prim.Native.Nat.{◌-◌, ◌<◌}
 use native.Mathlib.Omega.{arith}
 use mathlib.Core.Path.{sym, ◌∙◌}
-use borrow.Author.Tests.{not-true, not-false}
 use Rattle.comparison.specs.Held.{is_open}
 use Rattle.comparison.specs.Laws.Down.{down-first, down-on, down-over}
 use Rattle.comparison.specs.Laws.Codes.{HasAnswer, one-unanswered, all-answered}
@@ -37,7 +36,7 @@ returns-then-not-is_met c =
     let ready = (loop.invariant.1 n opened hx hy one other told met).at loop-test.true in
     sym (one-unanswered args.k args.list.now args.flags.now args.resets.now args.spots.now args.rows.now args.x args.y (loop.e - 1)
     below ready
-    (sym (is-met.ensures n opened hx hy ready one other told met) ∙ not-true is-met.result if1.true-raw))
+    (sym (is-met.ensures n opened hx hy ready one other told met) ∙ if1.true))
 
 pub loop-e-preserved : goal.loop-e-preserved
 loop-e-preserved c =
@@ -54,7 +53,7 @@ loop-e-preserved c =
           let ready = down.at loop-test.true in
           down-on (is_open args.flags.now args.x) (HasAnswer args.k args.list.now args.flags.now args.resets.now args.spots.now
           args.rows.now args.x args.y) args.k loop.e open-below2.result loop-test.true down
-          (sym (is-met.ensures n opened hx hy ready one other told met) ∙ not-false is-met.result if1.false-raw)
+          (sym (is-met.ensures n opened hx hy ready one other told met) ∙ if1.false)
           (open-below2.ensures.by_index n args.k opened hx (omega (arith, loop.invariant.0))),
     )
 
@@ -65,5 +64,6 @@ returns c =
     let loop-test = c.loop-e-test in
     λ n opened hx hy one other told met. sym (all-answered args.k args.list.now args.flags.now args.resets.now args.spots.now
     args.rows.now args.x args.y (down-over (is_open args.flags.now args.x) (HasAnswer args.k args.list.now args.flags.now
-    args.resets.now args.spots.now args.rows.now args.x args.y) args.k loop.e loop-test.false (loop.invariant.1 n opened hx hy one other told
+    args.resets.now args.spots.now args.rows.now args.x args.y) args.k loop.e loop-test.false
+    (loop.invariant.1 n opened hx hy one other told
     met)))

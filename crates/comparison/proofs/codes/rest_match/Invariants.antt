@@ -8,8 +8,10 @@ use Rattle.comparison.proofs.codes.rest_match.Given as goal
 
 abbrev pub invariant-loop-e : goal.invariant-loop-e
 invariant-loop-e l =
-    (l.e ≤ l.k) × ((n : ℕ) → Opened n l.k l.flags → l.x < n → l.y < n → Coded l.k l.x l.list l.flags l.resets l.spots l.rows l.ones → Coded l.k l.y l.list l.flags l.resets
-    l.spots l.rows l.others → Told l.k l.list l.flags l.resets l.spots l.rows l.x l.y → Met l.k l.list l.flags l.resets l.spots l.rows l.x l.y l.met
+    (l.e ≤ l.k) × ((n : ℕ) → Opened n l.k l.flags → l.x < n → l.y < n → Coded l.k l.x l.list l.flags l.resets l.spots l.rows l.ones
+    → Coded l.k l.y l.list l.flags l.resets
+    l.spots l.rows l.others → Told l.k l.list l.flags l.resets l.spots l.rows l.x l.y
+    → Met l.k l.list l.flags l.resets l.spots l.rows l.x l.y l.met
     → Down (is_open l.flags l.x) (HasAnswer l.k l.list l.flags l.resets l.spots l.rows l.x l.y) l.k l.e)
 
 abbrev pub decreases-loop-e : goal.decreases-loop-e

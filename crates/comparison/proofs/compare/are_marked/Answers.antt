@@ -1,7 +1,6 @@
 -- `are_marked` meets its contract. Assumes nothing.
 use Prim.Native.Nat.{ℕ}
 use mathlib.Core.Path.{refl, sym, ◌∙◌, ap}
-use borrow.Author.Tests.{not-true, not-false}
 use lib.Dec.{eqb}
 use lib.ListN.{get_or}
 use Rattle.comparison.specs.Laws.Compare.{each-fails, each-past, each_none, each_last}
@@ -17,8 +16,8 @@ returns-then-not-is_set c =
     let index_at = c.index_at in
     let is_set = c.is_set in
     sym (loop.invariant ∙ each-fails args.n args.nexts.now (λ (u : ℕ). eqb (get_or args.marks.now (get_or args.list.now u 0) 0) 1)
-    loop.left loop.at (ap (λ (j : ℕ). eqb (get_or args.marks.now j 0) 1) (sym index_at.ensures) ∙ sym is_set.ensures ∙ not-true
-    is_set.result c.if-not-is_set.true-raw))
+    loop.left loop.at (ap (λ (j : ℕ). eqb (get_or args.marks.now j 0) 1) (sym index_at.ensures) ∙ sym is_set.ensures
+    ∙ c.if-not-is_set.true))
 
 pub returns-then-n-next : goal.returns-then-n-next
 returns-then-n-next c =
@@ -31,7 +30,7 @@ returns-then-n-next c =
     let if1 = c.if-not-is_set in
     sym (loop.invariant ∙ each_none args.n args.nexts.now (λ (u : ℕ). eqb (get_or args.marks.now (get_or args.list.now u 0) 0) 1)
     loop.left loop.at at16.result loop-test.true (ap (λ (j : ℕ). eqb (get_or args.marks.now j 0) 1) (sym index_at.ensures) ∙
-    sym is_set.ensures ∙ not-false is_set.result if1.false-raw) at16.ensures.0 c.if-n-next.true)
+    sym is_set.ensures ∙ if1.false) at16.ensures.0 c.if-n-next.true)
 
 pub loop-left-preserved : goal.loop-left-preserved
 loop-left-preserved c =
@@ -44,7 +43,7 @@ loop-left-preserved c =
     let if1 = c.if-not-is_set in
     loop.invariant ∙ each-past args.n args.nexts.now (λ (u : ℕ). eqb (get_or args.marks.now (get_or args.list.now u 0) 0) 1) loop.left
     loop.at at16.result loop-test.true (ap (λ (j : ℕ). eqb (get_or args.marks.now j 0) 1) (sym index_at.ensures) ∙ sym
-    is_set.ensures ∙ not-false is_set.result if1.false-raw) at16.ensures.0 c.if-n-next.false
+    is_set.ensures ∙ if1.false) at16.ensures.0 c.if-n-next.false
 
 pub returns : goal.returns
 returns c =

@@ -7,7 +7,8 @@ use Rattle.comparison.specs.Held.{chain}
 use Rattle.comparison.proofs.compare.are_marked.Given as goal
 
 abbrev pub invariant-loop-left : goal.invariant-loop-left
-invariant-loop-left l = all_of (λ u. eqb (get_or l.marks (get_or l.list u 0) 0) 1) (chain l.n l.nexts l.n l.x) ≡ all_of (λ u. eqb (get_or l.marks (get_or l.list u 0) 0) 1) (chain l.n l.nexts l.left l.at)
+invariant-loop-left l = all_of (λ u. eqb (get_or l.marks (get_or l.list u 0) 0) 1) (chain l.n l.nexts l.n l.x) ≡ all_of
+    (λ u. eqb (get_or l.marks (get_or l.list u 0) 0) 1) (chain l.n l.nexts l.left l.at)
 
 abbrev pub decreases-loop-left : goal.decreases-loop-left
 decreases-loop-left l = l.left

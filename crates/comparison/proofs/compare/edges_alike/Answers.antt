@@ -1,6 +1,5 @@
 -- `edges_alike` meets its contract. Assumes nothing.
 use mathlib.Core.Path.{sym, ◌∙◌}
-use borrow.Author.Tests.{not-true, not-false}
 use Rattle.comparison.specs.Laws.Compare.{alike-action, alike-fails, alike-on}
 use Rattle.comparison.proofs.compare.edges_alike.Goals as goal
 
@@ -25,7 +24,7 @@ returns-then-not-is_balanced_there c =
     let if2 = c.if-not-is_balanced_there in
     sym (alike-fails args.list.now args.resets.now args.spots.now args.rows.now args.x args.e args.y args.f (sym at16.ensures.0 ∙
     if1.false ∙ at162.ensures.0)
-    (sym (is-balanced-there.ensures gather.ensures.gathered gather2.ensures.gathered) ∙ not-true is-balanced-there.result if2.true-raw))
+    (sym (is-balanced-there.ensures gather.ensures.gathered gather2.ensures.gathered) ∙ if2.true))
 
 pub returns : goal.returns
 returns c =
@@ -38,7 +37,7 @@ returns c =
     let at16 = c.at16 in
     let if1 = c.if-at16 in
     let at162 = c.at16-2 in
-    let there = sym (is-balanced-there.ensures gather.ensures.gathered gather2.ensures.gathered) ∙ not-false is-balanced-there.result if2.false-raw in
+    let there = sym (is-balanced-there.ensures gather.ensures.gathered gather2.ensures.gathered) ∙ if2.false in
     is-balanced-back.ensures gather.ensures.gathered gather2.ensures.gathered there
     ∙ sym (alike-on args.list.now args.resets.now args.spots.now args.rows.now args.x args.e args.y args.f (sym at16.ensures.0 ∙
     if1.false ∙ at162.ensures.0) there)

@@ -7,7 +7,8 @@ use Rattle.comparison.proofs.compare.gather.Given as goal
 
 abbrev pub invariant-loop-i : goal.invariant-loop-i
 invariant-loop-i l =
-    (l.i ≤ l.count) × (length l.got ≡ length l.initial.got) × ((j : ℕ) → j < l.i → j < length l.got → get_or l.got j 0 ≡ number_of l.list l.resets l.spots l.rows l.x l.e j)
+    (l.i ≤ l.count) × (length l.got ≡ length l.initial.got) × ((j : ℕ) → j < l.i → j < length l.got
+    → get_or l.got j 0 ≡ number_of l.list l.resets l.spots l.rows l.x l.e j)
 
 abbrev pub decreases-loop-i : goal.decreases-loop-i
 decreases-loop-i l = l.count - l.i

@@ -26,5 +26,6 @@ returns c =
     let at16 = c.at16 in
     let weigh2 = c.weigh-other in
     let at162 = c.at16-2 in
-    λ b h one other. ap₂ (λ (a b : ℕ). eqb a b) (ap₂ (λ (a b : ℕ). a * b) (weigh.ensures.by_index b h one) at16.ensures.0) (ap₂ (λ (a b : ℕ).
+    λ b h one other. ap₂ (λ (a b : ℕ). eqb a b) (ap₂ (λ (a b : ℕ). a * b) (weigh.ensures.by_index b h one) at16.ensures.0)
+    (ap₂ (λ (a b : ℕ).
     a * b) (weigh2.ensures.by_index b h other) at162.ensures.0)

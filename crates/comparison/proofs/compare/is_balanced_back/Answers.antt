@@ -2,7 +2,6 @@
 use Prim.Native.Nat.{ℕ}
 use native.Mathlib.Omega.{arith}
 use mathlib.Core.Path.{refl, sym, ◌∙◌}
-use borrow.Author.Tests.{not-true}
 use Rattle.comparison.specs.Held.{count_at, target_at}
 use Rattle.comparison.specs.Compare.{balanced, balanced_over}
 use Rattle.comparison.specs.Laws.Compare.{all-on, all-fails, all-over, balanced-into}
@@ -38,7 +37,7 @@ returns-then-not-is_balanced c =
     args.rows.now args.x args.e args.y args.f (target_at args.resets.now args.spots.now args.rows.now args.y args.f j)) loop.i (omega
     (arith, loop-test.true, at16.ensures.0))
     (sym (is-balanced.ensures (target_at args.resets.now args.spots.now args.rows.now args.y args.f loop.i) (number_at.ensures (omega
-    (arith, loop-test.true, at16.ensures.0)) other) one other) ∙ not-true is-balanced.result if2.true-raw))
+    (arith, loop-test.true, at16.ensures.0)) other) one other) ∙ if2.true))
 
 pub overflow_add-i : goal.overflow_add-i
 overflow_add-i c =
@@ -58,14 +57,16 @@ loop-i-preserved c =
     let target = target_at args.resets.now args.spots.now args.rows.now args.y args.f loop.i in (
       omega (arith, loop-test.true),
       λ one other there. all-on loop.i (λ (j : ℕ). balanced args.list.now args.resets.now args.spots.now
-          args.rows.now args.x args.e args.y args.f (target_at args.resets.now args.spots.now args.rows.now args.y args.f j)) (loop.invariant.1 one
+          args.rows.now args.x args.e args.y args.f (target_at args.resets.now args.spots.now args.rows.now args.y args.f j))
+          (loop.invariant.1 one
           other there)
           (let at = number_at.ensures (omega (arith, loop-test.true, at16.ensures.0)) other in
           elim if1.branch [
             | then-not-is_into+else-not-is_balanced w ↦ sym (w.is_balanced.ensures target at one other) ∙ w.if-not-is_balanced.false
             | else-not-is_into w ↦
                 let (i, h, same) = is-into.ensures w.if-not-is_into.false one in
-                balanced-into args.list.now args.resets.now args.spots.now args.rows.now args.x args.e args.y args.f target there (i, h, same ∙ at)
+                balanced-into args.list.now args.resets.now args.spots.now args.rows.now args.x args.e args.y args.f target there
+                (i, h, same ∙ at)
           ]),
     )
 

@@ -9,8 +9,10 @@ use Rattle.comparison.proofs.compare.is_balanced_back.Given as goal
 
 abbrev pub invariant-loop-i : goal.invariant-loop-i
 invariant-loop-i l =
-    (l.i ≤ l.count) × (Gathered l.x l.e l.list l.resets l.spots l.rows l.ones → Gathered l.y l.f l.list l.resets l.spots l.rows l.others → balanced_over l.list l.resets
-    l.spots l.rows l.x l.e l.x l.e l.y l.f ≡ true → all_below l.i (λ j. balanced l.list l.resets l.spots l.rows l.x l.e l.y l.f (target_at l.resets l.spots l.rows l.y l.f j)) ≡ true)
+    (l.i ≤ l.count) × (Gathered l.x l.e l.list l.resets l.spots l.rows l.ones → Gathered l.y l.f l.list l.resets l.spots l.rows l.others
+    → balanced_over l.list l.resets
+    l.spots l.rows l.x l.e l.x l.e l.y l.f ≡ true → all_below l.i
+    (λ j. balanced l.list l.resets l.spots l.rows l.x l.e l.y l.f (target_at l.resets l.spots l.rows l.y l.f j)) ≡ true)
 
 abbrev pub decreases-loop-i : goal.decreases-loop-i
 decreases-loop-i l = l.count - l.i

@@ -2,7 +2,6 @@
 use Prim.Native.Nat.{ℕ}
 use native.Mathlib.Omega.{arith}
 use mathlib.Core.Path.{refl, sym, ◌∙◌}
-use borrow.Author.Tests.{not-true, not-false}
 use Rattle.comparison.specs.Held.{count_at, target_at}
 use Rattle.comparison.specs.Compare.{balanced, balanced_over}
 use Rattle.comparison.specs.Laws.Compare.{all-on, all-fails, all-over}
@@ -37,7 +36,7 @@ returns-then-not-is_balanced c =
     args.rows.now args.x args.e args.y args.f (target_at args.resets.now args.spots.now args.rows.now args.x args.e j)) loop.i (omega
     (arith, loop-test.true, at16.ensures.0))
     (sym (is-balanced.ensures (target_at args.resets.now args.spots.now args.rows.now args.x args.e loop.i) (number_at.ensures (omega
-    (arith, loop-test.true, at16.ensures.0)) one) one other) ∙ not-true is-balanced.result if1.true-raw))
+    (arith, loop-test.true, at16.ensures.0)) one) one other) ∙ if1.true))
 
 pub overflow_add-i : goal.overflow_add-i
 overflow_add-i c =
@@ -56,10 +55,11 @@ loop-i-preserved c =
     let if1 = c.if-not-is_balanced in (
       omega (arith, loop-test.true),
       λ one other. all-on loop.i (λ (j : ℕ). balanced args.list.now args.resets.now args.spots.now
-          args.rows.now args.x args.e args.y args.f (target_at args.resets.now args.spots.now args.rows.now args.x args.e j)) (loop.invariant.1 one
+          args.rows.now args.x args.e args.y args.f (target_at args.resets.now args.spots.now args.rows.now args.x args.e j))
+          (loop.invariant.1 one
           other)
           (sym (is-balanced.ensures (target_at args.resets.now args.spots.now args.rows.now args.x args.e loop.i) (number_at.ensures (omega
-          (arith, loop-test.true, at16.ensures.0)) one) one other) ∙ not-false is-balanced.result if1.false-raw),
+          (arith, loop-test.true, at16.ensures.0)) one) one other) ∙ if1.false),
     )
 
 pub returns : goal.returns

@@ -9,7 +9,8 @@ use Rattle.comparison.proofs.compare.is_balanced_there.Given as goal
 
 abbrev pub invariant-loop-i : goal.invariant-loop-i
 invariant-loop-i l =
-    (l.i ≤ l.count) × (Gathered l.x l.e l.list l.resets l.spots l.rows l.ones → Gathered l.y l.f l.list l.resets l.spots l.rows l.others → all_below l.i (λ j. balanced
+    (l.i ≤ l.count) × (Gathered l.x l.e l.list l.resets l.spots l.rows l.ones → Gathered l.y l.f l.list l.resets l.spots l.rows l.others
+    → all_below l.i (λ j. balanced
     l.list l.resets l.spots l.rows l.x l.e l.y l.f (target_at l.resets l.spots l.rows l.x l.e j)) ≡ true)
 
 abbrev pub decreases-loop-i : goal.decreases-loop-i

@@ -9,7 +9,8 @@ use Rattle.comparison.proofs.compare.weigh.Given as goal
 
 abbrev pub invariant-loop-i : goal.invariant-loop-i
 invariant-loop-i l =
-    (l.i ≤ l.count) × (l.total + 65535 * l.i ≤ 65535 * l.count) × ((c : ℕ) → l.v ≡ get_or l.list c 0 → Gathered l.x l.e l.list l.resets l.spots l.rows l.got → l.total
+    (l.i ≤ l.count) × (l.total + 65535 * l.i ≤ 65535 * l.count)
+    × ((c : ℕ) → l.v ≡ get_or l.list c 0 → Gathered l.x l.e l.list l.resets l.spots l.rows l.got → l.total
     ≡ sum l.list c (branches_from l.resets l.spots l.rows l.x l.e l.i (l.count - l.i)))
 
 abbrev pub decreases-loop-i : goal.decreases-loop-i

@@ -18,7 +18,13 @@ returns c =
     let args = c.args in
     let key-by = c.key_by-key in
     record {
-      keys_after = (put64.ensures, shelve.ensures.shelf_len_unchanged, borrow-codes.ensures.codes_len_unchanged.0, borrow-codes.ensures.codes_len_unchanged.1, shelve.ensures.kept_past);
+      keys_after = (
+        put64.ensures,
+        shelve.ensures.shelf_len_unchanged,
+        borrow-codes.ensures.codes_len_unchanged.0,
+        borrow-codes.ensures.codes_len_unchanged.1,
+        shelve.ensures.kept_past,
+      );
       value = λ opened hx hy room shelved told own.
           let (shelved', ones) = shelve.ensures.by_index args.n opened hx shelved in
           let (others, own') = borrow-codes.ensures.by_index args.n opened hx hy room ones told own in

@@ -7,7 +7,8 @@ use Rattle.comparison.proofs.keys.is_code_new.Given as goal
 
 abbrev pub invariant-loop-f : goal.invariant-loop-f
 invariant-loop-f l =
-    (l.f ≤ l.e) × ((n k : ℕ) → Opened n k l.flags → l.x < n → l.e ≤ k → Down (is_open l.flags l.x) (NoCode l.flags l.codes l.x l.code) l.e l.f)
+    (l.f ≤ l.e) × ((n k : ℕ) → Opened n k l.flags → l.x < n → l.e ≤ k
+    → Down (is_open l.flags l.x) (NoCode l.flags l.codes l.x l.code) l.e l.f)
 
 abbrev pub decreases-loop-f : goal.decreases-loop-f
 decreases-loop-f l = l.f

@@ -46,5 +46,8 @@ returns c =
                 args.spots.now args.rows.now known args.x key-by.result key),
             shelved',
           );
-      asked_for = (rw put64.ensures (asked-put args.x key-by.result args.keys.now (sym at64.ensures ∙ if1.false)), shelve.ensures.kept_past);
+      asked_for = (
+        rw put64.ensures (asked-put args.x key-by.result args.keys.now (sym at64.ensures ∙ if1.false)),
+        shelve.ensures.kept_past,
+      );
     }

@@ -17,7 +17,8 @@ loop-e-init c =
       omega (arith, first.ensures.upper_bound, pre.0),
       λ n list resets spots rows opened hx coded.
           sums_first (is_open args.flags.now args.x) (added_by list args.flags.now resets spots rows args.x)
-          (adds_none list args.flags.now resets spots rows args.x) args.k first.result (first.ensures.by_index n args.k opened hx (omega arith)),
+          (adds_none list args.flags.now resets spots rows args.x) args.k first.result
+          (first.ensures.by_index n args.k opened hx (omega arith)),
     )
 
 pub loop-e-preserved : goal.loop-e-preserved

@@ -1,6 +1,5 @@
 -- `delays_agree` meets its contract. Assumes nothing.
 use mathlib.Core.Path.{sym, ◌∙◌}
-use borrow.Author.Tests.{not-true, not-false}
 use Rattle.bisimulation.specs.Laws.Tests.{and-iff}
 use Rattle.comparison.specs.Compare.{delays_answered}
 use Rattle.comparison.specs.Laws.KeyLoops.{and_no, and_yes}
@@ -21,7 +20,7 @@ returns-then-not-delays_match c =
     λ below onward hx hy same.
     sym (and_no (delays_answered args.n args.list.now args.nexts.now args.x args.y)
     (delays_answered args.n args.list.now args.nexts.now args.y args.x)
-    (sym (first.ensures below hx) ∙ not-true first.result c.if-not-delays_match.true-raw))
+    (sym (first.ensures below hx) ∙ c.if-not-delays_match.true))
 
 pub returns : goal.returns
 returns c =
@@ -31,4 +30,4 @@ returns c =
     c.delays_match-2.ensures below hy
     ∙ sym (and_yes (delays_answered args.n args.list.now args.nexts.now args.x args.y)
     (delays_answered args.n args.list.now args.nexts.now args.y args.x)
-    (sym (first.ensures below hx) ∙ not-false first.result c.if-not-delays_match.false-raw))
+    (sym (first.ensures below hx) ∙ c.if-not-delays_match.false))

@@ -1,7 +1,6 @@
 -- `is_keyed_next` meets its contract. Assumes nothing.
 use mathlib.Core.Path.{refl, sym, ◌∙◌}
 use mathlib.Core.Logic.{inl}
-use borrow.Author.Tests.{not-true, not-false}
 use Rattle.bisimulation.specs.Laws.Tests.{clash}
 use Rattle.comparison.specs.Laws.KeyLoops.{known-old, asked-both}
 use Rattle.comparison.specs.Laws.Keyed.{keys-part, twins-meet, keyed-on}
@@ -14,15 +13,14 @@ returns-then-not-are_items c =
     let if1 = c.if-not-are_items in
     record {
       keys_len_unchanged = (refl, refl, λ i h. refl);
-      value = λ F equipped hx hy. let keyed = equipped.keyed in absurd (clash (are-items.ensures.value keyed.held.few keyed.held.few-edges hx hy) (not-true
-          are-items.result if1.true-raw));
+      value = λ F equipped hx hy. let keyed = equipped.keyed in
+          absurd (clash (are-items.ensures.value keyed.held.few keyed.held.few-edges hx hy) if1.true);
       both_asked = (λ z. inl refl, λ h. (refl, refl, refl), λ h. (refl, refl, refl));
       keys_unchanged = λ short. (
         refl,
         refl,
         λ F held closed below hx hy. absurd (clash (are-items.ensures.value held.few held.few-edges hx hy)
-            (not-true
-            are-items.result if1.true-raw)),
+            if1.true),
       );
     }
 
@@ -32,7 +30,7 @@ returns-then-shelf-lt129 c =
     let if1 = c.if-not-are_items in
     let if2 = c.if-shelf-lt129 in
     let is-next = c.is_next in
-    let items = not-false are-items.result if1.false-raw in
+    let items = if1.false in
     record {
       keys_len_unchanged = (refl, refl, λ i h. refl);
       value = λ F equipped hx hy. absurd (omega (arith, equipped.shelved.0, if2.true));
@@ -52,7 +50,7 @@ returns-then-is_twin c =
     let is-twin = c.is_twin in
     let if4 = c.if-is_twin in
     let if2 = c.if-shelf-lt129 in
-    let items = not-false are-items.result if1.false-raw in
+    let items = if1.false in
     record {
       keys_len_unchanged = (refl, refl, λ i h. refl);
       value = λ F equipped hx hy. let keyed = equipped.keyed in (
@@ -73,13 +71,13 @@ pub known_key-one-requires : goal.known_key-one-requires
 known_key-one-requires c =
     let are-items = c.are_items in
     let if1 = c.if-not-are_items in
-    let items = are-items.ensures.k_le_most_edges (not-false are-items.result if1.false-raw) in (items.0, items.1)
+    let items = are-items.ensures.k_le_most_edges if1.false in (items.0, items.1)
 
 pub is_newly_keyed_next-requires : goal.is_newly_keyed_next-requires
 is_newly_keyed_next-requires c =
     let are-items = c.are_items in
     let if1 = c.if-not-are_items in
-    are-items.ensures.k_le_most_edges (not-false are-items.result if1.false-raw)
+    are-items.ensures.k_le_most_edges if1.false
 
 pub returns-then-known-eq0 : goal.returns-then-known-eq0
 returns-then-known-eq0 c =
@@ -91,7 +89,7 @@ returns-then-known-eq0 c =
     let at642 = c.at64-known in
     let if5 = c.if-known-eq0 in
     let if2 = c.if-shelf-lt129 in
-    let items = not-false are-items.result if1.false-raw in
+    let items = if1.false in
     record {
       keys_len_unchanged = (
         is-newly-keyed-next.ensures.keys_len_unchanged.0 ∙ known-key.ensures.keys_len_unchanged.0,
@@ -127,7 +125,7 @@ returns-then-one-known c =
     let if5 = c.if-known-eq0 in
     let if6 = c.if-one-known in
     let if2 = c.if-shelf-lt129 in
-    let items = not-false are-items.result if1.false-raw in
+    let items = if1.false in
     record {
       keys_len_unchanged = (known-key.ensures.keys_len_unchanged.0, known-key.ensures.keys_len_unchanged.1, known-key.ensures.asked_for.1);
       value = λ F equipped hx hy.
@@ -161,7 +159,7 @@ returns c =
     let is-next2 = c.is_next-2 in
     let args = c.args in
     let if2 = c.if-shelf-lt129 in
-    let items = not-false are-items.result if1.false-raw in
+    let items = if1.false in
     record {
       keys_len_unchanged = (known-key.ensures.keys_len_unchanged.0, known-key.ensures.keys_len_unchanged.1, known-key.ensures.asked_for.1);
       value = λ F equipped hx hy.

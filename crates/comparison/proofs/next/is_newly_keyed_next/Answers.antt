@@ -3,7 +3,6 @@ use Prim.Native.Nat.{ℕ}
 use native.Mathlib.Omega.{arith}
 use mathlib.Core.Path.{sym, ◌∙◌, ap}
 use lib.ListN.{length, length-set, length-replicate}
-use borrow.Author.Tests.{not-true, not-false}
 use Rattle.comparison.specs.Laws.Compare.{next-held}
 use Rattle.comparison.specs.Laws.Codes.{answers-tell, own-none, next-fails, next-edges}
 use Rattle.comparison.specs.Laws.KeyLoops.{known-new, asked-put}
@@ -59,8 +58,8 @@ returns-then-not-may_be_next c =
           (omega (arith, length-replicate {A = ℕ} 128 0)) equipped.shelved back (own-none args.k args.names.now args.flags.now
           args.resets.now args.spots.now args.rows.now args.x args.y 128) in (
             sym (next-fails args.n args.k args.names.now args.nexts.now args.flags.now args.resets.now args.spots.now args.rows.now
-                args.x args.y (sym (may-be-next.ensures keyed.below keyed.held.onward hx hy) ∙ not-true may-be-next.result
-                if2.true-raw)) ∙ next-held F args.n args.k args.names.now labels args.nexts.now args.flags.now args.resets.now
+                args.x args.y (sym (may-be-next.ensures keyed.below keyed.held.onward hx hy) ∙ if2.true))
+                ∙ next-held F args.n args.k args.names.now labels args.nexts.now args.flags.now args.resets.now
                 args.spots.now args.rows.now keyed.held keyed.closed args.x args.y hx hy,
             record {
               keyed = keyed-on keyed coded-key.new.keys
@@ -100,8 +99,7 @@ returns c =
                 (answers-tell F args.n args.k args.names.now labels args.nexts.now args.flags.now args.resets.now args.spots.now
                 args.rows.now keyed.held keyed.closed args.x args.y hx hy) back own
                 ∙ sym (next-edges args.n args.k args.names.now args.nexts.now args.flags.now args.resets.now args.spots.now
-                args.rows.now args.x args.y (sym (may-be-next.ensures keyed.below keyed.held.onward hx hy) ∙ not-false
-                may-be-next.result if2.false-raw))
+                args.rows.now args.x args.y (sym (may-be-next.ensures keyed.below keyed.held.onward hx hy) ∙ if2.false))
                 ∙ next-held F args.n args.k args.names.now labels args.nexts.now args.flags.now args.resets.now args.spots.now
                 args.rows.now keyed.held keyed.closed args.x args.y hx hy,
             record {

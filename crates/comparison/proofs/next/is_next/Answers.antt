@@ -3,7 +3,6 @@ use Prim.Native.Nat.{ℕ}
 use mathlib.Core.Path.{refl, sym, ◌∙◌}
 use lib.ListN.{length-replicate}
 use native.Mathlib.Omega.{arith}
-use borrow.Author.Tests.{not-true, not-false}
 use Rattle.bisimulation.specs.Laws.Tests.{clash}
 use Rattle.comparison.specs.Laws.Compare.{next-held}
 use Rattle.comparison.specs.Laws.Codes.{answers-tell, own-none, next-fails, next-edges}
@@ -14,8 +13,7 @@ returns-then-not-are_items c =
     let are-items = c.are_items in
     let if1 = c.if-not-are_items in
     record {
-      value = λ F held closed below hx hy. absurd (clash (are-items.ensures.value held.few held.few-edges hx hy) (not-true are-items.result
-          if1.true-raw));
+      value = λ F held closed below hx hy. absurd (clash (are-items.ensures.value held.few held.few-edges hx hy) if1.true);
       value_2 = (λ h. refl, λ h. refl);
     }
 
@@ -26,8 +24,7 @@ returns-then-not-may_be_next c =
     let if2 = c.if-not-may_be_next in
     record {
       value = λ F held closed below hx hy. sym (next-fails args.n args.k args.list.now args.nexts.now args.flags.now args.resets.now
-          args.spots.now args.rows.now args.x args.y (sym (may-be-next.ensures below held.onward hx hy) ∙ not-true may-be-next.result
-          if2.true-raw))
+          args.spots.now args.rows.now args.x args.y (sym (may-be-next.ensures below held.onward hx hy) ∙ if2.true))
           ∙ next-held F args.n args.k args.list.now args.labels.now args.nexts.now args.flags.now args.resets.now args.spots.now
           args.rows.now held closed args.x args.y hx hy;
       value_2 = (λ h. refl, λ h. refl);
@@ -37,19 +34,19 @@ pub list_codes-requires : goal.list_codes-requires
 list_codes-requires c =
     let are-items = c.are_items in
     let if1 = c.if-not-are_items in
-    let items = are-items.ensures.k_le_most_edges (not-false are-items.result if1.false-raw) in (items.0, items.1)
+    let items = are-items.ensures.k_le_most_edges if1.false in (items.0, items.1)
 
 pub borrow_codes-requires : goal.borrow_codes-requires
 borrow_codes-requires c =
     let are-items = c.are_items in
     let if1 = c.if-not-are_items in
-    are-items.ensures.k_le_most_edges (not-false are-items.result if1.false-raw)
+    are-items.ensures.k_le_most_edges if1.false
 
 pub edges_agree-requires : goal.edges_agree-requires
 edges_agree-requires c =
     let are-items = c.are_items in
     let if1 = c.if-not-are_items in
-    are-items.ensures.k_le_most_edges (not-false are-items.result if1.false-raw)
+    are-items.ensures.k_le_most_edges if1.false
 
 pub returns : goal.returns
 returns c =
@@ -61,7 +58,7 @@ returns c =
     let edges-agree = c.edges_agree in
     let may-be-next = c.may_be_next in
     let if2 = c.if-not-may_be_next in
-    let items = not-false are-items.result if1.false-raw in
+    let items = if1.false in
     record {
       value = λ F held closed below hx hy.
           let ones = list-codes.ensures.by_index args.n held.opened hx (omega (arith, length-replicate {A = ℕ} 128 0)) in
@@ -74,7 +71,7 @@ returns c =
           args.nexts.now args.flags.now args.resets.now args.spots.now args.rows.now held closed args.x args.y hx hy) back own
           ∙ sym (next-edges args.n args.k args.list.now args.nexts.now args.flags.now args.resets.now args.spots.now args.rows.now
           args.x
-          args.y (sym (may-be-next.ensures below held.onward hx hy) ∙ not-false may-be-next.result if2.false-raw))
+          args.y (sym (may-be-next.ensures below held.onward hx hy) ∙ if2.false))
           ∙ next-held F args.n args.k args.list.now args.labels.now args.nexts.now args.flags.now args.resets.now args.spots.now
           args.rows.now held closed args.x args.y hx hy;
       value_2 = (λ h. absurd (clash items (are-items.ensures.value_2.0 h)), λ h. absurd (clash items (are-items.ensures.value_2.1 h)));

@@ -1,7 +1,6 @@
 -- `may_be_next` meets its contract. Assumes nothing.
 use mathlib.Core.Path.{sym, ◌∙◌}
 use mathlib.Core.Bool.{◌&&◌}
-use borrow.Author.Tests.{not-true, not-false}
 use Rattle.bisimulation.specs.Finite.{related}
 use Rattle.comparison.specs.Compare.{delays_answered}
 use Rattle.comparison.specs.Laws.KeyLoops.{and_no, and_yes}
@@ -13,8 +12,7 @@ returns-then-not-is_related c =
     let is-related = c.is_related in
     let if1 = c.if-not-is_related in
     λ below onward hx hy. sym (and_no (related args.list.now args.x args.y) (delays_answered args.n args.list.now args.nexts.now args.x
-    args.y && delays_answered args.n args.list.now args.nexts.now args.y args.x) (sym is-related.ensures ∙ not-true is-related.result
-    if1.true-raw))
+    args.y && delays_answered args.n args.list.now args.nexts.now args.y args.x) (sym is-related.ensures ∙ if1.true))
 
 pub returns : goal.returns
 returns c =
@@ -22,7 +20,7 @@ returns c =
     let if1 = c.if-not-is_related in
     let delays-agree = c.delays_agree in
     let args = c.args in
-    let same = sym is-related.ensures ∙ not-false is-related.result if1.false-raw in
+    let same = sym is-related.ensures ∙ if1.false in
     λ below onward hx hy. delays-agree.ensures below onward hx hy same ∙ sym (and_yes (related args.list.now args.x args.y)
     (delays_answered args.n args.list.now args.nexts.now args.x args.y && delays_answered args.n args.list.now args.nexts.now args.y
     args.x) same)

@@ -1,7 +1,7 @@
 -- `are_paired` meets its contract. Assumes nothing.
 use native.Mathlib.Omega.{arith}
 use mathlib.Core.Path.{refl}
-use borrow.Author.Tests.{not-false, eqb-true}
+use borrow.Author.Tests.{eqb-true}
 use Rattle.bisimulation.specs.Laws.Tests.{clash}
 use Rattle.comparison.specs.Laws.Twins.{downs-start, downs-on, downs-over}
 use Rattle.comparison.proofs.twins.are_paired.Goals as goal
@@ -73,8 +73,9 @@ loop-e-preserved c =
       omega (arith, loop.invariant.1, open-below4.ensures.upper_bound),
       λ n opened hx hy.
           downs-on args.k args.list.now args.flags.now args.resets.now args.spots.now args.rows.now args.x args.y loop.e loop.f
-          open-below3.result open-below4.result (loop.invariant.2 n opened hx hy) loop-test.true loop.invariant.0 (omega (arith, if1.false)) loop.invariant.1
-          (is-paired.ensures (not-false is-paired.result if2.false-raw))
+          open-below3.result open-below4.result (loop.invariant.2 n opened hx hy) loop-test.true loop.invariant.0
+          (omega (arith, if1.false)) loop.invariant.1
+          (is-paired.ensures if2.false)
           (open-below3.ensures.by_index n args.k opened hx (omega (arith, loop.invariant.0)))
           (open-below4.ensures.by_index n args.k opened hy (omega (arith, loop.invariant.1))),
     )

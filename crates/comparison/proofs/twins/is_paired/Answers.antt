@@ -2,7 +2,6 @@
 use Prim.Native.Nat.{ℕ}
 use native.Mathlib.Omega.{arith}
 use mathlib.Core.Path.{refl, sym, ◌∙◌, ap₂}
-use borrow.Author.Tests.{not-false}
 use Rattle.bisimulation.specs.Finite.{related}
 use Rattle.bisimulation.specs.Laws.Tests.{clash}
 use Rattle.comparison.specs.Held.{count_at}
@@ -58,7 +57,7 @@ loop-i-preserved c =
       omega (arith, loop-test.true),
       each_on (λ (j : ℕ). Lead args.list.now args.resets.now args.spots.now args.rows.now args.x args.e args.y args.f j) loop.i
           loop.invariant.1 (ap₂ (λ (a b : ℕ). related args.list.now a b) (sym target_at.ensures) (sym target-at2.ensures)
-          ∙ sym is-related.ensures ∙ not-false is-related.result if2.false-raw),
+          ∙ sym is-related.ensures ∙ if2.false),
     )
 
 pub returns : goal.returns
@@ -70,6 +69,6 @@ returns c =
     let loop-test = c.loop-i-test in
     let at16 = c.at16-count in
     λ _. both-alike args.list.now args.resets.now args.spots.now args.rows.now args.x args.e args.y args.f
-    (same_row.ensures (not-false same_row.result if1.false-raw))
+    (same_row.ensures if1.false)
     (each_over (λ (j : ℕ). Lead args.list.now args.resets.now args.spots.now args.rows.now args.x args.e args.y args.f j)
     (count_at args.rows.now args.e) loop.i (omega (arith, loop-test.false, at16.ensures.0)) loop.invariant.1)

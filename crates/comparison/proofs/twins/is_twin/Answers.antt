@@ -1,6 +1,5 @@
 -- `is_twin` meets its contract. Assumes nothing.
 use mathlib.Core.Path.{refl, sym, ◌∙◌}
-use borrow.Author.Tests.{not-false}
 use Rattle.bisimulation.specs.Laws.Tests.{clash}
 use Rattle.comparison.specs.Laws.Twins.{twin-next}
 use Rattle.comparison.proofs.twins.is_twin.Goals as goal
@@ -30,7 +29,7 @@ pub may_be_paired-requires : goal.may_be_paired-requires
 may_be_paired-requires c =
     let are-items = c.are_items in
     let if1 = c.if-not-are_items in
-    are-items.ensures.k_le_most_edges (not-false are-items.result if1.false-raw)
+    are-items.ensures.k_le_most_edges if1.false
 
 pub returns-then-not-may_be_paired : goal.returns-then-not-may_be_paired
 returns-then-not-may_be_paired c =
@@ -43,7 +42,7 @@ pub are_paired-requires : goal.are_paired-requires
 are_paired-requires c =
     let are-items = c.are_items in
     let if1 = c.if-not-are_items in
-    are-items.ensures.k_le_most_edges (not-false are-items.result if1.false-raw)
+    are-items.ensures.k_le_most_edges if1.false
 
 pub returns : goal.returns
 returns c =
@@ -55,12 +54,12 @@ returns c =
     let are-items = c.are_items in
     let if1 = c.if-not-are_items in
     let are-paired = c.are_paired in
-    let items = not-false are-items.result if1.false-raw in
+    let items = if1.false in
     record {
       y_value = λ t onward opened hx hy.
-          let same = sym is-related.ensures ∙ not-false is-related.result if2.false-raw in
+          let same = sym is-related.ensures ∙ if2.false in
           twin-next args.n args.k args.list.now args.nexts.now args.flags.now args.resets.now args.spots.now args.rows.now args.x
-          args.y same (runs-alike.ensures (not-false runs-alike.result if3.false-raw) onward hx hy same)
+          args.y same (runs-alike.ensures if3.false onward hx hy same)
           (are-paired.ensures t args.n opened hx hy);
       value = (λ h. absurd (clash items (are-items.ensures.value_2.0 h)), λ h. absurd (clash items (are-items.ensures.value_2.1 h)));
     }

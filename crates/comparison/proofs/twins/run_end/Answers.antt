@@ -1,6 +1,5 @@
 -- `run_end` meets its contract. Assumes nothing.
 use mathlib.Core.Path.{sym, ◌∙◌}
-use borrow.Author.Tests.{not-false}
 use Rattle.comparison.specs.Laws.Twins.{run_none, run_on}
 use Rattle.comparison.proofs.twins.run_end.Goals as goal
 
@@ -24,7 +23,7 @@ loop-left-preserved c =
     let is-related = c.is_related in
     let if2 = c.if-not-is_related in
     λ onward h. run_on args.n args.list.now args.nexts.now args.x loop.at at16.result onward (loop.invariant onward h)
-    at16.ensures.0 if1.false (sym is-related.ensures ∙ not-false is-related.result if2.false-raw)
+    at16.ensures.0 if1.false (sym is-related.ensures ∙ if2.false)
 
 pub returns : goal.returns
 returns c = c.loop-left.invariant

@@ -1,7 +1,7 @@
 -- `runs_alike` meets its contract. Assumes nothing.
 use native.Mathlib.Omega.{arith}
 use mathlib.Core.Path.{refl, sym, ◌∙◌}
-use borrow.Author.Tests.{not-false, leb-true}
+use borrow.Author.Tests.{leb-true}
 use Rattle.bisimulation.specs.Laws.Tests.{clash}
 use Rattle.comparison.specs.Laws.Twins.{beside-start, beside-ends, beside-met, beside-over, beside-on}
 use Rattle.comparison.proofs.twins.runs_alike.Goals as goal
@@ -57,7 +57,7 @@ loop-left-preserved c =
     λ onward hx hy t. beside-on args.n args.list.now args.nexts.now args.x args.y run-end.result run-end2.result
     at16.result at162.result onward (beside-ends args.n args.list.now args.nexts.now args.x args.y loop.one loop.other run-end.result
     run-end2.result onward (loop.invariant onward hx hy t) run-end.ensures run-end2.ensures)
-    at16.ensures.0 if2.false at162.ensures.0 if3.false (sym is-related.ensures ∙ not-false is-related.result if4.false-raw)
+    at16.ensures.0 if2.false at162.ensures.0 if3.false (sym is-related.ensures ∙ if4.false)
 
 pub returns : goal.returns
 returns c = λ t. absurd (clash t refl)

@@ -1,6 +1,5 @@
 -- `same_row` meets its contract. Assumes nothing.
 use mathlib.Core.Path.{refl}
-use borrow.Author.Tests.{not-false}
 use Rattle.bisimulation.specs.Laws.Tests.{clash}
 use Rattle.comparison.specs.Laws.Twins.{row-self, row_of}
 use Rattle.comparison.proofs.twins.same_row.Goals as goal
@@ -30,6 +29,6 @@ returns c =
     let same-number3 = c.same_number-3 in
     let if4 = c.if-not-same_number-3 in
     let same-weights = c.same_weights in
-    λ t. row_of args.rows.now args.e args.f (same_number.ensures (not-false same_number.result if2.false-raw))
-    (same-number2.ensures (not-false same-number2.result if3.false-raw)) (same-number3.ensures (not-false same-number3.result if4.false-raw))
+    λ t. row_of args.rows.now args.e args.f (same_number.ensures if2.false)
+    (same-number2.ensures if3.false) (same-number3.ensures if4.false)
     (same-weights.ensures t)

@@ -2,7 +2,6 @@
 use Prim.Native.Nat.{ℕ}
 use native.Mathlib.Omega.{arith}
 use mathlib.Core.Path.{◌≡◌, refl}
-use borrow.Author.Tests.{not-false}
 use Rattle.bisimulation.specs.Laws.Tests.{clash}
 use Rattle.comparison.specs.Held.{count_at, weight_at}
 use Rattle.comparison.specs.Laws.Steps.{each_none, each_on, each_over}
@@ -51,7 +50,7 @@ loop-i-preserved c =
     let if1 = c.if-not-same_number in (
       omega (arith, loop-test.true),
       each_on (λ (j : ℕ). weight_at args.rows.now args.e j ≡ weight_at args.rows.now args.f j) loop.i loop.invariant.1
-          (weight-of args.rows.now args.e args.f loop.i (same_number.ensures (not-false same_number.result if1.false-raw))),
+          (weight-of args.rows.now args.e args.f loop.i (same_number.ensures if1.false)),
     )
 
 pub returns : goal.returns

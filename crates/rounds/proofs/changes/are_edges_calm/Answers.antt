@@ -2,7 +2,6 @@
 use Prim.Native.Nat.{◌-◌}
 use native.Mathlib.Omega.{arith}
 use mathlib.Core.Path.{refl, ◌∙◌}
-use borrow.Author.Tests.{not-false}
 use Rattle.bisimulation.specs.Laws.Tests.{clash}
 use Rattle.comparison.specs.Held.{is_open}
 use Rattle.rounds.specs.Changes.{EdgeCalm}
@@ -44,8 +43,9 @@ loop-e-preserved c =
       omega (arith, open-edge2.ensures, edge-most args.flags.now args.x (loop.e - 1), loop.invariant.0, loop-test.true),
       λ n opened inside. down-on (is_open args.flags.now args.x) (EdgeCalm args.changed.now args.resets.now args.spots.now args.rows.now
           args.x) args.k loop.e open-edge2.result loop-test.true (loop.invariant.1 n opened inside)
-          (is-edge-calm.ensures (not-false is-edge-calm.result if1.false-raw))
-          (open-edge2.ensures ∙ edge-open n args.k args.flags.now args.x (loop.e - 1) opened pre.1 (omega (arith, loop.invariant.0, pre.0)) inside
+          (is-edge-calm.ensures if1.false)
+          (open-edge2.ensures ∙ edge-open n args.k args.flags.now args.x (loop.e - 1) opened pre.1 (omega (arith, loop.invariant.0, pre.0))
+          inside
           (omega (arith, loop.invariant.0))),
     )
 

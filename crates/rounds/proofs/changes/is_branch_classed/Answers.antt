@@ -27,5 +27,6 @@ returns c =
     let if2 = c.if-mask-ge16 in
     let if3 = c.if-class-ge4096 in
     λ t. branch-classed args.n args.resets.now args.spots.now args.rows.now args.x args.e args.i target-of.result at16.result
-    at162.result at163.result (target-of.ensures ∙ target-inside args.resets.now args.spots.now args.rows.now args.x args.e args.i pre.1 pre.2 pre.3) if1.false at16.ensures.0 if2.false at162.ensures.0 if3.false at163.ensures.0
+    at162.result at163.result (target-of.ensures ∙ target-inside args.resets.now args.spots.now args.rows.now args.x args.e args.i pre.1
+    pre.2 pre.3) if1.false at16.ensures.0 if2.false at162.ensures.0 if3.false at163.ensures.0
     (eqb-true at163.result at162.result t)

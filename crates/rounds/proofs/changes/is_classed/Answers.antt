@@ -2,7 +2,6 @@
 use Prim.Native.Nat.{ℕ}
 use native.Mathlib.Omega.{arith}
 use mathlib.Core.Path.{refl}
-use borrow.Author.Tests.{not-false}
 use Rattle.bisimulation.specs.Laws.Tests.{clash}
 use Rattle.rounds.specs.Changes.{ItemClassed}
 use Rattle.comparison.specs.Laws.Steps.{each_none, each_on, each_over}
@@ -32,7 +31,7 @@ loop-x-preserved c =
       omega (arith, loop-test.true),
       λ opened.
           each_on (λ (y : ℕ). ItemClassed args.n args.k args.flags.now args.resets.now args.spots.now args.rows.now y) loop.x
-          (loop.invariant.1 opened) (is-item-classed.ensures (not-false is-item-classed.result if1.false-raw) opened loop-test.true),
+          (loop.invariant.1 opened) (is-item-classed.ensures if1.false opened loop-test.true),
     )
 
 pub returns : goal.returns

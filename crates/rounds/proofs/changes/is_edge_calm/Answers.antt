@@ -3,7 +3,7 @@ use Prim.Native.Nat.{ℕ}
 use native.Mathlib.Omega.{arith}
 use mathlib.Core.Path.{◌≡◌, refl, sym, ◌∙◌, ap}
 use lib.ListN.{get_or}
-use borrow.Author.Tests.{eqb-true, not-false}
+use borrow.Author.Tests.{eqb-true}
 use Rattle.bisimulation.specs.Laws.Tests.{clash}
 use Rattle.comparison.specs.Held.{count_at, target_at}
 use Rattle.comparison.specs.Laws.Steps.{each_none, each_on, each_over}
@@ -42,7 +42,7 @@ loop-i-preserved c =
           args.x args.e j) 0 ≡ 0) loop.i loop.invariant.1
           (ap (λ (t : ℕ). get_or args.changed.now t 0) (sym (target-of.ensures ∙ target-inside args.resets.now args.spots.now args.rows.now
           args.x args.e loop.i pre.0 pre.1 (omega (arith, loop-test.true, at16.ensures.1)))) ∙ eqb-true _ 0 (sym is-clear.ensures ∙
-          not-false is-clear.result if1.false-raw)),
+          if1.false)),
     )
 
 pub returns : goal.returns

@@ -2,7 +2,6 @@
 use Prim.Native.Nat.{ℕ}
 use native.Mathlib.Omega.{arith}
 use mathlib.Core.Path.{refl}
-use borrow.Author.Tests.{not-false}
 use Rattle.bisimulation.specs.Laws.Tests.{clash}
 use Rattle.comparison.specs.Held.{count_at}
 use Rattle.rounds.specs.Changes.{BranchClassed}
@@ -39,7 +38,7 @@ loop-i-preserved c =
     let if1 = c.if-not-is_branch_classed in (
       omega (arith, loop-test.true),
       each_on (λ (j : ℕ). BranchClassed args.n args.resets.now args.spots.now args.rows.now args.x args.e j) loop.i loop.invariant.1
-          (is-branch-classed.ensures (not-false is-branch-classed.result if1.false-raw)),
+          (is-branch-classed.ensures if1.false),
     )
 
 pub returns : goal.returns

@@ -2,7 +2,6 @@
 use Prim.Native.Nat.{◌-◌}
 use native.Mathlib.Omega.{arith}
 use mathlib.Core.Path.{refl, ◌∙◌}
-use borrow.Author.Tests.{not-false}
 use Rattle.bisimulation.specs.Laws.Tests.{clash}
 use Rattle.comparison.specs.Held.{is_open}
 use Rattle.rounds.specs.Changes.{EdgeClassed}
@@ -17,7 +16,8 @@ loop-e-init c =
     let pre = c.requires in (
       omega (arith, open-edge.ensures, edge-most args.flags.now args.x args.k),
       λ opened inside. down-first (is_open args.flags.now args.x) (EdgeClassed args.n args.resets.now args.spots.now
-          args.rows.now args.x) args.k open-edge.result (open-edge.ensures ∙ edge-open args.n args.k args.flags.now args.x args.k opened pre.2 pre.1 inside (omega arith)),
+          args.rows.now args.x) args.k open-edge.result (open-edge.ensures
+          ∙ edge-open args.n args.k args.flags.now args.x args.k opened pre.2 pre.1 inside (omega arith)),
     )
 
 pub returns-then-not-is_edge_classed : goal.returns-then-not-is_edge_classed
@@ -43,7 +43,8 @@ loop-e-preserved c =
       omega (arith, open-edge2.ensures, edge-most args.flags.now args.x (loop.e - 1), loop.invariant.0, loop-test.true),
       λ opened inside. down-on (is_open args.flags.now args.x) (EdgeClassed args.n args.resets.now args.spots.now args.rows.now
           args.x) args.k loop.e open-edge2.result loop-test.true (loop.invariant.1 opened inside) (is-edge-classed.ensures
-          (not-false is-edge-classed.result if1.false-raw)) (open-edge2.ensures ∙ edge-open args.n args.k args.flags.now args.x (loop.e - 1) opened pre.2 (omega (arith, loop.invariant.0, pre.1)) inside (omega (arith, loop.invariant.0))),
+          if1.false) (open-edge2.ensures ∙ edge-open args.n args.k args.flags.now args.x (loop.e - 1) opened pre.2
+          (omega (arith, loop.invariant.0, pre.1)) inside (omega (arith, loop.invariant.0))),
     )
 
 pub returns : goal.returns

@@ -2,7 +2,6 @@
 use Prim.Native.Nat.{ℕ}
 use native.Mathlib.Omega.{arith}
 use mathlib.Core.Path.{refl}
-use borrow.Author.Tests.{not-false}
 use Rattle.bisimulation.specs.Laws.Tests.{clash}
 use Rattle.rounds.specs.Changes.{StillAt}
 use Rattle.comparison.specs.Laws.Steps.{each_none, each_on, each_over}
@@ -25,7 +24,7 @@ loop-x-preserved c =
     let if1 = c.if-not-is_still_at in (
       omega (arith, loop-test.true),
       each_on (λ (y : ℕ). StillAt args.n args.changed.now args.nexts.now args.still.now y) loop.x loop.invariant.1 (is-still-at.ensures
-          (not-false is-still-at.result if1.false-raw)),
+          if1.false),
     )
 
 pub returns : goal.returns

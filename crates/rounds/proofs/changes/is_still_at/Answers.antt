@@ -4,7 +4,7 @@ use native.Mathlib.Omega.{arith}
 use mathlib.Core.Path.{refl, sym, ◌∙◌, ap}
 use lib.Dec.{eqb}
 use lib.ListN.{get_or}
-use borrow.Author.Tests.{eq-eqb, eqb-true, not-true, not-false}
+use borrow.Author.Tests.{eq-eqb, eqb-true}
 use Rattle.bisimulation.specs.Laws.Tests.{clash}
 use Rattle.rounds.proofs.changes.is_still_at.Goals as goal
 
@@ -13,7 +13,7 @@ returns-then-not-is_set c =
     let args = c.args in
     let is_set = c.is_set in
     let if1 = c.if-not-is_set in
-    λ _ s. absurd (clash (eq-eqb (get_or args.still.now args.x 0) 1 s) (sym is_set.ensures ∙ not-true is_set.result if1.true-raw))
+    λ _ s. absurd (clash (eq-eqb (get_or args.still.now args.x 0) 1 s) (sym is_set.ensures ∙ if1.true))
 
 pub returns-then-not-is_clear : goal.returns-then-not-is_clear
 returns-then-not-is_clear c = λ t. absurd (clash t refl)
@@ -26,7 +26,7 @@ returns-then-n-next c =
     let if3 = c.if-n-next in
     let at16 = c.at16-next in
     λ _ s. (
-      eqb-true (get_or args.changed.now args.x 0) 0 (sym is-clear.ensures ∙ not-false is-clear.result if2.false-raw),
+      eqb-true (get_or args.changed.now args.x 0) 0 (sym is-clear.ensures ∙ if2.false),
       λ h. absurd
           (omega (arith, if3.true, at16.ensures.0, h)),
     )
@@ -39,7 +39,7 @@ returns c =
     let at16 = c.at16-next in
     let is-set2 = c.is_set-2 in
     λ t s. (
-      eqb-true (get_or args.changed.now args.x 0) 0 (sym is-clear.ensures ∙ not-false is-clear.result if2.false-raw),
+      eqb-true (get_or args.changed.now args.x 0) 0 (sym is-clear.ensures ∙ if2.false),
       λ h. eqb-true
           (get_or args.still.now (get_or args.nexts.now args.x 0) 0) 1 (ap (λ (z : ℕ). eqb (get_or args.still.now z 0) 1) (sym
           at16.ensures.0) ∙ sym is-set2.ensures ∙ t),

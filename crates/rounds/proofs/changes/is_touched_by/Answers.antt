@@ -3,7 +3,7 @@ use Prim.Native.Nat.{ℕ, ◌+◌, ◌*◌}
 use mathlib.Core.Path.{sym, ◌∙◌, ap}
 use lib.Dec.{eqb}
 use lib.ListN.{get_or}
-use borrow.Author.Tests.{eq-eqb, not-true}
+use borrow.Author.Tests.{eq-eqb}
 use Rattle.bisimulation.specs.Laws.Tests.{clash}
 use Rattle.rounds.proofs.changes.is_touched_by.Goals as goal
 
@@ -12,7 +12,7 @@ returns-then-not-is_set c =
     let args = c.args in
     let is_set = c.is_set in
     let if1 = c.if-not-is_set in
-    λ _ u. absurd (clash (eq-eqb (get_or args.used.now args.mask 0) 1 u) (sym is_set.ensures ∙ not-true is_set.result if1.true-raw))
+    λ _ u. absurd (clash (eq-eqb (get_or args.used.now args.mask 0) 1 u) (sym is_set.ensures ∙ if1.true))
 
 pub returns : goal.returns
 returns c =

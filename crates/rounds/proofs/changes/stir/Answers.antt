@@ -1,5 +1,4 @@
 -- `stir` meets its contract. Assumes nothing.
-use borrow.Author.Tests.{not-false}
 use Rattle.rounds.specs.Laws.Changes.{all-stirred, spared-stirred}
 use Rattle.rounds.proofs.changes.stir.Goals as goal
 
@@ -34,6 +33,6 @@ returns c =
     record {
       stirred_len_unchanged = stir-some.ensures.stirred_len_unchanged;
       stirred = λ opened yes. spared-stirred args.n args.k args.changed.now args.nexts.now args.flags.now args.resets.now args.spots.now
-          args.rows.now mark-still.new.still stir-some.new.stirred (is-still.ensures (not-false is-still.result
-          if2.false-raw)) (yes (not-false args.classed if1.false-raw)) (stir-some.ensures.spared opened);
+          args.rows.now mark-still.new.still stir-some.new.stirred (is-still.ensures if2.false) (yes if1.false)
+          (stir-some.ensures.spared opened);
     }

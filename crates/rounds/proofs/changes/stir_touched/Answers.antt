@@ -57,6 +57,7 @@ returns c =
     record {
       stirred_len_unchanged = loop.invariant.0;
       rests = λ opened. each_over (λ (y : ℕ). RestsAt args.k args.changed.now args.flags.now args.resets.now args.spots.now
-          args.rows.now args.used.now args.still.now args.marks.now y (get_or loop.stirred y 0)) args.n loop.x loop-test.false (loop.invariant.2
+          args.rows.now args.used.now args.still.now args.marks.now y (get_or loop.stirred y 0)) args.n loop.x loop-test.false
+          (loop.invariant.2
           opened);
     }

@@ -3,7 +3,7 @@ use native.Mathlib.Omega.{arith}
 use mathlib.Core.Path.{sym, ◌∙◌}
 use mathlib.Core.Logic.{inl, inr}
 use lib.ListN.{get_or}
-use borrow.Author.Tests.{eqb-true, not-true, not-false}
+use borrow.Author.Tests.{eqb-true}
 use Rattle.rounds.proofs.changes.stirred_flag.Goals as goal
 
 pub returns-then-not-is_set : goal.returns-then-not-is_set
@@ -17,9 +17,9 @@ returns-then-not-is_touched c =
     let is-touched = c.is_touched in
     let if2 = c.if-not-is_touched in
     λ n opened inside _. (
-      eqb-true (get_or args.still.now args.x 0) 1 (sym is_set.ensures ∙ not-false is_set.result if1.false-raw),
+      eqb-true (get_or args.still.now args.x 0) 1 (sym is_set.ensures ∙ if1.false),
       inl
-          (is-touched.ensures (not-true is-touched.result if2.true-raw)),
+          (is-touched.ensures if2.true),
     )
 
 pub returns-then-are_edges_calm : goal.returns-then-are_edges_calm
@@ -30,7 +30,7 @@ returns-then-are_edges_calm c =
     let are-edges-calm = c.are_edges_calm in
     let if3 = c.if-are_edges_calm in
     λ n opened inside _. (
-      eqb-true (get_or args.still.now args.x 0) 1 (sym is_set.ensures ∙ not-false is_set.result if1.false-raw),
+      eqb-true (get_or args.still.now args.x 0) 1 (sym is_set.ensures ∙ if1.false),
       inr
           (are-edges-calm.ensures if3.true n opened inside),
     )

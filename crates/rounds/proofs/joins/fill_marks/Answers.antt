@@ -89,7 +89,8 @@ loop-x-preserved c =
       moved.1,
       λ F keyed settled anchored step.
           let (marked, known) = loop.invariant.8 F keyed settled anchored step in
-          let (joins, known') = is-joined.ensures.value F known settled anchored step marked loop.invariant.6 loop.invariant.7 loop-test.true in (
+          let (joins, known') = is-joined.ensures.value F known settled anchored step marked loop.invariant.6 loop.invariant.7
+          loop-test.true in (
             rw put-link.ensures (marked-on (next F args.names.now) args.anchors.now args.old.now loop.marks loop.x
                 mark_of.result
                 (omega (arith, loop-test.true, loop.invariant.1, pre.0)) marked

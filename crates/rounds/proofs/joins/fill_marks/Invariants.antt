@@ -14,7 +14,8 @@ invariant-loop-x l =
     × (length l.shelf ≡ 129) × (length l.older ≡ 4096) × (length l.kins ≡ 4096) × Kins l.x l.older × Kins l.x l.kins
     × ((F : Finite) → Keyed F l.n l.k l.names l.initial.keys l.labels l.nexts l.flags l.resets l.spots l.rows
     → Settled (next F l.names) (related l.old) l.n l.stirred → Anchored l.n l.old l.stirred l.anchors → Step (next F l.names) l.n l.old
-    → MarkedTo l.x (next F l.names) l.anchors l.old l.marks × Equipped F l.n l.k l.names l.keys l.shelf l.labels l.nexts l.flags l.resets l.spots l.rows)
+    → MarkedTo l.x (next F l.names) l.anchors l.old l.marks × Equipped F l.n l.k l.names l.keys l.shelf l.labels l.nexts l.flags l.resets
+    l.spots l.rows)
 
 abbrev pub decreases-loop-x : goal.decreases-loop-x
 decreases-loop-x l =

@@ -104,7 +104,12 @@ returns c =
     let if2 = c.if-link-eq0 in
     let link = at16.ensures.0 ∙ ap (λ (b : ℕ). get_or args.anchors.now b 0) index_at.ensures in
     record {
-      keys_len_unchanged = (is-keyed-next.ensures.keys_len_unchanged.0, is-keyed-next.ensures.keys_len_unchanged.1, put-kin.ensures.older_len_unchanged.0, put-kin.ensures.older_len_unchanged.1);
+      keys_len_unchanged = (
+        is-keyed-next.ensures.keys_len_unchanged.0,
+        is-keyed-next.ensures.keys_len_unchanged.1,
+        put-kin.ensures.older_len_unchanged.0,
+        put-kin.ensures.older_len_unchanged.1,
+      );
       kins = put-kin.ensures.kins;
       value = λ F equipped settled anchored step marked olds kins hx.
           let (same, kept) = is-keyed-next.ensures.value F equipped

@@ -3,7 +3,7 @@ use Prim.Native.Nat.{ℕ, ◌+◌}
 use native.Mathlib.Omega.{arith}
 use mathlib.Core.Path.{refl, sym, ◌∙◌, ap}
 use lib.ListN.{length, get_or, length-set}
-use borrow.Author.Tests.{eqb-true, eqb-false, not-true, not-false}
+use borrow.Author.Tests.{eqb-true, eqb-false}
 use Rattle.rounds.specs.Laws.Joins.{anchored-stirred, anchored-known, anchored-new}
 use Rattle.rounds.proofs.joins.place_anchor.Goals as goal
 
@@ -14,7 +14,7 @@ returns-then-not-is_clear c =
     record {
       anchors_len_unchanged = refl;
       anchored = λ long anchored. anchored-stirred args.old.now args.stirred.now args.anchors.now args.x anchored
-          (eqb-false (get_or args.stirred.now args.x 0) 0 (sym is-clear.ensures ∙ not-true is-clear.result c.if-not-is_clear.true-raw));
+          (eqb-false (get_or args.stirred.now args.x 0) 0 (sym is-clear.ensures ∙ c.if-not-is_clear.true));
     }
 
 pub returns-then-at16-gt0 : goal.returns-then-at16-gt0
@@ -43,6 +43,5 @@ returns c =
       anchors_len_unchanged = ap length put-link.ensures ∙ length-set args.anchors.now index_at.result (args.x + 1);
       anchored = λ long anchored. rw put-link.ensures (anchored-new args.old.now args.stirred.now args.anchors.now args.x anchored
           index_at.result index_at.ensures
-          (omega (arith, long, index_at.ensures)) (eqb-true (get_or args.stirred.now args.x 0) 0 (sym is-clear.ensures ∙ not-false
-          is-clear.result if1.false-raw)));
+          (omega (arith, long, index_at.ensures)) (eqb-true (get_or args.stirred.now args.x 0) 0 (sym is-clear.ensures ∙ if1.false)));
     }

@@ -2,7 +2,6 @@
 use Prim.Native.Nat.{◌<◌}
 use native.Mathlib.Omega.{arith}
 use mathlib.Core.Path.{sym, ◌∙◌, ap}
-use borrow.Author.Tests.{not-true, not-false}
 use Rattle.bisimulation.specs.Finite.{related}
 use Rattle.bisimulation.specs.Laws.Leads.{lead_low}
 use Rattle.rounds.specs.Rounds.{judged_with}
@@ -26,7 +25,7 @@ returns-then-not-is_alike c =
     let judged = is-alike.ensures F held closed (reps-below args.n (related args.firsts.now) args.firsts.now held.few reps)
     loop-test.true inside (lead-alike args.firsts.now loop.x index_at.result is) in
     sym (judged-not F closed args.firsts.now loop.x (omega (arith, held.size, loop-test.true)) (ap (judged_with F
-    args.firsts.now loop.x) (sym is) ∙ sym judged ∙ not-true is-alike.result if1.true-raw))
+    args.firsts.now loop.x) (sym is) ∙ sym judged ∙ if1.true))
 
 pub overflow_add-x : goal.overflow_add-x
 overflow_add-x c =
@@ -51,8 +50,7 @@ loop-x-preserved c =
     let inside : index_at.result < args.n = omega (arith, is, lead_low (related args.firsts.now) loop.x, loop-test.true) in
     let judged = is-alike.ensures F held closed (reps-below args.n (related args.firsts.now) args.firsts.now held.few reps)
     loop-test.true inside (lead-alike args.firsts.now loop.x index_at.result is) in
-    judged-on F args.firsts.now loop.x index_at.result (loop.invariant F held closed reps) is (sym judged ∙ not-false is-alike.result
-    if1.false-raw)
+    judged-on F args.firsts.now loop.x index_at.result (loop.invariant F held closed reps) is (sym judged ∙ if1.false)
 
 pub returns : goal.returns
 returns c =

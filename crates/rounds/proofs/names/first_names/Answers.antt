@@ -9,5 +9,6 @@ returns c =
     let args = c.args in
     record {
       tags_len_unchanged = (own-tags.ensures.tags_len_unchanged, name-by-reps.ensures.names_len_unchanged);
-      by_index = named-first args.n args.reps.now own-tags.new.tags name-by-reps.new.names own-tags.ensures.by_index name-by-reps.ensures.by_index;
+      by_index = named-first args.n args.reps.now own-tags.new.tags name-by-reps.new.names own-tags.ensures.by_index
+          name-by-reps.ensures.by_index;
     }

@@ -38,7 +38,11 @@ returns c =
     let if2 = c.if-lead-x in
     let index-at2 = c.index_at-lead in
     record {
-      holders_len_unchanged = (take-tag.ensures.holders_len_unchanged.0, take-tag.ensures.holders_len_unchanged.1 ∙ ap length put-link.ensures ∙ length-set args.tags.now args.x args.x);
+      holders_len_unchanged = (
+        take-tag.ensures.holders_len_unchanged.0,
+        take-tag.ensures.holders_len_unchanged.1
+            ∙ ap length put-link.ensures ∙ length-set args.tags.now args.x args.x,
+      );
       by_index = λ n hx long tagged.
           let led = sym index_at.ensures ∙ if1.false in
           take-tag.ensures.by_index n args.old.now hx

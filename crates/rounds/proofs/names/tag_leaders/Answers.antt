@@ -24,7 +24,8 @@ loop-x-preserved c =
     let pre = c.requires in (
       tag-leader.ensures.holders_len_unchanged.0 ∙ loop.invariant.0,
       tag-leader.ensures.holders_len_unchanged.1 ∙ loop.invariant.1,
-      λ kept tagged. tag-leader.ensures.by_index args.n loop-test.true (omega (arith, loop.invariant.1, pre.1)) (loop.invariant.2 kept tagged),
+      λ kept tagged. tag-leader.ensures.by_index args.n loop-test.true (omega (arith, loop.invariant.1, pre.1))
+          (loop.invariant.2 kept tagged),
     )
 
 pub shape_of-holders : goal.shape_of-holders
@@ -43,5 +44,6 @@ returns c =
     let args = c.args in
     record {
       holders_len_unchanged = (loop.invariant.0, loop.invariant.1);
-      tagged = λ kept tagged. tagged-over args.n args.old.now args.new.now loop.tags loop.x c.loop-x-test.false (loop.invariant.2 kept tagged);
+      tagged = λ kept tagged. tagged-over args.n args.old.now args.new.now loop.tags loop.x c.loop-x-test.false
+          (loop.invariant.2 kept tagged);
     }

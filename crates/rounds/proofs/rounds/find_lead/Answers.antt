@@ -37,7 +37,11 @@ returns-then-is_keyed_next c =
     let args = c.args in
     let if1 = c.if-is_keyed_next in
     record {
-      keys_len_unchanged = (is-keyed-next.ensures.keys_len_unchanged.0 ∙ loop.invariant.0, is-keyed-next.ensures.keys_len_unchanged.1 ∙ loop.invariant.1);
+      keys_len_unchanged = (
+        is-keyed-next.ensures.keys_len_unchanged.0 ∙ loop.invariant.0,
+        is-keyed-next.ensures.keys_len_unchanged.1
+            ∙ loop.invariant.1,
+      );
       searched = λ F equipped step chains hx e h.
           let (w, known) = loop.invariant.2 F equipped step chains hx e h in
           let (told, known') = is-keyed-next.ensures.value F known (omega (arith, w.below)) hx in (
@@ -74,7 +78,11 @@ returns-then-link-y c =
     let if1 = c.if-is_keyed_next in
     let if2 = c.if-link-y in
     record {
-      keys_len_unchanged = (is-keyed-next.ensures.keys_len_unchanged.0 ∙ loop.invariant.0, is-keyed-next.ensures.keys_len_unchanged.1 ∙ loop.invariant.1);
+      keys_len_unchanged = (
+        is-keyed-next.ensures.keys_len_unchanged.0 ∙ loop.invariant.0,
+        is-keyed-next.ensures.keys_len_unchanged.1
+            ∙ loop.invariant.1,
+      );
       searched = λ F equipped step chains hx e h.
           let (w, known) = loop.invariant.2 F equipped step chains hx e h in
           let (told, known') = is-keyed-next.ensures.value F known (omega (arith, w.below)) hx in (

@@ -34,7 +34,11 @@ returns c =
     let name-round = c.name_round in
     let stir = c.stir in
     record {
-      tags_len_unchanged = (name-round.ensures.tags_len_unchanged.0, name-round.ensures.tags_len_unchanged.1, stir.ensures.stirred_len_unchanged);
+      tags_len_unchanged = (
+        name-round.ensures.tags_len_unchanged.0,
+        name-round.ensures.tags_len_unchanged.1,
+        stir.ensures.stirred_len_unchanged,
+      );
       named = name-round.ensures.named;
       followed = λ opened classed.
           (name-round.new.changed, (name-round.ensures.changed, stir.ensures.stirred opened classed));

@@ -33,7 +33,12 @@ returns c =
     let args = c.args in
     let first_round = c.first_round in
     record {
-      keys_len_unchanged = (next-round.ensures.keys_len_unchanged.0 ∙ fill-marks.ensures.keys_len_unchanged.0, next-round.ensures.keys_len_unchanged.2, next-round.ensures.keys_len_unchanged.3);
+      keys_len_unchanged = (
+        next-round.ensures.keys_len_unchanged.0
+            ∙ fill-marks.ensures.keys_len_unchanged.0,
+        next-round.ensures.keys_len_unchanged.2,
+        next-round.ensures.keys_len_unchanged.3,
+      );
       led = λ F keyed step settled.
           let anchored = find-anchors.ensures.anchored step.reps in
           let (marked, known) = fill-marks.ensures.marked_to F keyed settled anchored step in

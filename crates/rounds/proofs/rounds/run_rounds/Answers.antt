@@ -41,7 +41,14 @@ refine-counted-requires c =
     let if1 = c.if-k-gt128 in
     let first-names = c.first_names in
     record {
-      first_len = (pre.0, first_round.ensures.list_len_unchanged.0 ∙ pre.1, pre.2, omega (arith, if1.false), first_round.ensures.list_len_unchanged.1);
+      first_len = (
+        pre.0,
+        first_round.ensures.list_len_unchanged.0
+            ∙ pre.1,
+        pre.2,
+        omega (arith, if1.false),
+        first_round.ensures.list_len_unchanged.1,
+      );
       n_in_bounds = (
         omega (arith, pre.2, first-names.ensures.tags_len_unchanged.0, length-replicate {A = ℕ} 4096 0),
         omega (

@@ -31,7 +31,12 @@ returns c =
     let pre = c.requires in
     let if1 = c.if-found in
     record {
-      keys_len_unchanged = (find-lead.ensures.keys_len_unchanged.0, find-lead.ensures.keys_len_unchanged.1, ap length put-link.ensures ∙ length-set args.links.now find-lead.result.at args.x);
+      keys_len_unchanged = (
+        find-lead.ensures.keys_len_unchanged.0,
+        find-lead.ensures.keys_len_unchanged.1,
+        ap length put-link.ensures
+            ∙ length-set args.links.now find-lead.result.at args.x,
+      );
       value = λ F before equipped step chains cleared long e h.
           let (searched, known) = find-lead.ensures.searched F equipped step (chains-cleared (next F args.names.now) args.n
           args.mid.now step before args.links.now
