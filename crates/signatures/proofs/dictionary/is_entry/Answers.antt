@@ -14,8 +14,13 @@ slice_bounds-same_list-end c =
     let args = c.args in
     let load = c.load-start in
     let load2 = c.load-end in
-    omega (arith, entry-rises pre.dictionary args.j pre.j_bound, entry-within pre.dictionary args.j pre.j_bound, load.ensures.0,
-    load2.ensures.0)
+    omega (
+      arith,
+      entry-rises pre.dictionary args.j pre.j_bound,
+      entry-within pre.dictionary args.j pre.j_bound,
+      load.ensures.0,
+      load2.ensures.0,
+    )
 
 pub returns : goal.returns
 returns c =

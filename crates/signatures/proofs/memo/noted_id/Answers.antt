@@ -24,13 +24,12 @@ note-requires c =
     let cell-of = c.cell_of-cell in
     let pre = c.requires in
     let args = c.args in
-    let intern-step = c.intern_step-answer in
-    (
-        cell-of.ensures,
-        pre.noted.size,
-        pre.raw_nonzero.1,
-        id-small (raw_step args.edges.now args.raw.now) args.index.now args.numbers.now intern-step.new.index intern-step.new.numbers
-            c.in-Id.id (rw c.in-Id.is at intern-step.ensures),
+    let intern-step = c.intern_step-answer in (
+      cell-of.ensures,
+      pre.noted.size,
+      pre.raw_nonzero.1,
+      id-small (raw_step args.edges.now args.raw.now) args.index.now args.numbers.now intern-step.new.index intern-step.new.numbers
+          c.in-Id.id (rw c.in-Id.is at intern-step.ensures),
     )
 
 pub returns-in-Id : goal.returns-in-Id
