@@ -5,7 +5,7 @@ use Rattle.std.proofs.Math.Seq.{slice}
 use Rattle.signatures.specs.declared.dictionary.Lookup.{Lookup}
 use Rattle.signatures.specs.declared.dictionary.Lookup.TheVariants.{At, Nothing}
 use Rattle.signatures.specs.declared.dictionary.Interned.{Interned}
-use Rattle.signatures.specs.Chain.{hash_of, Chained}
+use Rattle.signatures.specs.Chain.{Chained}
 use Rattle.signatures.specs.Book.{max_ids, room, Absent, Told}
 use Rattle.signatures.specs.Book as book
 

@@ -1,6 +1,6 @@
 -- A memo of steps. A cell holds the raw form of a step and the id of its list, in eleven numbers: the size of the raw form plus one (0 if
 -- the cell is empty), the id, and the raw form.
-use Rattle.std.specs.Prelude.{ℕ, ◌+◌, ◌-◌, ◌*◌, ◌≤◌, ◌<◌, ◌≡◌, List, [], ◌∷◌, length, get_or, set, take, drop}
+use Rattle.std.specs.Prelude.{ℕ, ◌+◌, ◌-◌, ◌*◌, ◌≤◌, ◌<◌, ◌≡◌, List, length, get_or, set, take, drop}
 use Rattle.std.proofs.Math.Seq.{paste}
 use Rattle.signatures.specs.declared.dictionary.Interned.{Interned}
 use Rattle.signatures.specs.Book.{At}

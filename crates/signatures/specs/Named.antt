@@ -1,8 +1,7 @@
 -- Signatures over a dictionary. Each step of an item is a list with an id, and so is the set of names that the item reaches by delay. The
 -- signature is a list with an id too: the set of the steps' ids, then the item's name and the id of the names reached by delay.
-use Rattle.std.specs.Prelude.{ℕ, ◌+◌, ◌*◌, ◌/◌, ◌≤◌, ◌<◌, ◌≡◌, length, get_or, take, true, cond, ltb, ◌⊎◌}
+use Rattle.std.specs.Prelude.{ℕ, ◌+◌, ◌*◌, ◌/◌, ◌≤◌, ◌<◌, ◌≡◌, length, get_or, take, true, cond, ltb}
 use mathlib.Core.List.{List, [], ◌∷◌, ◌++◌, Memᴰ}
-use Rattle.bisimulation.specs.Finite.{Finite}
 use Rattle.signatures.specs.declared.dictionary.Interned.{Interned}
 use Rattle.signatures.specs.declared.dictionary.Interned.TheVariants.{Id, Full}
 use Rattle.graph.specs.Readers.{delay_of, is_available}
@@ -159,11 +158,11 @@ pub record Passing (graph edges names items items' : List ℕ) (held : List (Lis
   pub size : length items' ≡ length items
   pub id : (j : ℕ) → j < k → (get_or items' j 0 ≡ no_id → ⊥)
       → Named held (name_of names (get_or items j 0)) (reached_from names (get_or items j 0))
-          (steps_from graph edges names (get_or items j 0))
+      (steps_from graph edges names (get_or items j 0))
       (get_or items' j 0)
   pub refused : (j : ℕ) → j < k → get_or items' j 0 ≡ no_id
       → Refused held (name_of names (get_or items j 0)) (reached_from names (get_or items j 0))
-          (steps_from graph edges names (get_or items j 0))
+      (steps_from graph edges names (get_or items j 0))
   pub rest : (j : ℕ) → k ≤ j → get_or items' j 0 ≡ get_or items j 0
   pub first : 0 < k → get_or items' 0 0 ≡ no_id → ⊥
 

@@ -1,7 +1,7 @@
 -- The signature of an item over names of blocks: its name, the names reached by delay, and its steps. In a closed structure whose
 -- denominators are below 2^30 the next round relates two items exactly if their signatures are equal (`signature-tells`).
 use Rattle.std.specs.Prelude.{ℕ, zero, suc, ◌≡◌, cond}
-use mathlib.Core.List.{List, [], ◌∷◌, ◌++◌, Memᴰ}
+use mathlib.Core.List.{List, [], ◌∷◌, Memᴰ}
 use Rattle.bisimulation.specs.Finite.{Finite}
 use Rattle.signatures.specs.Sets.{set_of}
 use Rattle.signatures.specs.Steps.{name_of, step_of}

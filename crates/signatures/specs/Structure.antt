@@ -1,5 +1,5 @@
 -- The slices of a graph as a finite structure, read off the readers of `graph`: for any contents.
-use Rattle.std.specs.Prelude.{ℕ, zero, suc, ◌<◌, Bool, cond, ◌&&◌, List, [], ◌∷◌, ltb}
+use Rattle.std.specs.Prelude.{ℕ, zero, suc, ◌<◌, cond, ◌&&◌, List, [], ◌∷◌, ltb}
 use Rattle.bisimulation.specs.Structures.{Branch}
 use Rattle.bisimulation.specs.Finite.{Finite}
 use Rattle.signatures.specs.Steps.{named, step_list}
@@ -49,4 +49,4 @@ structure_of n graph edges =
 unfoldable pub step_at : (graph edges names : List ℕ) → (class edge : ℕ) → List ℕ
 step_at graph edges names class edge =
     step_list (action_of edges edge) (denominator_of edges edge)
-        (named names (branches_from graph edges class edge 0 (branch_count graph edge)))
+    (named names (branches_from graph edges class edge 0 (branch_count graph edge)))

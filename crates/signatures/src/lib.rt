@@ -1,5 +1,6 @@
 // Signatures of the regions of a graph over names of blocks.
 #![tactic(auto)]
+
 mod dictionary;
 mod memo;
 mod sets;

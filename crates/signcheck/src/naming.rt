@@ -2,7 +2,8 @@
 ghost use Rattle.std.specs.Prelude.{◌+◌, ◌≤◌, ◌<◌, length};
 
 use crate::input::number;
-use libc::STDOUT_FILENO;
+use std::io;
+use std::io::Read;
 
 const NOBODY: u16 = 65535;
 
@@ -19,15 +20,16 @@ fn put(i: usize, v: u16, list: &mut [u16]) {
 }
 
 // Reads the names of the regions below n; behind them stands what follows each by delay.
-fn read_names(n: usize, graph: &[u16], names: &mut [u16])
+fn read_names(n: usize, graph: &[u16], input: &mut impl Read, names: &mut [u16]) -> io::Result<()>
     requires { n ≤ 4096 }
 {
     let mut x = 0;
     while x < n {
-        put(x, (number() % 65536) as u16, names);
+        put(x, (number(input)? % 65536) as u16, names);
         put(n + x, (graph::delay_of(graph, x) % 65536) as u16, names);
         x = x + 1;
     }
+    Ok(())
 }
 
 // Lists a region unless another represents it; returns how many are listed then.
@@ -82,21 +84,21 @@ fn note_lowest(count: usize, items: &[u16], ids: &[u16], owners: &mut [u16], low
 }
 
 // Prints a number, after a blank if it is not the first.
-fn print_one(x: usize, lowest: &[u16]) {
+fn print_one(x: usize, lowest: &[u16], out: &impl Print) -> io::Result<()> {
     if 0 < x {
-        io::write_all(STDOUT_FILENO, b" ");
+        out.write_all(b" ")?;
     }
-    io::print_decimal(STDOUT_FILENO, at(lowest, x) as u64);
+    out.print(at(lowest, x))
 }
 
 // Prints a number for each region.
-fn print_all(n: usize, lowest: &[u16]) {
+fn print_all(n: usize, lowest: &[u16], out: &impl Print) -> io::Result<()> {
     let mut x = 0;
     while x < n {
-        print_one(x, lowest);
+        print_one(x, lowest, out)?;
         x = x + 1;
     }
-    io::write_all(STDOUT_FILENO, b"\n");
+    out.write_all(b"\n")
 }
 
 // Gives the listed regions ids. Answers false if nothing was done.
@@ -157,24 +159,37 @@ fn run_passes(n: usize, graph: &[u16], edges: &[u32], names: &[u16], lowest: &mu
 }
 
 // Reads a naming, and prints the lowest region of each signature.
-fn run_naming(n: usize, graph: &[u16], edges: &[u32])
+fn run_naming(
+    n: usize,
+    graph: &[u16],
+    edges: &[u32],
+    input: &mut impl Read,
+    out: &impl Print,
+) -> io::Result<()>
     requires { n ≤ 4096 }
 {
     let mut room = [0u16; 8192];
     let mut lowest = [65535u16; 4096];
-    read_names(n, graph, &mut room);
+    read_names(n, graph, input, &mut room)?;
     let names = &room[..2 * n];
     run_passes(n, graph, edges, names, &mut lowest);
-    print_all(n, &lowest);
+    print_all(n, &lowest, out)
 }
 
 // Reads the namings of a graph.
-pub(crate) fn run_namings(n: usize, graph: &[u16], edges: &[u32])
+pub(crate) fn run_namings(
+    n: usize,
+    graph: &[u16],
+    edges: &[u32],
+    input: &mut impl Read,
+    out: &impl Print,
+) -> io::Result<()>
     requires { n ≤ 4096 }
 {
-    let mut left = number();
+    let mut left = number(input)?;
     while 0 < left {
-        run_naming(n, graph, edges);
+        run_naming(n, graph, edges, input, out)?;
         left = left - 1;
     }
+    Ok(())
 }

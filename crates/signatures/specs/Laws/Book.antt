@@ -1,11 +1,11 @@
 -- How what a dictionary holds grows.
-use Rattle.std.specs.Prelude.{ℕ, zero, suc, ◌+◌, ◌≤◌, ◌<◌, ◌≡◌, refl, List, [], ◌∷◌, ◌++◌, ◌⊎◌, length, get_or}
+use Rattle.std.specs.Prelude.{ℕ, suc, ◌+◌, ◌≤◌, ◌<◌, ◌≡◌, List, [], ◌∷◌, ◌++◌, ◌⊎◌, length, get_or}
 use Rattle.std.proofs.Common.{arith, eq-or-lt_of_le, sym, ◌∙◌, ap, subst, inl, inr, ⊎_elim, length-append}
 use Rattle.std.proofs.Math.ListN.{get_or-append}
 use Rattle.std.proofs.Math.Seq.{get_or-append_seam}
 use Rattle.signatures.specs.declared.dictionary.Interned.{Interned}
 use Rattle.signatures.specs.declared.dictionary.Interned.TheVariants.{Id, Full}
-use Rattle.signatures.specs.Book.{max_ids, room, At, Absent, Different, numbers_in, Fits, Told, Shut, Grows}
+use Rattle.signatures.specs.Book.{room, At, Absent, Different, numbers_in, Fits, Told, Shut, Grows}
 
 pub grows_same : (held : List (List ℕ)) → Grows held held
 grows_same held = record { keeps = λ i s h. h; shuts = λ s h. h }

@@ -1,5 +1,5 @@
 -- The branches of an edge are those of its places, one for each.
-use Rattle.std.specs.Prelude.{ℕ, zero, suc, ◌+◌, ◌≤◌, ◌<◌, ◌≡◌, refl, ◌⊎◌}
+use Rattle.std.specs.Prelude.{ℕ, zero, suc, ◌+◌, ◌≤◌, ◌<◌, ◌≡◌, ◌⊎◌}
 use Rattle.std.proofs.Common.{arith, eq-or-lt_of_le, sym, ap, inl, inr}
 use mathlib.Core.List.{List, Memᴰ}
 use Rattle.bisimulation.specs.Structures.{Branch}

@@ -1,5 +1,5 @@
 -- Laws of a chained index: searching along a bucket, and one list more.
-use Rattle.std.specs.Prelude.{ℕ, zero, suc, ◌+◌, ◌-◌, ◌*◌, ◌/◌, ◌%◌, ◌≤◌, ◌<◌, ◌≡◌, Bool, true, false, cond, List, [], ◌∷◌, eqb, length}
+use Rattle.std.specs.Prelude.{ℕ, zero, suc, ◌+◌, ◌*◌, ◌/◌, ◌%◌, ◌≤◌, ◌<◌, ◌≡◌, Bool, true, false, cond, List, [], ◌∷◌, eqb, length}
 use Rattle.std.specs.Prelude.{get_or, drop}
 use Rattle.std.proofs.Common.{arith, ◌∙◌, ap, add-one, drop_of_length-le, drop-cons}
 use Rattle.std.proofs.Math.Path.{refl, sym}

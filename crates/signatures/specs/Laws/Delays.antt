@@ -1,5 +1,5 @@
 -- Names gathered along the delays of an item.
-use Rattle.std.specs.Prelude.{ℕ, zero, suc, ◌+◌, ◌-◌, ◌≤◌, ◌<◌, ◌≡◌, refl, Bool, true, false, cond, ltb, take}
+use Rattle.std.specs.Prelude.{ℕ, suc, ◌+◌, ◌-◌, ◌≤◌, ◌<◌, ◌≡◌, Bool, cond, take}
 use Rattle.std.proofs.Common.{arith, sym, ◌∙◌, ap, subst, lt-ltb, le-ltb}
 use mathlib.Core.List.{List, [], ◌∷◌}
 use Rattle.signatures.specs.Sets.{put_in}

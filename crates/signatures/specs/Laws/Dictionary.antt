@@ -4,24 +4,23 @@ use native.Mathlib.Omega.{arith}
 use Rattle.std.proofs.Common.{eq-or-lt_of_le, add-zero, add-suc, ◌∙◌, subst, inl, inr, ⊎_elim, length-append, length-set, get_or-set_same}
 use Rattle.std.proofs.Common.{get_or-set_other, length-take-le, take-take, drop_at, take-add, ext_get_or}
 use Rattle.std.proofs.Math.Numerals.{add-one}
-use Rattle.std.specs.Prelude.{◌≡◌, refl, Bool, true, false, ◌⊎◌, length, get_or, set, take, drop}
+use Rattle.std.specs.Prelude.{◌≡◌, refl, ◌⊎◌, length, get_or, set, take, drop}
 use Rattle.std.proofs.Math.Path.{sym, ap, ap₂}
 use mathlib.Core.List.{List, [], ◌∷◌, ◌++◌}
 use Rattle.std.proofs.Math.ListN.{get_or-append}
 use Rattle.std.proofs.Math.Seq.{slice, paste, length-slice, take-length}
 use Rattle.std.proofs.lemmas.List.Edits.{length-paste, take-paste}
 use Rattle.std.proofs.lemmas.List.{take-append-le}
-use Rattle.signatures.specs.declared.dictionary.Lookup.{Lookup}
 use Rattle.signatures.specs.declared.dictionary.Lookup.TheVariants.{At, Nothing}
 use Rattle.signatures.specs.declared.dictionary.Interned.{Interned}
 use Rattle.signatures.specs.declared.dictionary.Interned.TheVariants.{Id, Full}
 use Rattle.signatures.specs.Chain.{buckets, hash_of, Chained}
 use Rattle.signatures.specs.Laws.Chain.{hash-below, chained-none, chained_more, Walking, walking_start, walking_on, next-falls}
 use Rattle.signatures.specs.Book.{max_ids, room, Absent, Different, numbers_in, Fits, Told}
-use Rattle.signatures.specs.Laws.Book.{at-end, length_more, numbers_more, different-more}
+use Rattle.signatures.specs.Laws.Book.{at-end, length_more, numbers_more}
 use Rattle.signatures.specs.Book as book
 use Rattle.signatures.specs.Dictionary.{index_size, count_of, head_of, start_of, end_of, link_of, entry_of, listed, entries_of, Dictionary}
-use Rattle.signatures.specs.Dictionary.{Found, Interns, Tells, entered, Empty}
+use Rattle.signatures.specs.Dictionary.{Found, Interns, entered, Empty}
 
 -- ---- The list of the entries
 

@@ -1,9 +1,9 @@
 -- A number put into a rising list that stands in the first numbers of a slice.
 use Prim.Native.Nat.{ℕ, zero, suc, ◌+◌, ◌-◌, ◌≤◌, ◌<◌}
 use native.Mathlib.Omega.{arith}
-use Rattle.std.proofs.Common.{add-one, eq-or-lt_of_le, ◌∙◌, ap₂, subst, inl, inr, ⊎_elim, length-append, take-append-drop, take-take}
+use Rattle.std.proofs.Common.{eq-or-lt_of_le, ◌∙◌, subst, inl, inr, ⊎_elim, length-append, take-append-drop, take-take}
 use Rattle.std.proofs.Common.{lt-ltb, le-ltb, eq-eqb, ne_eqb}
-use Rattle.std.specs.Prelude.{◌≡◌, refl, Bool, true, false, cond, ◌⊎◌, eqb, ltb, take, set}
+use Rattle.std.specs.Prelude.{◌≡◌, refl, ◌⊎◌, take, set}
 use Rattle.std.proofs.Math.Path.{sym, ap}
 use mathlib.Core.List.{List, [], ◌∷◌, ◌++◌, Memᴰ}
 use Rattle.std.proofs.Math.ListN.{length, get_or, drop, length-set, length-drop, get_or-append}

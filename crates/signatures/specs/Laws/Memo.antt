@@ -1,15 +1,14 @@
 -- Laws of the memo: what it holds stays right while the dictionary grows, and when a cell is written.
-use Rattle.std.specs.Prelude.{ℕ, zero, suc, ◌+◌, ◌-◌, ◌*◌, ◌≤◌, ◌<◌, ◌≡◌, refl, Bool, ◌⊎◌, set, drop}
+use Rattle.std.specs.Prelude.{ℕ, ◌+◌, ◌-◌, ◌*◌, ◌≤◌, ◌<◌, ◌≡◌, Bool, ◌⊎◌, set, drop}
 use native.Mathlib.Omega.{arith}
 use Rattle.std.proofs.Math.Path.{sym, ap}
-use Rattle.std.proofs.Common.{◌∙◌, ap₂, subst, inl, inr, ⊎_elim, length-set, length-append, get_or-set_same, get_or-set_other, get_or-take}
+use Rattle.std.proofs.Common.{◌∙◌, subst, inl, inr, ⊎_elim, length-set, length-append, get_or-set_same, get_or-set_other, get_or-take}
 use Rattle.std.proofs.Common.{get_or-drop, drop_at}
-use mathlib.Core.List.{List, [], ◌∷◌, ◌++◌, append_assoc}
+use mathlib.Core.List.{List, ◌++◌, append_assoc}
 use Rattle.std.proofs.Math.ListN.{length, get_or, take, length-drop, get_or-append}
 use Rattle.std.proofs.Math.Seq.{length-take-le, ext_get_or, paste, take-length, take-append_seam}
-use Rattle.std.proofs.lemmas.List.Edits.{length-paste, take-paste, drop-paste}
+use Rattle.std.proofs.lemmas.List.Edits.{length-paste, drop-paste}
 use Rattle.signatures.specs.Laws.Order.{decide, cases}
-use Rattle.signatures.specs.declared.dictionary.Interned.{Interned}
 use Rattle.signatures.specs.declared.dictionary.Interned.TheVariants.{Id, Full}
 use Rattle.signatures.specs.Book.{At, Grows}
 use Rattle.signatures.specs.Laws.Book.{told-grows}

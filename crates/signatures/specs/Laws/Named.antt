@@ -1,15 +1,15 @@
 -- Ids of signatures are equal exactly if names, delays and sets of steps are equal. What is refused is like nothing that has an id.
-use Rattle.std.specs.Prelude.{ℕ, zero, suc, ◌+◌, ◌-◌, ◌*◌, ◌≤◌, ◌<◌, ◌≡◌, refl, take, set, get_or, drop}
-use Rattle.std.proofs.Common.{arith, add-one, sym, ◌∙◌, ap₂, subst, length-append, length-set, take-suc-set, length-take-le, take-take}
+use Rattle.std.specs.Prelude.{ℕ, suc, ◌+◌, ◌-◌, ◌≤◌, ◌<◌, ◌≡◌, refl, take, set, get_or, drop}
+use Rattle.std.proofs.Common.{arith, sym, ◌∙◌, ap₂, subst, length-append, length-set, take-suc-set, length-take-le, take-take}
 use Rattle.std.proofs.Common.{drop_at, append_assoc}
 use Rattle.std.proofs.Math.Path.{ap}
 use mathlib.Core.List.{List, [], ◌∷◌, ◌++◌, Memᴰ}
 use Rattle.std.proofs.Math.ListN.{length}
-use Rattle.std.proofs.lemmas.List.{take-set-le, take-append-le}
+use Rattle.std.proofs.lemmas.List.{take-append-le}
 use borrow.Rule.Slice.PartMut.{put_mid, post_of, take_put}
 use Rattle.signatures.specs.declared.dictionary.Interned.{Interned}
 use Rattle.signatures.specs.declared.dictionary.Interned.TheVariants.{Id, Full}
-use Rattle.signatures.specs.Book.{max_ids, room, At, Absent, Different, numbers_in, Fits, Told, Shut, Grows}
+use Rattle.signatures.specs.Book.{room, At, Different, numbers_in, Told, Shut, Grows}
 use Rattle.signatures.specs.Laws.Book.{grows_same, grows_then, told-grows, told-few}
 use Rattle.signatures.specs.Sets.{put_in, set_of}
 use Rattle.signatures.specs.Laws.Sets.{set_same, same_set}

@@ -1,5 +1,5 @@
 -- A pass, item by item: one more has its id, or none.
-use Rattle.std.specs.Prelude.{ℕ, zero, suc, ◌+◌, ◌≤◌, ◌<◌, ◌≡◌, refl, Bool, true, false, cond, List, [], ◌∷◌, ◌⊎◌, ◌↔◌, ltb, length, get_or}
+use Rattle.std.specs.Prelude.{ℕ, ◌+◌, ◌≤◌, ◌<◌, ◌≡◌, refl, Bool, cond, List, [], ◌⊎◌, length, get_or}
 use Rattle.std.specs.Prelude.{set}
 use Rattle.std.proofs.Common.{arith, sym, ◌∙◌, ap, subst, inl, inr, length-set, get_or-set_same, get_or-set_other, lt-ltb}
 use Rattle.signatures.specs.declared.dictionary.Interned.{Interned}

@@ -1,13 +1,13 @@
 -- Laws of raw forms, and the turns of the loops that make and use them.
 use Rattle.std.specs.Prelude.{ℕ, zero, suc, ◌+◌, ◌-◌, ◌*◌, ◌/◌, ◌%◌, ◌≤◌, ◌<◌, ◌≡◌, refl, Bool, true, false, cond, ◌⊎◌, eqb, get_or, set}
-use Rattle.std.specs.Prelude.{take, drop}
-use Rattle.std.proofs.Common.{arith, add-one, mod-lt, eq-or-lt_of_le, sym, ◌∙◌, subst, inl, inr, length-set, get_or-set_same}
+use Rattle.std.specs.Prelude.{take}
+use Rattle.std.proofs.Common.{arith, add-one, eq-or-lt_of_le, sym, ◌∙◌, subst, inl, inr, length-set, get_or-set_same}
 use Rattle.std.proofs.Common.{get_or-set_other, take-suc, take-suc-set, eq-eqb, ne_eqb}
 use Rattle.std.proofs.Math.Nat.{div-zero}
 use Rattle.std.proofs.Math.Path.{ap, ap₂}
 use mathlib.Core.List.{List, [], ◌∷◌, ◌++◌, append_assoc, append-nil}
 use Rattle.std.proofs.Math.ListN.{length}
-use Rattle.std.proofs.Math.Seq.{get_or-take, length-take-le, take-length}
+use Rattle.std.proofs.Math.Seq.{get_or-take, length-take-le}
 use Rattle.bisimulation.specs.Structures.{Branch}
 use Rattle.graph.specs.Readers.{branch_count, branch_slot, landing_of, action_of, denominator_of, low_of}
 use Rattle.signatures.specs.Sets.{put_in, set_of}
@@ -90,27 +90,27 @@ module _ (edges raw : List ℕ) (name count : ℕ) where
   mass-start = let e : count - 0 ≡ count = omega arith in ap (λ (k : ℕ). 0 + mass_of name (raw_branches edges raw 0 k)) e ∙ omega arith
 
   module _ (sum i : ℕ) (is : sum + mass_of name (raw_branches edges raw i (count - i)) ≡ mass_of name (raw_branches edges raw 0 count))
-      where
-    pub mass-on : (more : ℕ) → i < count → more ≡ cond (eqb (get_or raw (1 + i) 0) name) (low_of edges (raw_edge raw) i) 0
-        → (more + sum) + mass_of name (raw_branches edges raw (i + 1) (count - (i + 1))) ≡ mass_of name (raw_branches edges raw 0 count)
-    mass-on more h e =
-        let next : count - i ≡ suc (count - (i + 1)) = omega arith in
-        ap₂ (λ (m k : ℕ). (m + sum) + mass_of name (raw_branches edges raw k (count - (i + 1)))) e (add-one i)
-        ∙ go (eqb (get_or raw (1 + i) 0) name)
-        ∙ sym (ap (λ (k : ℕ). sum + mass_of name (raw_branches edges raw i k)) next) ∙ is
-      where
-        go : (b : Bool) → (cond b (low_of edges (raw_edge raw) i) 0 + sum) + mass_of name (raw_branches edges raw (suc i) (count - (i + 1)))
-            ≡ sum + cond b (low_of edges (raw_edge raw) i + mass_of name (raw_branches edges raw (suc i) (count - (i + 1))))
-            (mass_of name (raw_branches edges raw (suc i) (count - (i + 1))))
-        go true = omega arith
-        go false = omega arith
+    where
+      pub mass-on : (more : ℕ) → i < count → more ≡ cond (eqb (get_or raw (1 + i) 0) name) (low_of edges (raw_edge raw) i) 0
+          → (more + sum) + mass_of name (raw_branches edges raw (i + 1) (count - (i + 1))) ≡ mass_of name (raw_branches edges raw 0 count)
+      mass-on more h e =
+          let next : count - i ≡ suc (count - (i + 1)) = omega arith in
+          ap₂ (λ (m k : ℕ). (m + sum) + mass_of name (raw_branches edges raw k (count - (i + 1)))) e (add-one i)
+          ∙ go (eqb (get_or raw (1 + i) 0) name)
+          ∙ sym (ap (λ (k : ℕ). sum + mass_of name (raw_branches edges raw i k)) next) ∙ is
+        where
+          go : (b : Bool) → (cond b (low_of edges (raw_edge raw) i) 0 + sum) + mass_of name (raw_branches edges raw (suc i) (count - (i + 1)))
+              ≡ sum + cond b (low_of edges (raw_edge raw) i + mass_of name (raw_branches edges raw (suc i) (count - (i + 1))))
+              (mass_of name (raw_branches edges raw (suc i) (count - (i + 1))))
+          go true = omega arith
+          go false = omega arith
 
-    pub mass-end : count ≤ i → sum ≡ mass_of name (raw_branches edges raw 0 count)
-    mass-end h =
-        let none : count - i ≡ 0 = omega arith in
-        let whole : sum + 0 ≡ mass_of name (raw_branches edges raw 0 count) =
-        sym (ap (λ (k : ℕ). sum + mass_of name (raw_branches edges raw i k)) none) ∙ is in
-        omega (arith, whole)
+      pub mass-end : count ≤ i → sum ≡ mass_of name (raw_branches edges raw 0 count)
+      mass-end h =
+          let none : count - i ≡ 0 = omega arith in
+          let whole : sum + 0 ≡ mass_of name (raw_branches edges raw 0 count) =
+          sym (ap (λ (k : ℕ). sum + mass_of name (raw_branches edges raw i k)) none) ∙ is in
+          omega (arith, whole)
 
 -- Names are gathered one after the other.
 module _ (raw : List ℕ) (count : ℕ) where

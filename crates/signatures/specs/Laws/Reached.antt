@@ -2,7 +2,7 @@
 -- repeats itself, and a shorter one ends at the same item. Walks by jumps meet the same names as walks by single delays.
 use Prim.Native.Nat.{ℕ, zero, suc, ◌+◌, ◌-◌, ◌≤◌, ◌<◌}
 use Rattle.std.proofs.Common.{arith, ◌∙◌, subst}
-use Rattle.std.specs.Prelude.{◌≡◌, Bool, true, false, ◌⊎◌, ltb, eqb}
+use Rattle.std.specs.Prelude.{◌≡◌, true, false, ◌⊎◌, ltb, eqb}
 use Rattle.std.proofs.Math.Path.{refl, sym, ap}
 use Rattle.std.proofs.Math.Bool.{cond}
 use mathlib.Core.List.{List, [], ◌∷◌, Memᴰ}

@@ -1,6 +1,6 @@
 -- Sets as rising lists: what is in them, and that equal lists are exactly equal sets.
-use Rattle.std.specs.Prelude.{ℕ, ◌<◌, ◌≡◌, refl, Bool, true, false, cond, ◌⊎◌, eqb, ltb}
-use Rattle.std.proofs.Common.{arith, sym, ◌∙◌, ap, ap₂, subst, inl, inr, ltb-true, ltb-false, eqb-true}
+use Rattle.std.specs.Prelude.{ℕ, ◌<◌, ◌≡◌, refl, Bool, true, false, ◌⊎◌, eqb, ltb}
+use Rattle.std.proofs.Common.{arith, sym, ap₂, subst, inl, inr, ltb-true, ltb-false, eqb-true}
 use mathlib.Core.List.{List, [], ◌∷◌, Memᴰ}
 use Rattle.std.proofs.lemmas.Bool.{eqb-false}
 use Rattle.signatures.specs.Sets.{put_in, set_of, Rising}

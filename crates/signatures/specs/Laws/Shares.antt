@@ -1,6 +1,6 @@
 -- Shares as two numbers are equal exactly if the cross products are. Denominators are below 2^30, so that different shares differ by more
 -- than 2^-60.
-use Rattle.std.specs.Prelude.{ℕ, ◌+◌, ◌*◌, ◌/◌, ◌%◌, ◌≤◌, ◌<◌, ◌≡◌, refl}
+use Rattle.std.specs.Prelude.{ℕ, ◌+◌, ◌*◌, ◌/◌, ◌%◌, ◌≤◌, ◌<◌, ◌≡◌}
 use Rattle.std.proofs.Common.{arith, mul-le-mul_right, mul-le-mul, mul_right_comm, mul_comm, mul_assoc, add-mul, lt_of_mul-lt-mul_right}
 use Rattle.std.proofs.Common.{mul-lt-mul_of_pos_right, div-mul-le_self, mod-lt, mod-eq_of_lt, div-lt_iff_lt-mul, sym, ◌∙◌, ap, ap₂, subst}
 use Rattle.std.proofs.Math.Nat.{mul-div-mul_right, lt-div-mul-add, div-add-mod, mul-add-div}
@@ -15,7 +15,7 @@ high-plain : (a w : ℕ) → 0 < w → a ≤ w → high_share a w ≡ a * 107374
 unfolding high_share
 high-plain a w h most =
     mod-eq_of_lt ((div-lt_iff_lt-mul {k = w} {x = a * 1073741824} {y = 4294967296} h).1
-        (omega (arith, mul-le-mul_right 1073741824 most, h)))
+    (omega (arith, mul-le-mul_right 1073741824 most, h)))
 
 pub high-most : (a w : ℕ) → 0 < w → a ≤ w → high_share a w ≤ 1073741824
 high-most a w h most =

@@ -1,19 +1,19 @@
 -- Steps tell edges apart: two lists are equal exactly where the edges have the same action and give every block the same share.
-use Rattle.std.specs.Prelude.{ℕ, zero, suc, ◌+◌, ◌*◌, ◌/◌, ◌%◌, ◌≤◌, ◌<◌, ◌≡◌, Bool, true, false, cond, ◌&&◌, ◌⊎◌, ◌↔◌, get_or}
-use Rattle.std.proofs.Common.{arith, zero-mul, ◌∙◌, subst, ⊎_elim}
+use Rattle.std.specs.Prelude.{ℕ, ◌+◌, ◌*◌, ◌/◌, ◌%◌, ◌≤◌, ◌<◌, ◌≡◌, true, false, cond, ◌⊎◌}
+use Rattle.std.proofs.Common.{arith, zero-mul, ◌∙◌, subst}
 use Rattle.std.proofs.Math.Nat.{zero-mod, zero-div, eq_of_mul-eq-mul_right}
 use Rattle.std.proofs.Math.Path.{refl, sym, ap, ap₂}
-use mathlib.Core.List.{List, [], ◌∷◌, ◌++◌, Memᴰ}
+use mathlib.Core.List.{List, [], ◌∷◌, Memᴰ}
 use Rattle.std.proofs.Math.Logic.{inl, inr}
 use Rattle.std.proofs.Math.Dec.{eqb}
-use borrow.Author.Tests.{eqb-true, eqb-false, eq-eqb, ne_eqb}
+use borrow.Author.Tests.{eqb-true, eqb-false, ne_eqb}
 use Rattle.bisimulation.specs.Structures.{Branch, total, Closed}
 use Rattle.bisimulation.specs.Finite.{Finite, structure, sum, all_below, alike}
 use Rattle.bisimulation.specs.Laws.Tests.{both, and-iff, eqb-iff, all-below}
 use Rattle.signatures.specs.Sets.{set_of, Rising}
 use Rattle.signatures.specs.Shares.{high_share, low_share}
-use Rattle.signatures.specs.Steps.{name_of, named, target_names, mass_of, entry_of, shares_over, step_list, step_of}
-use Rattle.signatures.specs.Laws.Sets.{rising-same, set-rises, set-has, set-in}
+use Rattle.signatures.specs.Steps.{name_of, named, target_names, mass_of, shares_over, step_list, step_of}
+use Rattle.signatures.specs.Laws.Sets.{rising-same, set-rises, set-in}
 use Rattle.signatures.specs.Laws.Shares.{share-same, share-apart}
 
 -- ---- A share of nothing

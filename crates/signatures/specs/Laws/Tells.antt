@@ -1,7 +1,7 @@
 -- What the ids of a pass tell of the next round in a closed structure: items have equal ids exactly if it relates them, and an item without
 -- an id is related to none that has one.
-use Rattle.std.specs.Prelude.{ℕ, zero, suc, ◌≤◌, ◌<◌, ◌≡◌, refl, Bool, true, false, cond, List, [], ◌∷◌, ◌⊎◌, ◌↔◌, ltb, eqb, length, get_or}
-use Rattle.std.proofs.Common.{arith, ◌∙◌, ap, ap₂, subst, inl, inr, ltb-true, ne_eqb}
+use Rattle.std.specs.Prelude.{ℕ, zero, suc, ◌≤◌, ◌<◌, ◌≡◌, refl, true, cond, List, [], ◌∷◌, ◌↔◌, ltb, eqb, length, get_or}
+use Rattle.std.proofs.Common.{arith, ◌∙◌, ap, subst, inl, inr, ltb-true, ne_eqb}
 use Rattle.std.proofs.Math.Path.{sym}
 use Rattle.bisimulation.specs.Structures.{Closed}
 use Rattle.bisimulation.specs.Finite.{Finite, structure, next}

@@ -4,7 +4,6 @@ use Prim.Native.Nat.{ℕ, ◌+◌}
 use mathlib.Core.Path.{◌∙◌, ap}
 use mathlib.Core.Logic.{inl, inr}
 use lib.ListN.{get_or}
-use Rattle.signatures.specs.Chain.{hash_of}
 use Rattle.signatures.specs.Dictionary.{count_of}
 use Rattle.signatures.specs.Laws.Dictionary.{interned-full, interned-made}
 use Rattle.signatures.proofs.dictionary.add.Goals as goal

@@ -1,6 +1,5 @@
 -- `clear` meets its contract. The loop's invariant: the first i numbers are 0. Assumes nothing.
 use native.Mathlib.Omega.{arith}
-use Prim.Native.Nat.{◌-◌}
 use mathlib.Core.Path.{refl, ◌∙◌}
 use lib.ListN.{length-set}
 use Rattle.signatures.specs.Laws.Dictionary.{cleared, zeros-on}

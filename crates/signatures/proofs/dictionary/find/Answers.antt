@@ -24,7 +24,7 @@ pub is_entry-requires : goal.is_entry-requires
 is_entry-requires c =
     let pre = c.requires in
     let test = c.loop-link-test in
-    let loop = c.loop-link in 
+    let loop = c.loop-link in
     record {
       dictionary = pre;
       j_bound = omega (arith, test.true, loop.invariant.within);

@@ -1,7 +1,7 @@
 -- `hash_of` meets its contract. The loop's invariant: what is mixed so far, with the rest of the list, is the hash of the list. Assumes
 -- nothing.
 use native.Mathlib.Omega.{arith}
-use Prim.Native.Nat.{ℕ, ◌-◌, ◌+◌, ◌*◌, ◌%◌}
+use Prim.Native.Nat.{ℕ, ◌+◌, ◌*◌, ◌%◌}
 use mathlib.Core.Path.{◌∙◌, ap}
 use lib.ListN.{drop}
 use Rattle.signatures.specs.Chain.{mixed}

@@ -5,7 +5,7 @@ use Rattle.signatures.proofs.dictionary.intern.Goals as goal
 pub add-requires : goal.add-requires
 add-requires c =
     let pre = c.requires in
-    let find = c.find-found in 
+    let find = c.find-found in
     record {
       dictionary = pre;
       absent = rw c.in-Nothing.is at find.ensures;

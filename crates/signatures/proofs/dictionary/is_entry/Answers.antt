@@ -8,28 +8,19 @@ use Rattle.signatures.specs.Dictionary.{Tells}
 use Rattle.signatures.specs.Laws.Dictionary.{entry-rises, entry-within, entry-part}
 use Rattle.signatures.proofs.dictionary.is_entry.Goals as goal
 
-pub slice_bounds-same_list-count : goal.slice_bounds-same_list-count
-slice_bounds-same_list-count c =
+pub slice_bounds-same_list-end : goal.slice_bounds-same_list-end
+slice_bounds-same_list-end c =
     let pre = c.requires in
     let args = c.args in
     let load = c.load-start in
     let load2 = c.load-end in
-    omega (arith, entry-rises pre.dictionary args.j pre.j_bound, load.ensures.0, load2.ensures.0)
-
--- LEFT: slice-bounds-same-list-start
--- part-same-list-start c =
---     let pre = c.before.before.before.before.before.requires in
---     let args = c.before.before.before.before.before.args in
---     let load = c.before.load in
---     let load2 = c.load2 in
---     omega (arith, entry-rises pre.0 args.j pre.1, load.ensures.0, load2.ensures.0)
-
--- LEFT: slice-bounds-same-list-end
--- part-same-list-end c =
---     let pre = c.before.before.before.before.before.requires in
---     let args = c.before.before.before.before.before.args in
---     let load2 = c.load2 in
---     omega (arith, entry-within pre.0 args.j pre.1, load2.ensures.0)
+    omega (
+      arith,
+      entry-rises pre.dictionary args.j pre.j_bound,
+      entry-within pre.dictionary args.j pre.j_bound,
+      load.ensures.0,
+      load2.ensures.0,
+    )
 
 pub returns : goal.returns
 returns c =

@@ -1,5 +1,4 @@
 -- Loop: the hash is below 2^32. Measure: the numbers that are left.
-use Prim.Native.Nat.{◌-◌}
 use native.Mathlib.Omega.{arith}
 use Rattle.signatures.proofs.memo.cell_of.Goals as goal
 

@@ -24,8 +24,7 @@ note-requires c =
     let cell-of = c.cell_of-cell in
     let pre = c.requires in
     let args = c.args in
-    let intern-step = c.intern_step-answer in
-(
+    let intern-step = c.intern_step-answer in (
       cell-of.ensures,
       pre.noted.size,
       pre.raw_nonzero.1,

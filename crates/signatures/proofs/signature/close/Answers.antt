@@ -1,5 +1,5 @@
 -- `close` meets its contract. Assumes nothing.
-use Prim.Native.Nat.{ℕ, ◌+◌, ◌-◌, ◌≤◌}
+use Prim.Native.Nat.{ℕ, ◌+◌, ◌≤◌}
 use mathlib.Core.Path.{refl, sym, subst}
 use native.Mathlib.Omega.{arith}
 use lib.ListN.{length, set, length-set}
@@ -34,7 +34,7 @@ pub returns : goal.returns
 returns c =
     let args = c.args in
     let intern = c.intern in
-    let pre = c.requires in 
+    let pre = c.requires in
     record {
       interns = subst (λ (l : List ℕ). Interns l args.index.now args.numbers.now intern.new.index intern.new.numbers intern.result)
           (two-more args.list.now args.len args.name args.delays (omega (arith, pre.len_bound.0, pre.len_bound.1))) intern.ensures;

@@ -18,7 +18,7 @@ returns c =
     let intern = c.intern in
     let size : length list-delays.new.list ≡ length args.list.now - 130 = list-delays.ensures.2 ∙ mid_len 130 (length args.list.now)
     args.list.now (omega arith) in
-    let fits : list-delays.result ≤ length list-delays.new.list = omega (arith, size, list-delays.ensures.1, pre.names_bound.1) in 
+    let fits : list-delays.result ≤ length list-delays.new.list = omega (arith, size, list-delays.ensures.1, pre.names_bound.1) in
     record {
       interns = subst (λ (l : List ℕ). Interns l args.index.now args.numbers.now intern.new.index intern.new.numbers intern.result)
           (part-behind 130 (length args.list.now - 130) list-delays.result args.list.now list-delays.new.list (omega (arith, pre.names_bound.1))

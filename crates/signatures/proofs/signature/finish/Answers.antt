@@ -1,5 +1,4 @@
 -- `finish` meets its contract. Assumes nothing.
-use Prim.Native.Nat.{◌-◌}
 use mathlib.Core.Path.{sym, ◌∙◌}
 use native.Mathlib.Omega.{arith}
 use Rattle.signatures.specs.Named.{reached_from}
@@ -14,7 +13,7 @@ close-requires c =
     let pre = c.requires in
     let name-at = c.name_at in
     let id = id-small (reached_from args.names.now args.x) args.index.now args.numbers.now delay-id.new.index delay-id.new.numbers
-    c.in-Id.id (rw c.in-Id.is at delay-id.ensures.interns) in 
+    c.in-Id.id (rw c.in-Id.is at delay-id.ensures.interns) in
     record {
       dictionary = delay-id.ensures.interns.kept;
       len_bound = (pre.len_bound.0, omega (arith, delay-id.ensures.x_len_bound.1, pre.len_bound.2), omega (arith, name-at.ensures.1), omega (arith, id));

@@ -1,6 +1,5 @@
 -- Loop: the first numbers of the list are the names so far as a set; these and those of the rest are those of the whole. Measure: the
 -- steps that are left.
-use Prim.Native.Nat.{◌-◌}
 use mathlib.Core.Path.{refl, ◌∙◌}
 use native.Mathlib.Omega.{arith}
 use Rattle.signatures.specs.Named.{items_in, jump_of}
@@ -31,7 +30,7 @@ unfolding items_in
 insert-len-requires c =
     let loop = c.loop-i in
     let loop-test = c.loop-i-test in
-    let pre = c.requires in 
+    let pre = c.requires in
     record {
       v_bound = (omega (arith, c.name_at.ensures.1), omega (arith, loop.invariant.1, loop.invariant.2, loop-test.true, pre.0, pre.1));
       rising = loop.invariant.0.rises;

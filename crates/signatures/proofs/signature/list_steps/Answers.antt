@@ -1,6 +1,6 @@
 -- Loop: the steps of the ranks so far are held, and their ids are a set in the first numbers of the list; the rank is available, or past
 -- the last. Measure: the ranks that are left.
-use Prim.Native.Nat.{ℕ, ◌-◌}
+use Prim.Native.Nat.{ℕ}
 use mathlib.Core.Path.{refl, sym, ◌∙◌, ap, ap₂, subst}
 use native.Mathlib.Omega.{arith}
 use mathlib.Core.List.{List}
@@ -39,7 +39,7 @@ loop-rank-init c =
 pub step_id-step-requires : goal.step_id-step-requires
 step_id-step-requires c =
     let loop = c.loop-rank in
-    let edge_at' = c.edge_at-edge in 
+    let edge_at' = c.edge_at-edge in
     record {
       dictionary = loop.invariant.kept;
       noted = loop.invariant.noted;
@@ -57,7 +57,7 @@ insert-len-requires c =
     let IsEdge-count = c.edge_count-count in
     let pre = c.requires in
     let id = id-small (step_at args.graph.now args.edges.now args.names.now class-of.result edge_at'.result) loop.index loop.numbers
-    step-id.new.index step-id.new.numbers c.in-Id.id (rw c.in-Id.is at step-id.ensures.interns) in 
+    step-id.new.index step-id.new.numbers c.in-Id.id (rw c.in-Id.is at step-id.ensures.interns) in
     record {
       v_bound = (omega (arith, id), omega (arith, loop.invariant.part.short, loop-test.true, IsEdge-count.ensures.1, loop.invariant.size, pre.in_bounds));
       rising = subst Rising (sym loop.invariant.part.put) (set-rises loop.invariant.part.ids);

@@ -1,9 +1,6 @@
 -- Loop: no rank so far is available. Measure: the ranks that are left.
-use Prim.Native.Nat.{◌-◌}
 use mathlib.Core.Path.{sym, ◌∙◌}
 use native.Mathlib.Omega.{arith}
-use mathlib.Core.Bool.{true, false}
-use Rattle.graph.specs.Readers.{is_available}
 use Rattle.signatures.specs.Laws.Available.{none-on}
 use Rattle.signatures.proofs.signature.next_available.Goals as goal
 

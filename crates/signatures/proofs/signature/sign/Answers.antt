@@ -1,6 +1,6 @@
 -- If a slice has not the size that a pass asks for, nothing is changed. Otherwise dictionary and memo are emptied, so that the one holds
 -- and the other notes nothing, and the pass is that of `sign_all`.
-use Prim.Native.Nat.{ℕ, ◌-◌}
+use Prim.Native.Nat.{ℕ}
 use mathlib.Core.Path.{refl, sym}
 use native.Mathlib.Omega.{arith}
 use lib.ListN.{length-replicate}
@@ -16,9 +16,9 @@ pub returns-then-not-is_roomy : goal.returns-then-not-is_roomy
 returns-then-not-is_roomy c =
     record {
       tells = record {
-    holds = λ e. absurd (false≢true e);
-    fails = λ e roomy. c.is_roomy.ensures.fails (not-true _ c.if-not-is_roomy.true-raw) roomy;
-  };
+        holds = λ e. absurd (false≢true e);
+        fails = λ e roomy. c.is_roomy.ensures.fails (not-true _ c.if-not-is_roomy.true-raw) roomy;
+      };
       passed = (λ e. absurd (false≢true e), λ e. (refl, refl, refl, refl));
     }
 
@@ -42,11 +42,11 @@ sign_all-requires c =
     let clear = c.clear in
     let args = c.args in
     let clear-memo = c.clear_memo in
-    let roomy = is-roomy.ensures.holds (not-false _ if1.false-raw) in 
+    let roomy = is-roomy.ensures.holds (not-false _ if1.false-raw) in
     record {
       empty = clear.ensures;
       noted = noted-none (raw_step args.edges.now) (entries_of clear.new.index args.numbers.now) clear-memo.new.memo clear-memo.ensures.0
-            clear-memo.ensures.1;
+          clear-memo.ensures.1;
       names_bound = (omega (arith, roomy.names-few), omega (arith, length-replicate {A = ℕ} 4226 0), roomy.items-few);
     }
 
@@ -55,7 +55,7 @@ returns c =
     let is-roomy = c.is_roomy in
     let if1 = c.if-not-is_roomy in
     let sign-all = c.sign_all in
-    let roomy = is-roomy.ensures.holds (not-false _ if1.false-raw) in 
+    let roomy = is-roomy.ensures.holds (not-false _ if1.false-raw) in
     record {
       tells = record { holds = λ e. roomy; fails = λ e k. false≢true (sym e) };
       passed = (λ e. sign-all.ensures.passed, λ e. absurd (false≢true (sym e)));

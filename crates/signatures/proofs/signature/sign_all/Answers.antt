@@ -1,5 +1,4 @@
 -- Loop: the items so far have the ids of their signatures, or none. Measure: the items that are left.
-use Prim.Native.Nat.{◌-◌}
 use mathlib.Core.Path.{refl, sym, ◌∙◌}
 use native.Mathlib.Omega.{arith}
 use lib.ListN.{length-set}
@@ -23,7 +22,7 @@ loop-k-init c =
 pub signature-id-requires : goal.signature-id-requires
 signature-id-requires c =
     let loop = c.loop-k in
-    let pre = c.requires in 
+    let pre = c.requires in
     record {
       dictionary = loop.invariant.kept;
       noted = loop.invariant.noted;
@@ -100,7 +99,7 @@ pub returns : goal.returns
 returns c =
     let args = c.args in
     let loop = c.loop-k in
-    let pre = c.requires in 
+    let pre = c.requires in
     record {
       passed = passed args.graph.now args.edges.now args.names.now args.items.now args.list.now loop.index loop.numbers loop.memo loop.list
           loop.items loop.k loop.invariant c.loop-k-test.false;

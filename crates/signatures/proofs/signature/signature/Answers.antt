@@ -1,5 +1,4 @@
 -- `signature` meets its contract. Assumes nothing.
-use Prim.Native.Nat.{◌-◌}
 use mathlib.Core.Path.{sym, ◌∙◌}
 use native.Mathlib.Omega.{arith}
 use Rattle.signatures.specs.Laws.Named.{signed-whole, signed-short}
@@ -7,7 +6,7 @@ use Rattle.signatures.proofs.signature.signature.Goals as goal
 
 pub list_steps-steps-requires : goal.list_steps-steps-requires
 list_steps-steps-requires c =
-    let pre = c.requires in 
+    let pre = c.requires in
     record {
       dictionary = pre.dictionary;
       noted = pre.noted;
@@ -18,7 +17,7 @@ pub finish-requires : goal.finish-requires
 finish-requires c =
     let list_steps = c.list_steps-steps in
     let pre = c.requires in
-    let g = rw c.in-Ids.is at list_steps.ensures in 
+    let g = rw c.in-Ids.is at list_steps.ensures in
     record {
       dictionary = g.kept;
       len_bound = (g.answered.short, pre.names_bound.0, omega (arith, g.size, pre.names_bound.1));

@@ -1,5 +1,5 @@
 -- `step_id` meets its contract. Assumes nothing.
-use Prim.Native.Nat.{ℕ, ◌-◌}
+use Prim.Native.Nat.{ℕ}
 use mathlib.Core.Path.{sym, subst}
 use native.Mathlib.Omega.{arith}
 use mathlib.Core.List.{List}
@@ -21,7 +21,7 @@ noted_id-requires c =
     let list-landed = c.list_landed-size in
     let pre = c.requires in
     let size = length-take-le list-landed.result list-landed.new.raw
-    (omega (arith, list-landed.ensures.landed.few, list-landed.ensures.raw_len_unchanged, length-replicate {A = ℕ} 9 0)) in 
+    (omega (arith, list-landed.ensures.landed.few, list-landed.ensures.raw_len_unchanged, length-replicate {A = ℕ} 9 0)) in
     record {
       dictionary = pre.dictionary;
       noted = pre.noted;

@@ -16,7 +16,7 @@ pub insert-len-requires : goal.insert-len-requires
 insert-len-requires c =
     let loop = c.loop-i in
     let loop-test = c.loop-i-test in
-    let pre = c.requires in 
+    let pre = c.requires in
     record {
       v_bound = (omega (arith, c.name_at.ensures.1), omega (arith, loop.invariant.1, loop.invariant.2, loop-test.true, pre.1, pre.2));
       rising = loop.invariant.0.rises;

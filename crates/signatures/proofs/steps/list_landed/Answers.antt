@@ -1,5 +1,5 @@
 -- Loop: the edge stands first, and behind it the names of the branches so far. Measure: the branches that are left.
-use Prim.Native.Nat.{ℕ, ◌+◌, ◌-◌}
+use Prim.Native.Nat.{ℕ, ◌+◌}
 use mathlib.Core.Path.{refl, ◌∙◌, ap}
 use native.Mathlib.Omega.{arith}
 use lib.Seq.{get_or-set_same}
@@ -42,7 +42,7 @@ pub returns : goal.returns
 returns c =
     let loop = c.loop-i in
     let branch-count = c.branch_count-count in
-    let args = c.args in 
+    let args = c.args in
     record {
       landed = record {
         edge-is = loop.invariant.0;
