@@ -27,13 +27,13 @@ loop-i-preserved c =
     in
     ⊎_elim
     (λ p.
-    let better = better-yes args.from v.result loop.best (sym is-better.ensures ∙ p.0.taken) in
-    subst on (sym p.1)
+    let better = better-yes args.from v.result loop.best (sym is-better.ensures ∙ p.if-is_better.true) in
+    subst on (sym p.best-is)
     (next-better args.list.now args.regions.now args.from args.count loop.best loop.i v.result inside is loop.invariant
     better.0 better.1))
     (λ p.
-    let worse = better-no args.from v.result loop.best (sym is-better.ensures ∙ p.0.left) in
-    subst on (sym p.1)
+    let worse = better-no args.from v.result loop.best (sym is-better.ensures ∙ p.if-is_better.false) in
+    subst on (sym p.best-is)
     (next-same args.list.now args.regions.now args.from args.count loop.best loop.i v.result inside is loop.invariant worse))
     c.if-is_better.branch-raw
 

@@ -19,13 +19,13 @@ loop-x-preserved c =
     let block_at = c.block_at in
     ⊎_elim
     (λ p. (
-      p.1 ∙ size-hit args.list.now args.b loop.x loop.size loop.invariant.0 (sym block_at.ensures ∙ p.0.taken),
-      omega (arith, p.1, loop.invariant.1),
+      p.size-is ∙ size-hit args.list.now args.b loop.x loop.size loop.invariant.0 (sym block_at.ensures ∙ p.if-block_at-b.true),
+      omega (arith, p.size-is, loop.invariant.1),
       omega (arith, inside),
     ))
     (λ p. (
-      p.1 ∙ size-miss args.list.now args.b loop.x loop.size loop.invariant.0 (λ e. p.0.left (block_at.ensures ∙ e)),
-      omega (arith, p.1, loop.invariant.1),
+      p.size-is ∙ size-miss args.list.now args.b loop.x loop.size loop.invariant.0 (λ e. p.if-block_at-b.false (block_at.ensures ∙ e)),
+      omega (arith, p.size-is, loop.invariant.1),
       omega (arith, inside),
     ))
     c.if-block_at-b.branch-raw

@@ -25,9 +25,9 @@ deliver-requires c =
     let known = shared-slice-known3 in
     let size = size_of in
     let room = block-fits args.list.now args.rows.now args.regions.now args.blocks args.b args.label
-    size.result args.edges [] [] pre.blocks_le_max_entries.0 pre.blocks_le_max_entries.1 fits.label.fits size.type-inv pre.blocks_le_max_entries.2 (λ i. omega (
+    size.result args.edges [] [] pre.blocks_le_max_entries.0 pre.blocks_le_max_entries.1 fits.label.fits size.type_inv pre.blocks_le_max_entries.2 (λ i. omega (
       arith,
-      known.given i,
+      known i,
     )) pre.by_index in
     adds-within (adds_then (put-block.ensures [] []) (adds_then put-delay.ensures put-steps.ensures)) (omega (
       arith,
@@ -49,9 +49,9 @@ returns c =
     let known = shared-slice-known3 in
     let size = size_of in
     let room = block-fits args.list.now args.rows.now args.regions.now args.blocks args.b args.label
-    size.result args.edges [] [] pre.blocks_le_max_entries.0 pre.blocks_le_max_entries.1 fits.label.fits size.type-inv pre.blocks_le_max_entries.2 (λ i. omega (
+    size.result args.edges [] [] pre.blocks_le_max_entries.0 pre.blocks_le_max_entries.1 fits.label.fits size.type_inv pre.blocks_le_max_entries.2 (λ i. omega (
       arith,
-      known.given i,
+      known i,
     )) pre.by_index in
     gives_same args.buffer.now _ _ (ap (λ (s : ℕ). block_line (record {
       number = args.b;

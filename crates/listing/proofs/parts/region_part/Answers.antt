@@ -15,7 +15,7 @@ deliver-requires c =
     let pre = c.requires in
     let put-region = c.put_region-k in
     let known = shared-slice-known in
-    let room = region-room args.entries.now (λ k. omega (arith, known.given k)) args.x 0 block_at.result args.clocks
+    let room = region-room args.entries.now (λ k. omega (arith, known k)) args.x 0 block_at.result args.clocks
     entry_at.result entry_at.ensures fits.x.fits block_at.type_inv pre.0 in
     adds-within (put-region.ensures 0) (omega (arith, room, length-replicate {A = ℕ} 256 0))
 
@@ -30,7 +30,7 @@ returns c =
     let put-region = c.put_region-k in
     let deliver = c.deliver in
     let known = shared-slice-known in
-    let room = region-room args.entries.now (λ k. omega (arith, known.given k)) args.x 0 block_at.result args.clocks
+    let room = region-room args.entries.now (λ k. omega (arith, known k)) args.x 0 block_at.result args.clocks
     entry_at.result entry_at.ensures fits.x.fits block_at.type_inv pre.0 in
     λ m same. gives_same args.buffer.now _ _ (region-text m args.entries.now args.list.now (length args.list.now)
     args.x 0 block_at.result args.clocks entry_at.result entry_at.ensures pre.1 pre.2 same block_at.ensures)

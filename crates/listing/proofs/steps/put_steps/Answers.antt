@@ -49,10 +49,10 @@ loop-e-preserved c =
     let number_at = c.number_at in
     let loop-test = c.loop-e-test in (
       ⊎_elim
-          (λ w. step-taken args.list.now args.rows.now args.count args.own loop.e w.5 w.6
-          (sym number_at.ensures.0 ∙ w.0.taken) loop.invariant.0 w.2.ensures)
-          (λ w. step_left args.list.now args.rows.now args.count args.own loop.e w.1 w.2
-          (λ e. w.0.left (number_at.ensures.0 ∙ e)) loop.invariant.0) c.if-number_at-eq1.branch-raw,
+          (λ w. step-taken args.list.now args.rows.now args.count args.own loop.e w.text-is w.now-is
+          (sym number_at.ensures.0 ∙ w.if-number_at-eq1.true) loop.invariant.0 w.put_step-now.ensures)
+          (λ w. step_left args.list.now args.rows.now args.count args.own loop.e w.text-is w.now-is
+          (λ e. w.if-number_at-eq1.false (number_at.ensures.0 ∙ e)) loop.invariant.0) c.if-number_at-eq1.branch-raw,
       omega (arith, loop-test.true),
     )
 
