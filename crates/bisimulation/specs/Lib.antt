@@ -13,4 +13,3 @@ pub mod Bisimulations
 pub mod Finite
 pub mod Below
 pub mod Placings
-pub mod Laws

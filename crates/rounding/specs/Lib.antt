@@ -2,4 +2,3 @@
 --   Rounding  what it means that a share is rounded to a number, and the number that is printed
 -- Laws on these stand in Laws.
 pub mod Rounding
-pub mod Laws

@@ -3,10 +3,10 @@ use Rattle.std.specs.Prelude.{ℕ, zero, suc, ◌+◌, ◌-◌, ◌%◌, ◌≤�
 use Rattle.std.proofs.Common.{arith, sym, ◌∙◌, ap, ap₂, inl, inr, get_or-set_same, get_or-set_other, eq-eqb, ne_eqb, eqb-true}
 use Rattle.bisimulation.specs.Structures.{Closed}
 use Rattle.bisimulation.specs.Finite.{Finite, structure, related, next, lead}
-use Rattle.bisimulation.specs.Laws.Tests.{clash, fails, same?, same_test}
-use Rattle.bisimulation.specs.Laws.Leads.{related-equivalence, reps-own, reps-agree}
+use Rattle.bisimulation.proofs.Laws.Tests.{clash, fails, same?, same_test}
+use Rattle.bisimulation.proofs.Laws.Leads.{related-equivalence, reps-own, reps-agree}
 use Rattle.bisimulation.specs.Below.{EquivalenceBelow, FinerBelow, Reps}
-use Rattle.bisimulation.specs.Laws.Leads.{lead_low, lead-lowest, lead-of, lead-found}
+use Rattle.bisimulation.proofs.Laws.Leads.{lead_low, lead-lowest, lead-of, lead-found}
 use Rattle.comparison.specs.Held.{Held}
 use Rattle.comparison.specs.Compare.{next_in}
 use Rattle.comparison.specs.Keys.{key_of, Known}

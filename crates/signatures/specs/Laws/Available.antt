@@ -9,7 +9,7 @@ use Rattle.graph.specs.Readers.{edge_count, branch_count, denominator_of, class_
 use Rattle.graph.specs.Laws.Bounds.{edges_few, branches-few}
 use Rattle.bisimulation.specs.Structures.{Branch}
 use Rattle.bisimulation.specs.Finite.{Finite}
-use Rattle.bisimulation.specs.Laws.Tests.{both}
+use Rattle.bisimulation.proofs.Laws.Tests.{both}
 use Rattle.signatures.specs.declared.dictionary.Interned.TheVariants.{Id, Full}
 use Rattle.signatures.specs.Sets.{put_in, set_of}
 use Rattle.signatures.specs.Book.{Told, Grows}

@@ -2,7 +2,7 @@
 use mathlib.Core.Path.{refl, sym, ◌∙◌}
 use mathlib.Core.Logic.{inl}
 use borrow.Author.Tests.{not-true, not-false}
-use Rattle.bisimulation.specs.Laws.Tests.{clash}
+use Rattle.bisimulation.proofs.Laws.Tests.{clash}
 use Rattle.comparison.specs.Laws.KeyLoops.{known-old, asked-both}
 use Rattle.comparison.specs.Laws.Keyed.{keys-part, twins-meet, keyed-on}
 use native.Mathlib.Omega.{arith}

@@ -2,7 +2,7 @@
 use Prim.Native.Nat.{◌*◌, ◌/◌}
 use native.Mathlib.Nat.{mod-le, div-le_self}
 use native.Mathlib.Omega.{arith}
-use Rattle.rounding.specs.Laws.Rounding.{ten-thousandths-none, ten-thousandths-down, ten-thousandths-up, ten-thousandths-half}
+use Rattle.rounding.proofs.Laws.Rounding.{ten-thousandths-none, ten-thousandths-down, ten-thousandths-up, ten-thousandths-half}
 use borrow.Author.Rules.{rules}
 use Rattle.listing.proofs.steps.ten_thousandths.Statement.{statement}
 use Rattle.listing.proofs.steps.ten_thousandths.Tie as tie

@@ -5,7 +5,7 @@ use mathlib.Core.Path.{refl, sym, ◌∙◌, ap}
 use lib.Dec.{eqb}
 use lib.ListN.{get_or}
 use borrow.Author.Tests.{eq-eqb, eqb-true, not-true, not-false}
-use Rattle.bisimulation.specs.Laws.Tests.{clash}
+use Rattle.bisimulation.proofs.Laws.Tests.{clash}
 use borrow.Author.Rules.{rules}
 use Rattle.rounds.proofs.changes.is_still_at.Statement.{statement}
 use Rattle.rounds.proofs.changes.is_still_at.Tie as tie

@@ -4,7 +4,7 @@ use mathlib.Core.Path.{sym, ◌∙◌, ap}
 use lib.Dec.{eqb}
 use lib.ListN.{get_or}
 use borrow.Author.Tests.{eq-eqb, not-true}
-use Rattle.bisimulation.specs.Laws.Tests.{clash}
+use Rattle.bisimulation.proofs.Laws.Tests.{clash}
 use borrow.Author.Rules.{rules}
 use Rattle.rounds.proofs.changes.is_touched_by.Statement.{statement}
 use Rattle.rounds.proofs.changes.is_touched_by.Tie as tie

@@ -4,7 +4,7 @@ use native.Mathlib.Omega.{arith}
 use mathlib.Core.Path.{◌≡◌, refl, ◌∙◌, subst}
 use lib.ListN.{length}
 use Rattle.bisimulation.specs.Finite.{related}
-use Rattle.bisimulation.specs.Laws.Leads.{lead_low}
+use Rattle.bisimulation.proofs.Laws.Leads.{lead_low}
 use Rattle.bisimulation.specs.Below.{Reps}
 use Rattle.rounds.specs.Rounds.{Anchored}
 use Rattle.rounds.specs.Laws.Joins.{anchored-none}

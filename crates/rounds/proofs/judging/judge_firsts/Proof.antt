@@ -5,7 +5,7 @@ use mathlib.Core.Path.{sym, ◌∙◌, ap}
 use borrow.Author.Tests.{not-true, not-false}
 use Rattle.bisimulation.specs.Structures.{Closed}
 use Rattle.bisimulation.specs.Finite.{Finite, structure, related}
-use Rattle.bisimulation.specs.Laws.Leads.{lead_low}
+use Rattle.bisimulation.proofs.Laws.Leads.{lead_low}
 use Rattle.bisimulation.specs.Below.{Reps}
 use Rattle.comparison.specs.Held.{Held}
 use Rattle.rounds.specs.Rounds.{judged_with}

@@ -2,7 +2,7 @@
 use Rattle.rounds.specs.Rounds.{Numbered}
 use Rattle.rounds.specs.Laws.Rounds.{numbered-none, numbered-on, numbered-over}
 use Rattle.bisimulation.specs.Finite.{related}
-use Rattle.bisimulation.specs.Laws.Leads.{related-equivalence}
+use Rattle.bisimulation.proofs.Laws.Leads.{related-equivalence}
 use Rattle.bisimulation.specs.Below.{Reps}
 use native.Mathlib.Omega.{arith}
 use mathlib.Core.Path.{◌≡◌, sym, ◌∙◌, ap}

@@ -2,7 +2,7 @@
 use native.Mathlib.Omega.{arith}
 use mathlib.Core.Path.{refl}
 use borrow.Author.Tests.{leb-true, le-leb}
-use Rattle.bisimulation.specs.Laws.Tests.{clash}
+use Rattle.bisimulation.proofs.Laws.Tests.{clash}
 use Rattle.rounds.proofs.rounds.is_roomy.Statement.{statement}
 use Rattle.rounds.proofs.rounds.is_roomy.Tie as tie
 

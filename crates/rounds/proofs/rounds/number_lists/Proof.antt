@@ -5,7 +5,7 @@ use mathlib.Core.List.{◌++◌}
 use lib.ListN.{drop}
 use lib.Seq.{length-take-le, drop_at}
 use borrow.Author.Tests.{not-true, not-false}
-use Rattle.bisimulation.specs.Laws.Tests.{clash}
+use Rattle.bisimulation.proofs.Laws.Tests.{clash}
 use borrow.Author.Rules.{rules}
 use Rattle.rounds.proofs.rounds.number_lists.Statement.{statement}
 use Rattle.rounds.proofs.rounds.number_lists.Tie as tie

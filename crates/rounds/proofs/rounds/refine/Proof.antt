@@ -4,7 +4,7 @@ use Rattle.comparison.specs.Held.{Held}
 use Rattle.rounds.specs.Changes.{Classed}
 use Rattle.bisimulation.specs.Structures.{Closed}
 use Rattle.bisimulation.specs.Finite.{Finite, structure, next}
-use Rattle.bisimulation.specs.Laws.Leads.{reps-own}
+use Rattle.bisimulation.proofs.Laws.Leads.{reps-own}
 use native.Mathlib.Omega.{arith}
 use mathlib.Core.Path.{◌≡◌, refl, sym, ◌∙◌, ap}
 use mathlib.Core.Bool.{true}
