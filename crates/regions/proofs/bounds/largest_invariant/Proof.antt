@@ -6,7 +6,7 @@ use lib.ListN.{drop}
 use Rattle.table.specs.Model.{Model}
 use Rattle.table.specs.Access.{no_invariant}
 use Rattle.table.specs.Reads.{Reads}
-use Rattle.table.specs.Laws.Reads.{counts-read}
+use Rattle.table.proofs.Laws.Reads.{counts-read}
 use Rattle.regions.specs.Graph.{largest_of, constant_of}
 use Rattle.regions.specs.Laws.Every.{largest-on, largest-over}
 use Rattle.table.specs.declared.model.Invariant.{Invariant}

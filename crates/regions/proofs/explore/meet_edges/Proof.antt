@@ -10,7 +10,7 @@ use Rattle.table.specs.Model.{Model}
 use Rattle.table.specs.Access.{no_edge}
 use Rattle.table.specs.Reading.{read_table, accepted}
 use Rattle.table.specs.Reads.{ReadsEdge, edge_of}
-use Rattle.table.specs.Laws.Reads.{counts-read}
+use Rattle.table.proofs.Laws.Reads.{counts-read}
 use Rattle.regions.specs.Edges.{Placed, Linked, link_from, link_here, link-other, link-past}
 use Rattle.regions.specs.Limits.{Limited}
 use Rattle.regions.specs.Marks.{Tested, Visited, tested-none, visited-none}

@@ -5,7 +5,7 @@ use mathlib.Core.Path.{◌≡◌, refl, sym, ◌∙◌, ap, subst}
 use lib.ListN.{length, take, replicate, length-replicate}
 use Rattle.table.specs.Model.{Model}
 use Rattle.table.specs.Reads.{Reads}
-use Rattle.table.specs.Laws.Reads.{counts-read, sound-read}
+use Rattle.table.proofs.Laws.Reads.{counts-read, sound-read}
 use Rattle.regions.specs.Limits.{no_limit, Holding, holding-none, holding-next, holding-all, stored-as-long, limit_place, limit_in, limit_by}
 use borrow.Author.Rules.{rules}
 use Rattle.regions.proofs.limits.list_limits.Statement.{statement}
