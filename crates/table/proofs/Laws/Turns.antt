@@ -1,5 +1,5 @@
 -- Laws for the loop that reads a table: what each turn of it does to the run, and that its numbers stay small.
-use Rattle.std.specs.Prelude.{ℕ, zero, suc, ◌+◌, ◌-◌, ◌*◌, ◌≤◌, ◌<◌, ◌≡◌, refl, List, length}
+use Rattle.std.specs.Prelude.{ℕ, zero, suc, ◌+◌, ◌-◌, ◌≤◌, ◌<◌, ◌≡◌, refl, List, length}
 use Rattle.std.proofs.Math.Nat.{sub-zero}
 use Rattle.std.proofs.Common.{sym, ◌∙◌, arith, ne_eqb, le-ltb, lt-ltb}
 use Rattle.std.proofs.Math.Path.{ap}
