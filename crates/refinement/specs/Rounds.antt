@@ -2,7 +2,7 @@
 use Rattle.std.specs.Prelude.{ℕ, ◌+◌, ◌≤◌, ◌<◌, ◌≡◌, List, ◌↔◌, length, get_or}
 use Rattle.bisimulation.specs.Finite.{Finite, related, block_of, leaders, blocks, rounds, last_blocks}
 use Rattle.bisimulation.specs.Below.{AgreeBelow}
-use Rattle.bisimulation.proofs.Laws.Blocks.{Beyond}
+use Rattle.bisimulation.specs.Laws.Blocks.{Beyond}
 use Rattle.graph.specs.Readers.{label_of}
 use Rattle.signatures.specs.Steps.{name_of}
 use Rattle.signatures.specs.Structure.{structure_of}

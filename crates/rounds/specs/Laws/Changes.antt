@@ -9,7 +9,8 @@ use Rattle.bisimulation.specs.Structures.{Branch, Closed}
 use Rattle.bisimulation.specs.Finite.{Finite, structure, related, sum, any_of, next}
 use Rattle.bisimulation.proofs.Laws.Tests.{both, same?}
 use Rattle.bisimulation.proofs.Laws.Matches.{next-iff}
-use Rattle.bisimulation.proofs.Laws.Blocks.{Successor, delayed, landed, Beyond, matched-kept, successor-item}
+use Rattle.bisimulation.specs.Laws.Blocks.{Successor, delayed, landed, Beyond}
+use Rattle.bisimulation.proofs.Laws.Blocks.{matched-kept, successor-item}
 use Rattle.comparison.specs.Held.{Held, mask_room, most_items, chain, is_open}
 use Rattle.comparison.specs.Held.{action_at, whole_at, count_at, weight_at, mask_at, target_at, branches_from}
 use Rattle.comparison.specs.Laws.Steps.{each_none, each_on, each_over}

@@ -15,7 +15,8 @@ use Rattle.bisimulation.proofs.Laws.Tests.{clash, fails, same?, same_test, and-i
 use Rattle.bisimulation.proofs.Laws.Rounds.{matched-agree}
 use Rattle.bisimulation.proofs.Laws.Leads.{related-equivalence, reps-own}
 use Rattle.bisimulation.specs.Below.{EquivalenceBelow, AgreeBelow, Reps}
-use Rattle.bisimulation.proofs.Laws.Leads.{lead_low, lead-lowest, lead-related, lead-of, lead-iff, lead-lead, lead-found, lead-none, lead-agree, leaders-agree}
+use Rattle.bisimulation.proofs.Laws.Leads.{lead_low, lead-lowest, lead-related, lead-of, lead-iff, lead-lead, lead-found, lead-none}
+use Rattle.bisimulation.proofs.Laws.Leads.{lead-agree, leaders-agree}
 use Rattle.bisimulation.proofs.Laws.Leads.{block_new, block-old, blocks-by-at, blocks-by-length, leader-finer, lead-first}
 use Rattle.bisimulation.proofs.Laws.Blocks.{first-reps, first-agree, next-classes, next-finer, next-reps, next-count}
 use Rattle.bisimulation.proofs.Laws.Blocks.{reps-numbered, turn-stop, turn_on, count-grows, rounds-stay}
