@@ -6,7 +6,7 @@
 --   Finite         finite structures: rounds as block lists, the count of rounds, judging a proposal
 --   Below          tests that are equivalences on the numbers below n, and their leads
 --   Placings       items of a structure placed among those of a finite one
--- Laws on these stand in Laws.
+-- Laws on these stand in Laws of proofs/. Laws here says what an item leads to, which definitions of other crates cite.
 pub mod Structures
 pub mod Shares
 pub mod Bisimulations

@@ -2,8 +2,7 @@
 --   Cells      a clock as a cell; ranks and closing up; reset and delay
 --   Atoms      guard and invariant atoms on a clock
 --   Packed     a region as the code holds it, and the cells that it stands for
--- Laws on these stand in Laws.
+-- Laws on these stand in Laws of proofs/.
 pub mod Cells
 pub mod Atoms
 pub mod Packed
-pub mod Laws

@@ -11,7 +11,7 @@ use Rattle.table.specs.Model.{Model, Edge}
 use Rattle.table.specs.Sound.{Sound}
 use Rattle.table.specs.Access.{no_edge}
 use Rattle.table.specs.Reads.{edge_of}
-use Rattle.table.specs.Laws.Reads.{place-listed}
+use Rattle.table.proofs.Laws.Reads.{place-listed}
 use Rattle.regions.specs.Lists.{zeros-at}
 
 -- A list holds the places of the edges, by number.

@@ -11,7 +11,8 @@
 --   Access     what the accessors give
 --   Edges      what the edge list holds
 --   Reads      the model that a table was read as, and its edges by number
--- The theorems on these definitions, and laws for the proofs of the code, stand in Laws.
+-- The theorems on these definitions, and laws for the proofs of the code, stand in Laws of proofs/; Laws here has two definitions that
+-- contracts cite.
 pub mod Format
 pub mod Model
 pub mod Records

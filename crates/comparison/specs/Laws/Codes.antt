@@ -10,7 +10,7 @@ use Rattle.std.proofs.lemmas.List.{length-replicate}
 use borrow.Author.Tests.{eq-eqb, eqb-true, lt-ltb, le-ltb}
 use Rattle.bisimulation.specs.Structures.{Closed}
 use Rattle.bisimulation.specs.Finite.{Finite, structure, related}
-use Rattle.bisimulation.specs.Laws.Tests.{fails, and-iff, below-some, same?, same_test}
+use Rattle.bisimulation.proofs.Laws.Tests.{fails, and-iff, below-some, same?, same_test}
 use Rattle.comparison.specs.Held.{most_edges, Held, is_open, action_at, whole_at, count_at, target_at}
 use Rattle.comparison.specs.Compare.{weighed, balanced, balanced_over, delays_answered, edges_alike}
 use Rattle.comparison.specs.Compare.{answers, some_answers, edge_answered, edges_answered, answered, next_in}

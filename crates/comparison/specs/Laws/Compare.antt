@@ -13,7 +13,7 @@ use Rattle.std.proofs.lemmas.Bool.{eqb-false}
 use Rattle.bisimulation.specs.Structures.{Branch, Closed}
 use Rattle.bisimulation.specs.Finite.{Finite, structure, related, sum, all_below, some_below, any_of, all_of}
 use Rattle.bisimulation.specs.Finite.{alike, delays_match, edges_match, matches, next}
-use Rattle.bisimulation.specs.Laws.Tests.{both, clash, fails, same_test, and-iff, all-below, some_below_lem, below-some}
+use Rattle.bisimulation.proofs.Laws.Tests.{both, clash, fails, same_test, and-iff, all-below, some_below_lem, below-some}
 use Rattle.comparison.specs.Held.{most_edges, is_inside, target_of}
 use Rattle.comparison.specs.Held.{Held, most_items, chain, action_at, whole_at, count_at, weight_at, target_at, branches_from}
 use Rattle.comparison.specs.Compare.{number_of, Below, reaches_related, reaches_number, all_marked}

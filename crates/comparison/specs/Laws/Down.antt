@@ -5,7 +5,7 @@ use Rattle.std.specs.Prelude.{◌≡◌, Bool, true, false, ltb}
 use Rattle.std.proofs.Math.Path.{refl, ap}
 use Rattle.std.proofs.Common.{sym, ◌∙◌, subst, inl, inr, ltb-true, ltb-false}
 use Rattle.bisimulation.specs.Finite.{all_below, some_below}
-use Rattle.bisimulation.specs.Laws.Tests.{both, clash, fails, same?, all-below, some_below_lem}
+use Rattle.bisimulation.proofs.Laws.Tests.{both, clash, fails, same?, all-below, some_below_lem}
 use Rattle.comparison.specs.Held.{open_below}
 use Rattle.comparison.specs.Keys.{sum_below}
 use Rattle.comparison.specs.Laws.Open.{open-yes, open_no, open_at, sum-open}

@@ -8,7 +8,7 @@ use mathlib.Core.List.{List, [], ◌∷◌, Memᴰ}
 use Rattle.std.proofs.Math.Logic.{inl, inr}
 use Rattle.std.proofs.Math.Dec.{eqb}
 use Rattle.bisimulation.specs.Finite.{related, sum, any_of}
-use Rattle.bisimulation.specs.Laws.Tests.{both}
+use Rattle.bisimulation.proofs.Laws.Tests.{both}
 use Rattle.comparison.specs.Held.{most_items, chain, is_open, action_at, whole_at, count_at, target_at, branches_from}
 use Rattle.comparison.specs.Compare.{weighed}
 use Rattle.comparison.specs.Keys.{scatter, delay_room, delay_mark, is_reached, delay_key, joined, code_of, landed, is_new}

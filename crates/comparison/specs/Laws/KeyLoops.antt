@@ -8,7 +8,7 @@ use Rattle.std.proofs.Math.Bool.{cond, not}
 use Rattle.std.proofs.Math.Dec.{eqb}
 use Rattle.std.proofs.Math.Seq.{set_out}
 use Rattle.bisimulation.specs.Finite.{some_below, any_of}
-use Rattle.bisimulation.specs.Laws.Tests.{both, fails, same?, and-iff}
+use Rattle.bisimulation.proofs.Laws.Tests.{both, fails, same?, and-iff}
 use Rattle.comparison.specs.Held.{most_items, chain, open_below, is_open}
 use Rattle.comparison.specs.Keys.{sum_below, scatter, delay_room, delay_mark, is_reached, delay_key, code_of, is_new, key_of}
 use Rattle.comparison.specs.Keys.{Known, AskedFor, BothAsked, Coded}

@@ -3,7 +3,7 @@ use Rattle.std.specs.Prelude.{ℕ, ◌<◌, ◌≡◌, true, false, List}
 use Rattle.std.proofs.Common.{sym, ◌∙◌}
 use Rattle.bisimulation.specs.Structures.{Closed}
 use Rattle.bisimulation.specs.Finite.{Finite, structure, next}
-use Rattle.bisimulation.specs.Laws.Tests.{fails}
+use Rattle.bisimulation.proofs.Laws.Tests.{fails}
 use Rattle.comparison.specs.Held.{Held}
 use Rattle.comparison.specs.Compare.{next_in}
 use Rattle.comparison.specs.Keys.{key_of, Known, Keyed}

@@ -10,8 +10,8 @@ use Rattle.std.proofs.Math.Dec.{eqb}
 use borrow.Author.Tests.{eq-eqb, ne_eqb, eqb-true, not-true, not-false}
 use Rattle.bisimulation.specs.Structures.{Branch, Closed}
 use Rattle.bisimulation.specs.Finite.{Finite, structure, related, sum, some_below, any_of, all_of, next, matches}
-use Rattle.bisimulation.specs.Laws.Tests.{both, clash, fails, same?, same_test, and-iff, cond-iff}
-use Rattle.bisimulation.specs.Laws.Tests.{all-below, some_below_lem, below-some, all-of, any-of, of-any}
+use Rattle.bisimulation.proofs.Laws.Tests.{both, clash, fails, same?, same_test, and-iff, cond-iff}
+use Rattle.bisimulation.proofs.Laws.Tests.{all-below, some_below_lem, below-some, all-of, any-of, of-any}
 use Rattle.comparison.specs.Held.{Held, most_items, chain, action_at, whole_at, count_at, target_at, branches_from}
 use Rattle.comparison.specs.Compare.{reaches_related, delays_answered, weighed, balanced, balanced_over, edges_alike, number_of}
 use Rattle.comparison.specs.Held.{is_open}

@@ -6,7 +6,7 @@ use Rattle.std.specs.Prelude.{◌≡◌, Bool, true, false, ◌&&◌, ◌⊎◌,
 use Rattle.std.proofs.Math.Path.{refl, ap}
 use Rattle.std.proofs.Math.Bool.{cond}
 use Rattle.std.proofs.Math.Logic.{inl, inr}
-use Rattle.bisimulation.specs.Laws.Tests.{both, clash, and-iff}
+use Rattle.bisimulation.proofs.Laws.Tests.{both, clash, and-iff}
 use Rattle.comparison.specs.Held.{flag_room, most_items, most_edges, open_below, is_open, Opened, told_at, open_edge}
 use Rattle.comparison.specs.Keys.{sum_below}
 

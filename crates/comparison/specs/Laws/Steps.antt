@@ -1,7 +1,7 @@
 -- Small steps that the laws and proofs of loops share.
 use Rattle.std.specs.Prelude.{ℕ, zero, suc, ◌+◌, ◌≤◌, ◌<◌, ◌≡◌, refl, Bool, true, false, cond, List, ◌⊎◌, length, get_or, set, replicate}
 use Rattle.std.proofs.Common.{arith, sym, ◌∙◌, ap, subst, inl, inr, length-set, get_or-set_same, get_or-set_other}
-use Rattle.bisimulation.specs.Laws.Tests.{same?}
+use Rattle.bisimulation.proofs.Laws.Tests.{same?}
 
 -- One turn of a loop: x is below i + 1 where it is below i, or is i.
 pub below_one : {x i : ℕ} → x < i + 1 → (x ≡ i) ⊎ (x < i)

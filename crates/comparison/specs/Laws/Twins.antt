@@ -6,7 +6,7 @@ use Rattle.std.proofs.Math.Bool.{Bool}
 use mathlib.Core.List.{List, [], Memᴰ}
 use borrow.Author.Tests.{eq-eqb, eqb-true, ltb-true}
 use Rattle.bisimulation.specs.Finite.{related, sum, all_below}
-use Rattle.bisimulation.specs.Laws.Tests.{and-iff, all-below, all-of, any-of, of-any}
+use Rattle.bisimulation.proofs.Laws.Tests.{and-iff, all-below, all-of, any-of, of-any}
 use Rattle.comparison.specs.Held.{row_room, chain, Onward, open_below, is_open, action_at}
 use Rattle.comparison.specs.Held.{whole_at, count_at, weight_at, target_at, branches_from}
 use Rattle.comparison.specs.Compare.{reaches_related, delays_answered, weighed, balanced, balanced_over, edges_alike}

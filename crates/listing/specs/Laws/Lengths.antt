@@ -12,7 +12,7 @@ use Rattle.listing.specs.Slices.{row_room, branches_from, step_at, step_text_at}
 use Rattle.text.specs.Laws.Texts.{each_append, each_map, each-upto, each-upto-list}
 use Rattle.text.specs.Laws.Lengths.{Fits, decimal-length, fits_word, fits-less, fits-then, fits-upto, long-field, half-field, block-field}
 use Rattle.text.specs.Laws.Lengths.{byte-field}
-use Rattle.rounding.specs.Laws.Rounding.{rounded-most}
+use Rattle.rounding.proofs.Laws.Rounding.{rounded-most}
 
 -- ---- The lines of numbers, and a region's
 

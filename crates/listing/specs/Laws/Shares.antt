@@ -12,7 +12,7 @@ use Rattle.partition.specs.Left.{Left}
 use Rattle.text.specs.Text.{colon, decimal, field, rising}
 use Rattle.rounding.specs.Rounding.{Rounded, ten_thousandths}
 use Rattle.listing.specs.Printed.{ShareRecord, is_among, targets_of, weight_into, share_field, shares_of}
-use Rattle.rounding.specs.Laws.Rounding.{rounded-iff}
+use Rattle.rounding.proofs.Laws.Rounding.{rounded-iff}
 use Rattle.text.specs.Laws.Texts.{rising-there, rising-is}
 use Rattle.listing.specs.Laws.Sense.{block-below, targets-inside, wholes-some}
 

@@ -17,9 +17,9 @@ use Rattle.states.specs.Alike.{region_in}
 use Rattle.bisimulation.specs.Structures.{Closed}
 use Rattle.bisimulation.specs.Bisimulations.{Bisimulation}
 use Rattle.bisimulation.specs.Finite.{structure, related, rounds, last_blocks, accepts}
-use Rattle.bisimulation.specs.Laws.Blocks.{last-rests, last-bisimulation, last-coarsest}
-use Rattle.bisimulation.specs.Laws.Judging.{judged-iff}
-use Rattle.bisimulation.specs.Laws.Transfer.{transfer-related, transfer-parted}
+use Rattle.bisimulation.proofs.Laws.Blocks.{last-rests, last-bisimulation, last-coarsest}
+use Rattle.bisimulation.proofs.Laws.Judging.{judged-iff}
+use Rattle.bisimulation.proofs.Laws.Transfer.{transfer-related, transfer-parted}
 use Rattle.partition.specs.Instances.{graph, states, place_in, block_in}
 use Rattle.partition.specs.Laws.Instances.{states-closed, states-respect}
 use Rattle.partition.specs.Laws.Instances.{call-closed, call-placing, call-placed, one_block}

@@ -16,7 +16,7 @@ use Rattle.regions.specs.Laws.Numbers.{answers-n}
 use Rattle.regions.specs.declared.call.Graph.{Graph}
 use Rattle.regions.specs.declared.call.Graph.TheVariants as G
 use Rattle.bisimulation.specs.Finite.{related, last_blocks, rounds, block_count, accepts}
-use Rattle.bisimulation.specs.Laws.Blocks.{blocks-length}
+use Rattle.bisimulation.proofs.Laws.Blocks.{blocks-length}
 use Rattle.partition.specs.Instances.{graph}
 use Rattle.comparison.specs.Held.{Held}
 use Rattle.partition.specs.Laws.Shown.{whole-held}

@@ -22,7 +22,7 @@ use Rattle.states.specs.Laws.RegionTheorem.{edge-there, edge-sum, edge-positive,
 use Rattle.bisimulation.specs.Structures.{Branch, Closed, total}
 use Rattle.bisimulation.specs.Bisimulations.{Round}
 use Rattle.bisimulation.specs.Finite.{structure, rounds}
-use Rattle.bisimulation.specs.Laws.Blocks.{last-round}
+use Rattle.bisimulation.proofs.Laws.Blocks.{last-round}
 use Rattle.bisimulation.specs.Placings.{SameBranches, none, also, Respects, Placing, placed_branch}
 use Rattle.partition.specs.Instances.{region_of, lands_at, graph, leads_to, states, place_in, block_in}
 use Rattle.partition.specs.Laws.Delays.{from-map, numbered-reached, delays-are}

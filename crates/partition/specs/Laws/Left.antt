@@ -17,8 +17,8 @@ use Rattle.regions.specs.Laws.Call.{whole-graph}
 use Rattle.regions.specs.Laws.Numbers.{refused-number}
 use Rattle.bisimulation.specs.Structures.{Branch, Closed}
 use Rattle.bisimulation.specs.Finite.{Finite, structure, related, blocks, rounds, last_blocks, block_count}
-use Rattle.bisimulation.specs.Laws.Blocks.{blocks-length, blocks-range, blocks-taken, count-some, last-bisimulation}
-use Rattle.bisimulation.specs.Laws.Leads.{leaders-most}
+use Rattle.bisimulation.proofs.Laws.Blocks.{blocks-length, blocks-range, blocks-taken, count-some, last-bisimulation}
+use Rattle.bisimulation.proofs.Laws.Leads.{leaders-most}
 use Rattle.partition.specs.Instances.{graph}
 use Rattle.partition.specs.Calls.{from_outcome, after_graph, is_short, blocks_of, reduce_of, list_after}
 use Rattle.partition.specs.Promises.{Reduced}

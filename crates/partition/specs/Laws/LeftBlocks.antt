@@ -7,8 +7,8 @@ use Rattle.std.proofs.Common.{arith, sym, ◌∙◌, ap, subst, get_or-take, eqb
 use Rattle.bisimulation.specs.Structures.{Structure, Closed}
 use Rattle.bisimulation.specs.Bisimulations.{Bisimulation, Round}
 use Rattle.bisimulation.specs.Finite.{Finite, structure, related, rounds, last_blocks}
-use Rattle.bisimulation.specs.Laws.Rounds.{bisimulation-agree}
-use Rattle.bisimulation.specs.Laws.Blocks.{blocks-before, last-round, last-rests, last-first, rounds-few, last-bisimulation, last-coarsest}
+use Rattle.bisimulation.proofs.Laws.Rounds.{bisimulation-agree}
+use Rattle.bisimulation.proofs.Laws.Blocks.{blocks-before, last-round, last-rests, last-first, rounds-few, last-bisimulation, last-coarsest}
 use Rattle.partition.specs.Instances.{graph}
 use Rattle.partition.specs.Left.{Left}
 use Rattle.partition.specs.Laws.Left.{left-closed, left_at, left_below, left-taken}

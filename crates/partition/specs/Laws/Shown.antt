@@ -17,7 +17,7 @@ use Rattle.regions.specs.Laws.Shown.{few-edges}
 use Rattle.regions.specs.Laws.View.{number_at, delay-number}
 use Rattle.regions.specs.Laws.Worklist.{member}
 use Rattle.bisimulation.specs.Structures.{Branch}
-use Rattle.bisimulation.specs.Laws.Tests.{both}
+use Rattle.bisimulation.proofs.Laws.Tests.{both}
 use Rattle.partition.specs.Instances.{region_of, delays_from, lands_at, graph}
 use Rattle.comparison.specs.Held.{Held, flag_room, chain, Onward, open_below, is_open, Opened, weight_at, target_at, branches_from}
 use Rattle.comparison.specs.Laws.Open.{open-yes, open_no, open-most, open-agree}

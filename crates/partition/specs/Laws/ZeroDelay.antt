@@ -15,8 +15,8 @@ use Rattle.states.specs.Laws.States.{same_refl, same-sym, same-trans}
 use Rattle.bisimulation.specs.Structures.{Closed}
 use Rattle.bisimulation.specs.Bisimulations.{Bisimulation}
 use Rattle.bisimulation.specs.Finite.{structure, rounds}
-use Rattle.bisimulation.specs.Laws.Blocks.{last-rests}
-use Rattle.bisimulation.specs.Laws.Transfer.{transfer-related, transfer-parted}
+use Rattle.bisimulation.proofs.Laws.Blocks.{last-rests}
+use Rattle.bisimulation.proofs.Laws.Transfer.{transfer-related, transfer-parted}
 use Rattle.bisimulation.specs.Placings.{Respects, Placing}
 use Rattle.partition.specs.Instances.{graph, states, states_zero, place_in, block_in}
 use Rattle.partition.specs.Laws.Delays.{delays-are, numbered-reached}

@@ -11,7 +11,7 @@ use mathlib.Core.List.Memᴰ
 use mathlib.Core.List.{List, [], ◌∷◌, map, Memᴰ}
 use Rattle.std.proofs.Math.ListN.{get_or}
 use Rattle.std.proofs.lemmas.Bool.{eqb-false}
-use Rattle.table.specs.Laws.Models.{sound}
+use Rattle.table.proofs.Laws.Models.{sound}
 use Rattle.table.specs.Model.{Model, Edge, reset_in}
 use Rattle.table.specs.Reading.{accepted, read_table}
 use Rattle.table.specs.declared.model.Branch.{Branch}
@@ -25,7 +25,7 @@ use Rattle.regions.specs.Explore.{both_true}
 use Rattle.regions.specs.Laws.Bounds.{constants-small}
 use Rattle.clocks.specs.Cells.{Proper, NoGap}
 use Rattle.regions.specs.Formed.{Small, Formed}
-use Rattle.clocks.specs.Laws.Cells.{reset-proper, delay-proper, reset-no-gap, delay-no-gap, delay-cases, gives-own, has}
+use Rattle.clocks.proofs.Laws.Cells.{reset-proper, delay-proper, reset-no-gap, delay-no-gap, delay-cases, gives-own, has}
 use Rattle.regions.specs.Laws.Worklist.{no_more}
 use Rattle.regions.specs.Worklist.{Different}
 use Rattle.regions.specs.Laws.Call.{false-true, gathered, kept}

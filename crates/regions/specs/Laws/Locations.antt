@@ -5,7 +5,7 @@ use Rattle.std.proofs.Common.{sym, ◌∙◌}
 use Rattle.std.proofs.Math.Path.{ap, subst}
 use mathlib.Core.List.Memᴰ
 use mathlib.Core.List.{List, [], ◌∷◌, Memᴰ}
-use Rattle.table.specs.Laws.Models.{sound}
+use Rattle.table.proofs.Laws.Models.{sound}
 use Rattle.table.specs.Model.{Model, Edge}
 use Rattle.table.specs.Reading.{accepted, read_table}
 use Rattle.table.specs.Sound.{Sound}

@@ -2,7 +2,7 @@
 -- no room, and an answer tells its outcome.
 use Rattle.std.specs.Prelude.{ℕ, ◌≤◌, ◌↔◌, ◌≡◌, refl, List, length}
 use Rattle.std.proofs.Common.{arith, inl, inr, ◌∙◌, ap}
-use Rattle.table.specs.Laws.Numbers.{refusal-numbers}
+use Rattle.table.proofs.Laws.Numbers.{refusal-numbers}
 use Rattle.regions.specs.Call.{Outcome, refused, cut, whole, outcome_of, graph_of}
 use Rattle.regions.specs.Laws.Call.{refused-graph}
 use Rattle.regions.specs.declared.call.Graph.TheVariants.{Refused, Regions}

@@ -9,8 +9,8 @@ use Rattle.table.specs.Written.{Bytes}
 use Rattle.table.specs.Reading.{read_table, accepted}
 use Rattle.table.specs.Reads.{edge_of}
 use Rattle.table.specs.Access.{no_branch, no_edge}
-use Rattle.table.specs.Laws.Models.{sound}
-use Rattle.table.specs.Laws.Sized.{byte-sized}
+use Rattle.table.proofs.Laws.Models.{sound}
+use Rattle.table.proofs.Laws.Sized.{byte-sized}
 use Rattle.table.specs.declared.model.Branch.{Branch}
 use Rattle.table.specs.declared.model.Shape.{Shape}
 use Rattle.regions.specs.Filling.{Before, three_set, Fitting, RowTo, RowsTo}

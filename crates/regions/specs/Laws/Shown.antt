@@ -8,7 +8,7 @@ use Rattle.table.specs.Written.{Bytes}
 use Rattle.table.specs.Reading.{read_table, accepted}
 use Rattle.table.specs.Reads.{edge_of}
 use Rattle.table.specs.Access.{no_branch, no_edge}
-use Rattle.table.specs.Laws.Models.{sound}
+use Rattle.table.proofs.Laws.Models.{sound}
 use Rattle.regions.specs.Entries.{entry_bytes, max_entries, region_at}
 use Rattle.clocks.specs.Packed.{after_reset}
 use Rattle.regions.specs.Graph.{bounds_of, landing, available, first}

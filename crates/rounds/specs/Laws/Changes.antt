@@ -7,9 +7,10 @@ use Rattle.std.proofs.Math.Logic.{⊎_swap}
 use Rattle.std.proofs.Math.Seq.{set_out}
 use Rattle.bisimulation.specs.Structures.{Branch, Closed}
 use Rattle.bisimulation.specs.Finite.{Finite, structure, related, next}
-use Rattle.bisimulation.specs.Laws.Tests.{both, same?}
-use Rattle.bisimulation.specs.Laws.Matches.{next-iff}
-use Rattle.bisimulation.specs.Laws.Blocks.{Successor, delayed, landed, Beyond, matched-kept, successor-item}
+use Rattle.bisimulation.proofs.Laws.Tests.{both, same?}
+use Rattle.bisimulation.proofs.Laws.Matches.{next-iff}
+use Rattle.bisimulation.specs.Laws.Blocks.{Successor, delayed, landed, Beyond}
+use Rattle.bisimulation.proofs.Laws.Blocks.{matched-kept, successor-item}
 use Rattle.comparison.specs.Held.{Held, mask_room, most_items, chain, is_open}
 use Rattle.comparison.specs.Held.{count_at, weight_at, mask_at, target_at, branches_from}
 use Rattle.comparison.specs.Laws.Steps.{each_on}

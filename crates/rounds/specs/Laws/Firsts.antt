@@ -5,8 +5,8 @@ use Rattle.std.proofs.Common.{arith, add-one, sym, ◌∙◌, ap, inl, inr, leng
 use Rattle.std.proofs.Common.{get_or-set_other, eq-eqb, eqb-true, ltb-true, ltb-false}
 use Rattle.std.proofs.lemmas.List.{length-replicate, get_or-replicate}
 use Rattle.bisimulation.specs.Finite.{related, lead}
-use Rattle.bisimulation.specs.Laws.Tests.{clash, both, same?, and-iff, fails}
-use Rattle.bisimulation.specs.Laws.Leads.{related-equivalence, lead_low, lead-lowest, lead-lead, lead-found, lead-related}
+use Rattle.bisimulation.proofs.Laws.Tests.{clash, both, same?, and-iff, fails}
+use Rattle.bisimulation.proofs.Laws.Leads.{related-equivalence, lead_low, lead-lowest, lead-lead, lead-found, lead-related}
 use Rattle.comparison.specs.Held.{most_items, open_below}
 use Rattle.rounds.specs.Firsts.{bucket_prime, bucket_at, is_first_in, Indexed, Looking}
 use Rattle.comparison.specs.Laws.Open.{open_none, open-yes, open_no, open-most, open_at}

@@ -3,10 +3,10 @@ use Rattle.std.specs.Prelude.{ℕ, zero, suc, ◌+◌, ◌-◌, ◌%◌, ◌≤�
 use Rattle.std.specs.Prelude.{false, List, ◌⊎◌, eqb, length, get_or, set, replicate}
 use Rattle.std.proofs.Common.{arith, sym, ◌∙◌, ap, ap₂, inl, inr, get_or-set_same, get_or-set_other, eq-eqb, ne_eqb, eqb-true}
 use Rattle.bisimulation.specs.Finite.{related, lead}
-use Rattle.bisimulation.specs.Laws.Tests.{clash, fails, same?, same_test}
-use Rattle.bisimulation.specs.Laws.Leads.{related-equivalence, reps-own, reps-agree}
+use Rattle.bisimulation.proofs.Laws.Tests.{clash, fails, same?, same_test}
+use Rattle.bisimulation.proofs.Laws.Leads.{related-equivalence, reps-own, reps-agree}
 use Rattle.bisimulation.specs.Below.{EquivalenceBelow, FinerBelow, Reps}
-use Rattle.bisimulation.specs.Laws.Leads.{lead_low, lead-lowest, lead-of, lead-found}
+use Rattle.bisimulation.proofs.Laws.Leads.{lead_low, lead-lowest, lead-of, lead-found}
 use Rattle.rounds.specs.Changes.{Settled}
 use Rattle.rounds.specs.Rounds.{Anchored, joined_by, join_mark, MarkedTo, Sorted}
 use Rattle.comparison.specs.Laws.Steps.{below_one, cond_yes, cond_no}

@@ -2,8 +2,8 @@
 use Rattle.std.specs.Prelude.{ℕ, ◌+◌, ◌≤◌, ◌<◌, ◌≡◌, refl, Bool, List, ◌⊎◌, length, get_or, set}
 use Rattle.std.proofs.Common.{arith, sym, ◌∙◌, ap, subst, inl, inr, length-set, get_or-set_same, get_or-set_other, eq-eqb, eqb-true}
 use Rattle.bisimulation.specs.Finite.{related, lead}
-use Rattle.bisimulation.specs.Laws.Tests.{same?, same_test}
-use Rattle.bisimulation.specs.Laws.Leads.{related-equivalence, lead_low, lead-lead, leader-finer}
+use Rattle.bisimulation.proofs.Laws.Tests.{same?, same_test}
+use Rattle.bisimulation.proofs.Laws.Leads.{related-equivalence, lead_low, lead-lead, leader-finer}
 use Rattle.bisimulation.specs.Below.{AgreeBelow, Reps}
 use Rattle.rounds.specs.Names.{Tagged, Named, LeadersKept, Reached, TaggedIn, swapped, RenamedTo}
 use Rattle.rounds.specs.Rounds.{Step}

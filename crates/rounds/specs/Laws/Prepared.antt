@@ -4,10 +4,10 @@ use Rattle.std.proofs.Common.{arith, sym, ◌∙◌, subst, inl, inr, eqb-true}
 use Rattle.std.proofs.Math.Logic.{⊎_map}
 use Rattle.bisimulation.specs.Structures.{Closed}
 use Rattle.bisimulation.specs.Finite.{Finite, structure, related, next}
-use Rattle.bisimulation.specs.Laws.Leads.{reps-agree, lead-agree, leaders-agree}
+use Rattle.bisimulation.proofs.Laws.Leads.{reps-agree, lead-agree, leaders-agree}
 use Rattle.bisimulation.specs.Below.{AgreeBelow, Reps}
-use Rattle.bisimulation.specs.Laws.Blocks.{next_agree}
-use Rattle.bisimulation.specs.Laws.Tests.{both}
+use Rattle.bisimulation.proofs.Laws.Blocks.{next_agree}
+use Rattle.bisimulation.proofs.Laws.Tests.{both}
 use Rattle.comparison.specs.Held.{Held}
 use Rattle.comparison.specs.Keys.{key_of}
 use Rattle.rounds.specs.Names.{Named, Changed}

@@ -12,17 +12,17 @@ use Rattle.std.proofs.Math.Seq.{set_out}
 use Rattle.bisimulation.specs.Structures.{Closed}
 use Rattle.bisimulation.specs.Finite.{Finite, structure, related, matches, next, lead, leaders, block_of, blocks_by, blocks, rounds}
 use Rattle.bisimulation.specs.Finite.{last_blocks, block_count, accepts, all_below}
-use Rattle.bisimulation.specs.Laws.Tests.{clash, fails, same?, same_test, and-iff, eqb-iff}
-use Rattle.bisimulation.specs.Laws.Rounds.{matched-agree}
-use Rattle.bisimulation.specs.Laws.Leads.{related-equivalence, reps-own}
+use Rattle.bisimulation.proofs.Laws.Tests.{clash, fails, same?, same_test, and-iff, eqb-iff}
+use Rattle.bisimulation.proofs.Laws.Rounds.{matched-agree}
+use Rattle.bisimulation.proofs.Laws.Leads.{related-equivalence, reps-own}
 use Rattle.bisimulation.specs.Below.{EquivalenceBelow, AgreeBelow, Reps}
-use Rattle.bisimulation.specs.Laws.Leads.{lead_low, lead-lowest, lead-related, lead-of, lead-iff, lead-lead}
-use Rattle.bisimulation.specs.Laws.Leads.{lead-found, lead-none, lead-agree, leaders-agree}
-use Rattle.bisimulation.specs.Laws.Leads.{block_new, block-old, blocks-by-at, blocks-by-length, leader-finer, lead-first}
-use Rattle.bisimulation.specs.Laws.Blocks.{first-reps, first-agree, next-classes, next-finer, next-reps, next-count}
-use Rattle.bisimulation.specs.Laws.Blocks.{reps-numbered, turn-stop, turn_on, count-grows, rounds-stay}
-use Rattle.bisimulation.specs.Laws.Matches.{Related, matches-iff}
-use Rattle.bisimulation.specs.Laws.Judging.{WithFirst, judged-first}
+use Rattle.bisimulation.proofs.Laws.Leads.{lead_low, lead-lowest, lead-related, lead-of, lead-iff, lead-lead}
+use Rattle.bisimulation.proofs.Laws.Leads.{lead-found, lead-none, lead-agree, leaders-agree}
+use Rattle.bisimulation.proofs.Laws.Leads.{block_new, block-old, blocks-by-at, blocks-by-length, leader-finer, lead-first}
+use Rattle.bisimulation.proofs.Laws.Blocks.{first-reps, first-agree, next-classes, next-finer, next-reps, next-count}
+use Rattle.bisimulation.proofs.Laws.Blocks.{reps-numbered, turn-stop, turn_on, count-grows, rounds-stay}
+use Rattle.bisimulation.proofs.Laws.Matches.{Related, matches-iff}
+use Rattle.bisimulation.proofs.Laws.Judging.{WithFirst, judged-first}
 use Rattle.comparison.specs.Held.{most_items}
 use Rattle.comparison.specs.Compare.{Below}
 use Rattle.comparison.specs.Laws.Compare.{all-agree}

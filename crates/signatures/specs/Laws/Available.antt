@@ -6,10 +6,10 @@ use Rattle.std.specs.Prelude.{◌≡◌, Bool, true, false, cond, ◌&&◌, ◌�
 use Rattle.std.proofs.Math.Path.{refl, ap, subst}
 use mathlib.Core.List.{List, [], ◌∷◌, Memᴰ}
 use Rattle.graph.specs.Readers.{edge_count, branch_count, denominator_of, class_of, location_of, is_available}
-use Rattle.graph.specs.Laws.Bounds.{edges_few, branches-few}
+use Rattle.graph.proofs.Laws.Bounds.{edges_few, branches-few}
 use Rattle.bisimulation.specs.Structures.{Branch}
 use Rattle.bisimulation.specs.Finite.{Finite}
-use Rattle.bisimulation.specs.Laws.Tests.{both}
+use Rattle.bisimulation.proofs.Laws.Tests.{both}
 use Rattle.signatures.specs.declared.dictionary.Interned.TheVariants.{Id, Full}
 use Rattle.signatures.specs.Sets.{put_in, set_of}
 use Rattle.signatures.specs.Book.{Told, Grows}

@@ -9,7 +9,7 @@ use mathlib.Core.List.{List, [], ◌∷◌, Memᴰ}
 use Rattle.std.proofs.Math.Logic.{inl, inr}
 use borrow.Author.Tests.{lt-ltb, ltb-true, ltb-false, eq-eqb, eqb-true, eqb-false}
 use Rattle.bisimulation.specs.Finite.{some_below}
-use Rattle.bisimulation.specs.Laws.Tests.{both, clash, some_below_lem, below-some}
+use Rattle.bisimulation.proofs.Laws.Tests.{both, clash, some_below_lem, below-some}
 use Rattle.graph.specs.Readers.{delay_of}
 use Rattle.signatures.specs.Steps.{name_of}
 use Rattle.signatures.specs.Signatures.{names_of}

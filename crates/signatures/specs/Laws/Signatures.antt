@@ -5,7 +5,7 @@ use mathlib.Core.List.{List, [], ◌∷◌, Memᴰ}
 use Rattle.bisimulation.specs.Structures.{Closed}
 use Rattle.bisimulation.specs.Finite.{Finite, structure, related, some_below, any_of, alike, delays_match, edges_match}
 use Rattle.bisimulation.specs.Finite.{matches, next}
-use Rattle.bisimulation.specs.Laws.Tests.{both, and-iff, eqb-iff, cond-iff, all-below, some_below_lem, below-some, all-of, any-of, of-any}
+use Rattle.bisimulation.proofs.Laws.Tests.{both, and-iff, eqb-iff, cond-iff, all-below, some_below_lem, below-some, all-of, any-of, of-any}
 use Rattle.signatures.specs.Steps.{name_of, step_of}
 use Rattle.signatures.specs.Signatures.{names_of, steps_below, steps_of, SameSignature}
 use Rattle.signatures.specs.Laws.Sets.{set_same, same_set}

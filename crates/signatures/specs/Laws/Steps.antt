@@ -9,7 +9,7 @@ use Rattle.std.proofs.Math.Dec.{eqb}
 use borrow.Author.Tests.{eqb-true, eqb-false, ne_eqb}
 use Rattle.bisimulation.specs.Structures.{Branch, total, Closed}
 use Rattle.bisimulation.specs.Finite.{Finite, structure, sum, all_below, alike}
-use Rattle.bisimulation.specs.Laws.Tests.{both, and-iff, eqb-iff, all-below}
+use Rattle.bisimulation.proofs.Laws.Tests.{both, and-iff, eqb-iff, all-below}
 use Rattle.signatures.specs.Sets.{set_of, Rising}
 use Rattle.signatures.specs.Shares.{high_share, low_share}
 use Rattle.signatures.specs.Steps.{name_of, named, target_names, mass_of, shares_over, step_list, step_of}

@@ -5,9 +5,9 @@ use Rattle.std.proofs.Common.{arith, ◌∙◌, ap, subst, inl, inr, ltb-true, n
 use Rattle.std.proofs.Math.Path.{sym}
 use Rattle.bisimulation.specs.Structures.{Closed}
 use Rattle.bisimulation.specs.Finite.{Finite, structure, next}
-use Rattle.bisimulation.specs.Laws.Tests.{both}
+use Rattle.bisimulation.proofs.Laws.Tests.{both}
 use Rattle.graph.specs.Readers.{delay_of}
-use Rattle.graph.specs.Laws.Bounds.{denominator-small}
+use Rattle.graph.proofs.Laws.Bounds.{denominator-small}
 use Rattle.signatures.specs.Sets.{set_of}
 use Rattle.signatures.specs.Steps.{name_of}
 use Rattle.signatures.specs.Signatures.{names_of, SameSignature}

@@ -13,7 +13,7 @@ use Rattle.clocks.specs.Cells.{Cell, over, at, close}
 use Rattle.clocks.specs.Packed.{over_part, cell_of, clock_of, clock_at, unpack, byte_at, pack}
 use Rattle.states.specs.States.{State}
 use Rattle.states.specs.Placing.{value_cell, state_cell, state_cells, placed}
-use Rattle.clocks.specs.Laws.Cells.{both}
+use Rattle.clocks.proofs.Laws.Cells.{both}
 use Rattle.regions.specs.Laws.Formed.{within, is_read, over-or, cell-is, cell-is-over, proper-at}
 use Rattle.regions.specs.Formed.{Small, Formed}
 use Rattle.regions.specs.Laws.Formed.{formed-rank}

@@ -19,9 +19,9 @@ use Rattle.states.specs.States.{compares}
 use Rattle.states.specs.Placing.{value_cell}
 use Rattle.clocks.specs.declared.region.Verdict.{Verdict}
 use Rattle.clocks.specs.declared.region.Verdict.TheVariants.{Unknown}
-use Rattle.clocks.specs.Laws.Cells.{both, true-false, none, one, or-true, to_map, most}
+use Rattle.clocks.proofs.Laws.Cells.{both, true-false, none, one, or-true, to_map, most}
 use Rattle.clocks.specs.Cells.{Proper, NoGap}
-use Rattle.clocks.specs.Laws.Cells.{closed-rank, close-no-gap, delay-no-gap}
+use Rattle.clocks.proofs.Laws.Cells.{closed-rank, close-no-gap, delay-no-gap}
 
 -- ---- Ranks
 

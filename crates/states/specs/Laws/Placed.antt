@@ -8,8 +8,8 @@ use Rattle.std.proofs.Math.Path.{refl, ap}
 use Rattle.std.proofs.lemmas.Bool.{eqb-false}
 use Rattle.table.specs.Model.{Model}
 use Rattle.table.specs.Reading.{Answer, refusal, accepted, read_table}
-use Rattle.table.specs.Laws.Models.{sound}
-use Rattle.table.specs.Laws.Numbers.{refusal-numbers}
+use Rattle.table.proofs.Laws.Models.{sound}
+use Rattle.table.proofs.Laws.Numbers.{refusal-numbers}
 use Rattle.regions.specs.Graph.{bounds_of, Reached}
 use Rattle.states.specs.States.{State, IsState, Same}
 use Rattle.states.specs.Placing.{placed}

@@ -6,7 +6,7 @@ use Rattle.std.specs.Prelude.{ℕ, ◌≤◌, ◌<◌, ◌↔◌, ◌≡◌, ref
 use Rattle.std.proofs.Common.{sym, ◌∙◌, subst}
 use mathlib.Core.List.{List, Memᴰ}
 use Rattle.table.specs.Access.{no_edge}
-use Rattle.table.specs.Laws.Models.{sound}
+use Rattle.table.proofs.Laws.Models.{sound}
 use Rattle.table.specs.Model.{Model, Edge, total}
 use Rattle.table.specs.Reading.{accepted, read_table}
 use Rattle.table.specs.Reads.{edge_of}

@@ -35,7 +35,7 @@ use Rattle.regions.specs.Laws.Call.{false-true, kept, gathers}
 use Rattle.regions.specs.Explore.{both_true}
 use Rattle.regions.specs.View.{label_of}
 use Rattle.regions.specs.Laws.Graph.{delay-some, edge-some}
-use Rattle.clocks.specs.Laws.Cells.{none, from-map, to_map, closed-proper, close-no-gap, both}
+use Rattle.clocks.proofs.Laws.Cells.{none, from-map, to_map, closed-proper, close-no-gap, both}
 use Rattle.clocks.specs.Cells.{Proper}
 use Rattle.regions.specs.Laws.Formed.{bound_of, cells_by, Read, within, cells-formed, cells-again}
 use Rattle.regions.specs.Formed.{Small, Formed}

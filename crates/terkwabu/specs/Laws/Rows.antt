@@ -25,7 +25,7 @@ use Rattle.states.specs.declared.states.Placing.{Placing}
 use Rattle.states.specs.declared.states.Placing.TheVariants as P
 use Rattle.bisimulation.specs.Bisimulations.{Bisimulation}
 use Rattle.bisimulation.specs.Finite.{structure, related, accepts, rounds, last_blocks, block_count}
-use Rattle.bisimulation.specs.Laws.Rounds.{bisimulation-agree}
+use Rattle.bisimulation.proofs.Laws.Rounds.{bisimulation-agree}
 use Rattle.partition.specs.Instances.{graph}
 use Rattle.partition.specs.Calls.{Accepted, from_outcome, after_graph, is_short, is_asked_past, blocks_of, numbered_in, reduce_of, list_after}
 use Rattle.partition.specs.Calls.{shared_of, pair_of, pair_list_after, judged_of, judge_of}

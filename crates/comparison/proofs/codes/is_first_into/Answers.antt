@@ -5,7 +5,7 @@ use mathlib.Core.Path.{refl, sym, ◌∙◌, ap}
 use mathlib.Core.Bool.{not}
 use borrow.Author.Tests.{eq-eqb, ne_eqb}
 use Rattle.bisimulation.specs.Finite.{related}
-use Rattle.bisimulation.specs.Laws.Tests.{below-some}
+use Rattle.bisimulation.proofs.Laws.Tests.{below-some}
 use Rattle.comparison.specs.Held.{target_at}
 use Rattle.comparison.specs.Keys.{is_first_into}
 use Rattle.comparison.specs.Laws.Compare.{some-on, some-over}

@@ -3,7 +3,7 @@ use Prim.Native.Nat.{◌+◌}
 use native.Mathlib.Omega.{arith}
 use native.Mathlib.Numerals.{add-one}
 use mathlib.Core.Path.{refl, sym, ◌∙◌}
-use Rattle.bisimulation.specs.Laws.Tests.{clash}
+use Rattle.bisimulation.proofs.Laws.Tests.{clash}
 use Rattle.comparison.specs.Held.{is_open}
 use Rattle.comparison.specs.Laws.Open.{open_at}
 use Rattle.comparison.specs.Laws.Compare.{answers-on}

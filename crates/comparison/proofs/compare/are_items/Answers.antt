@@ -2,7 +2,7 @@
 use native.Mathlib.Omega.{arith}
 use mathlib.Core.Path.{refl}
 use borrow.Author.Tests.{ltb-true, lt-ltb, le-ltb}
-use Rattle.bisimulation.specs.Laws.Tests.{clash}
+use Rattle.bisimulation.proofs.Laws.Tests.{clash}
 use Rattle.comparison.proofs.compare.are_items.Goals as goal
 
 pub returns-then-n-gt4096 : goal.returns-then-n-gt4096

@@ -1,7 +1,7 @@
 -- `is_into` meets its contract. Assumes nothing.
 use native.Mathlib.Omega.{arith}
 use mathlib.Core.Path.{refl, sym, ◌∙◌}
-use Rattle.bisimulation.specs.Laws.Tests.{clash}
+use Rattle.bisimulation.proofs.Laws.Tests.{clash}
 use Rattle.comparison.proofs.compare.is_into.Goals as goal
 
 pub loop-i-init : goal.loop-i-init

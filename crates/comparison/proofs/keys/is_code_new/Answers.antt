@@ -3,7 +3,7 @@ use Prim.Native.Nat.{◌-◌}
 use native.Mathlib.Omega.{arith}
 use mathlib.Core.Path.{sym, ◌∙◌, ap}
 use mathlib.Core.Bool.{not}
-use Rattle.bisimulation.specs.Laws.Tests.{below-some}
+use Rattle.bisimulation.proofs.Laws.Tests.{below-some}
 use Rattle.comparison.specs.Held.{is_open}
 use Rattle.comparison.specs.Laws.Down.{down-first, down-on, down-over}
 use Rattle.comparison.specs.Laws.KeyLoops.{has_code, NoCode, code-hit, code-miss, code-none}

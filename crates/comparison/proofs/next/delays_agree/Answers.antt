@@ -1,6 +1,6 @@
 -- `delays_agree` meets its contract. Assumes nothing.
 use mathlib.Core.Path.{sym, ◌∙◌}
-use Rattle.bisimulation.specs.Laws.Tests.{and-iff}
+use Rattle.bisimulation.proofs.Laws.Tests.{and-iff}
 use Rattle.comparison.specs.Compare.{delays_answered}
 use Rattle.comparison.specs.Laws.KeyLoops.{and_no, and_yes}
 use Rattle.comparison.proofs.next.delays_agree.Goals as goal

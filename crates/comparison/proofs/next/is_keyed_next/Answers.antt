@@ -1,7 +1,7 @@
 -- `is_keyed_next` meets its contract. Assumes nothing.
 use mathlib.Core.Path.{refl, sym, ◌∙◌}
 use mathlib.Core.Logic.{inl}
-use Rattle.bisimulation.specs.Laws.Tests.{clash}
+use Rattle.bisimulation.proofs.Laws.Tests.{clash}
 use Rattle.comparison.specs.Laws.KeyLoops.{known-old, asked-both}
 use Rattle.comparison.specs.Laws.Keyed.{keys-part, twins-meet, keyed-on}
 use native.Mathlib.Omega.{arith}

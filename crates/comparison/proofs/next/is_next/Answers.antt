@@ -3,7 +3,7 @@ use Prim.Native.Nat.{ℕ}
 use mathlib.Core.Path.{refl, sym, ◌∙◌}
 use lib.ListN.{length-replicate}
 use native.Mathlib.Omega.{arith}
-use Rattle.bisimulation.specs.Laws.Tests.{clash}
+use Rattle.bisimulation.proofs.Laws.Tests.{clash}
 use Rattle.comparison.specs.Laws.Compare.{next-held}
 use Rattle.comparison.specs.Laws.Codes.{answers-tell, own-none, next-fails, next-edges}
 use Rattle.comparison.proofs.next.is_next.Goals as goal

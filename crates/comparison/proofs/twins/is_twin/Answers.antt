@@ -1,6 +1,6 @@
 -- `is_twin` meets its contract. Assumes nothing.
 use mathlib.Core.Path.{refl, sym, ◌∙◌}
-use Rattle.bisimulation.specs.Laws.Tests.{clash}
+use Rattle.bisimulation.proofs.Laws.Tests.{clash}
 use Rattle.comparison.specs.Laws.Twins.{twin-next}
 use Rattle.comparison.proofs.twins.is_twin.Goals as goal
 

@@ -2,7 +2,7 @@
 use native.Mathlib.Omega.{arith}
 use mathlib.Core.Path.{refl, sym, ◌∙◌}
 use borrow.Author.Tests.{leb-true}
-use Rattle.bisimulation.specs.Laws.Tests.{clash}
+use Rattle.bisimulation.proofs.Laws.Tests.{clash}
 use Rattle.comparison.specs.Laws.Twins.{beside-start, beside-ends, beside-met, beside-over, beside-on}
 use Rattle.comparison.proofs.twins.runs_alike.Goals as goal
 

@@ -1,6 +1,6 @@
 -- `same_row` meets its contract. Assumes nothing.
 use mathlib.Core.Path.{refl}
-use Rattle.bisimulation.specs.Laws.Tests.{clash}
+use Rattle.bisimulation.proofs.Laws.Tests.{clash}
 use Rattle.comparison.specs.Laws.Twins.{row-self, row_of}
 use Rattle.comparison.proofs.twins.same_row.Goals as goal
 

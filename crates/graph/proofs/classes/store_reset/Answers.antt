@@ -5,7 +5,7 @@ use mathlib.Core.List.{List}
 use Rattle.graph.specs.Readers.{reset_class}
 use Rattle.graph.specs.Writers.{with_source}
 use Rattle.graph.specs.Columns.{store}
-use Rattle.graph.specs.Laws.Walks.{reset-known, reset-plain, reset-both}
+use Rattle.graph.proofs.Laws.Walks.{reset-known, reset-plain, reset-both}
 use Rattle.graph.proofs.classes.store_reset.Goals as goal
 
 pub returns-then-reset_class-ne-NOTHING : goal.returns-then-reset_class-ne-NOTHING

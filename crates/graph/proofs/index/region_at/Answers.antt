@@ -4,7 +4,7 @@ use Prim.Native.Nat.{◌-◌}
 use mathlib.Core.Path.{sym, ◌∙◌, ap}
 use native.Mathlib.Omega.{arith}
 use Rattle.graph.specs.Readers.{walk}
-use Rattle.graph.specs.Laws.Walks.{walk_start, walk_ends, walk_here, walk-on, walk-over}
+use Rattle.graph.proofs.Laws.Walks.{walk_start, walk_ends, walk_here, walk-on, walk-over}
 use Rattle.graph.proofs.index.region_at.Goals as goal
 
 pub loop-steps-init : goal.loop-steps-init

@@ -3,7 +3,7 @@ use Prim.Native.Nat.{◌-◌}
 use mathlib.Core.Path.{◌∙◌, ap}
 use native.Mathlib.Omega.{arith}
 use Rattle.graph.specs.Columns.{store}
-use Rattle.graph.specs.Laws.Walks.{cleared-none, cleared-length, cleared_more, cleared-all}
+use Rattle.graph.proofs.Laws.Walks.{cleared-none, cleared-length, cleared_more, cleared-all}
 use lib.ListN.{length}
 use Rattle.graph.proofs.regions.clear_available.Goals as goal
 

@@ -4,7 +4,7 @@ use native.Mathlib.Omega.{arith}
 use native.Mathlib.Nat.{mod-lt}
 use mathlib.Core.Path.{ap}
 use lib.Bits.{bit_or}
-use Rattle.graph.specs.Laws.Bits.{bit_shifted}
+use Rattle.graph.proofs.Laws.Bits.{bit_shifted}
 use Rattle.graph.proofs.regions.set_bit.Goals as goal
 
 pub returns : goal.returns

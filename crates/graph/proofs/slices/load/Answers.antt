@@ -2,7 +2,7 @@
 use native.Mathlib.Omega.{arith}
 use mathlib.Core.Path.{sym, ◌∙◌}
 use lib.ListN.{get_or-eq_default}
-use Rattle.graph.specs.Laws.Columns.{default-same}
+use Rattle.graph.proofs.Laws.Columns.{default-same}
 use Rattle.graph.proofs.slices.load.Goals as goal
 
 pub returns-then-i-graph : goal.returns-then-i-graph

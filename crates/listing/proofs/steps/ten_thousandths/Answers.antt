@@ -2,7 +2,7 @@
 use Prim.Native.Nat.{◌*◌, ◌/◌}
 use native.Mathlib.Nat.{mod-le, div-le_self}
 use native.Mathlib.Omega.{arith}
-use Rattle.rounding.specs.Laws.Rounding.{ten-thousandths-none, ten-thousandths-down, ten-thousandths-up, ten-thousandths-half}
+use Rattle.rounding.proofs.Laws.Rounding.{ten-thousandths-none, ten-thousandths-down, ten-thousandths-up, ten-thousandths-half}
 use Rattle.listing.proofs.steps.ten_thousandths.Goals as goal
 
 pub returns-then-denominator-eq0 : goal.returns-then-denominator-eq0

@@ -1,7 +1,7 @@
 -- `bounds_for` meets its contract. Assumes nothing.
 use Prim.Native.Nat.{ℕ}
 use lib.ListN.{replicate, length-replicate}
-use Rattle.table.specs.Laws.Reads.{sound-read}
+use Rattle.table.proofs.Laws.Reads.{sound-read}
 use Rattle.regions.specs.Edges.{placed-filled}
 use Rattle.regions.proofs.bounds.bounds_for.Goals as goal
 

@@ -2,7 +2,7 @@
 use Prim.Native.Nat.{ℕ, max}
 use mathlib.Core.Path.{◌∙◌, ap₂}
 use mathlib.Core.List.{[], ◌∷◌}
-use Rattle.table.specs.Laws.Reads.{counts-read}
+use Rattle.table.proofs.Laws.Reads.{counts-read}
 use Rattle.regions.specs.Graph.{bounds_of, largest_constant}
 use Rattle.regions.proofs.bounds.bounds_of.Goals as goal
 

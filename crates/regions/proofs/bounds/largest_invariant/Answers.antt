@@ -3,7 +3,7 @@ use Prim.Native.Nat.{◌-◌, max}
 use mathlib.Core.Path.{◌∙◌, ap}
 use native.Mathlib.Omega.{arith}
 use Rattle.table.specs.Access.{no_invariant}
-use Rattle.table.specs.Laws.Reads.{counts-read}
+use Rattle.table.proofs.Laws.Reads.{counts-read}
 use Rattle.regions.specs.Graph.{constant_of}
 use Rattle.regions.specs.Laws.Every.{largest-on, largest-over}
 use Rattle.table.specs.declared.model.Invariant.{Invariant}

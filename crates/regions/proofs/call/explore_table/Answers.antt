@@ -1,7 +1,7 @@
 -- `explore_table` meets its contract. Assumes nothing.
 use mathlib.Core.Path.{sym, ◌∙◌, ap}
 use lib.ListN.{length}
-use Rattle.table.specs.Laws.Reads.{refusal-of, reads_of}
+use Rattle.table.proofs.Laws.Reads.{refusal-of, reads_of}
 use Rattle.regions.specs.Call.{room_for, from_answer, outcome_of, graph_of, entries_after}
 use Rattle.regions.proofs.call.explore_table.Goals as goal
 

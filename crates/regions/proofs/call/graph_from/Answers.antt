@@ -11,7 +11,7 @@ use Rattle.regions.specs.Laws.Answered.{breaks, is_cut, is_whole}
 use Rattle.clocks.specs.declared.region.Bounds.{Bounds}
 use Rattle.clocks.specs.declared.region.Region.{Region}
 use lib.ListN.{length}
-use Rattle.table.specs.Laws.Reads.{counts-read}
+use Rattle.table.proofs.Laws.Reads.{counts-read}
 use Rattle.regions.proofs.call.graph_from.Goals as goal
 
 pub returns-then-not-meets_invariant : goal.returns-then-not-meets_invariant

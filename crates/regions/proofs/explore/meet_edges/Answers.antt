@@ -8,7 +8,7 @@ use native.Mathlib.Omega.{arith}
 use lib.ListN.{length}
 use Rattle.table.specs.Access.{no_edge}
 use Rattle.table.specs.Reads.{ReadsEdge, edge_of}
-use Rattle.table.specs.Laws.Reads.{counts-read}
+use Rattle.table.proofs.Laws.Reads.{counts-read}
 use Rattle.regions.specs.Edges.{link_from, link_here, link-other, link-past}
 use Rattle.regions.specs.Marks.{tested-none, visited-none}
 use Rattle.regions.specs.Graph.{edge_next}

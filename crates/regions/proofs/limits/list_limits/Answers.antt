@@ -3,7 +3,7 @@ use Prim.Native.Nat.{◌-◌, min}
 use native.Mathlib.Omega.{arith}
 use mathlib.Core.Path.{refl, sym, ◌∙◌, ap, subst}
 use lib.ListN.{length, take, length-replicate}
-use Rattle.table.specs.Laws.Reads.{counts-read, sound-read}
+use Rattle.table.proofs.Laws.Reads.{counts-read, sound-read}
 use Rattle.regions.specs.Limits.{no_limit, Holding, holding-none, holding-next, holding-all, stored-as-long, limit_place, limit_in, limit_by}
 use Rattle.regions.proofs.limits.list_limits.Goals as goal
 

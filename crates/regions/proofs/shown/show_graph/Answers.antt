@@ -2,7 +2,7 @@
 use mathlib.Core.Path.{◌≡◌, refl, sym, ◌∙◌, ap, subst}
 use lib.ListN.{length}
 use Rattle.table.specs.Model.{Model}
-use Rattle.table.specs.Laws.Reads.{refusal-of, reads_of}
+use Rattle.table.proofs.Laws.Reads.{refusal-of, reads_of}
 use Rattle.regions.specs.Call.{room_for, from_answer, outcome_of, graph_of, entries_after}
 use Rattle.regions.specs.Shown.{Shown}
 use Rattle.regions.specs.Laws.Shown.{not-refused}

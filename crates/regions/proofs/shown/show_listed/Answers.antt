@@ -2,7 +2,7 @@
 use native.Mathlib.Omega.{arith}
 use lib.ListN.{length}
 use mathlib.Core.Path.{◌≡◌, ◌∙◌}
-use Rattle.table.specs.Laws.Reads.{counts-read, sound-read}
+use Rattle.table.proofs.Laws.Reads.{counts-read, sound-read}
 use Rattle.regions.specs.Laws.Shown.{shown}
 use Rattle.regions.proofs.shown.show_listed.Goals as goal
 

@@ -1,6 +1,6 @@
 -- `check_table` meets its contract. Assumes nothing.
 use mathlib.Core.Path.{sym, ◌∙◌, ap}
-use Rattle.table.specs.Laws.Reads.{reads_of, refusal-of, counts-read}
+use Rattle.table.proofs.Laws.Reads.{reads_of, refusal-of, counts-read}
 use Rattle.regions.specs.Sight.{checked_of}
 use Rattle.regions.specs.declared.sight.Checked.TheVariants as C
 use Rattle.regions.proofs.sight.check_table.Goals as goal

@@ -1,7 +1,7 @@
 -- A refused table leaves the slice; one that is read gives its labels.
 use mathlib.Core.Path.{sym, ◌∙◌, ap}
 use Rattle.table.specs.Reading.{Answer}
-use Rattle.table.specs.Laws.Reads.{refusal-of, reads_of}
+use Rattle.table.proofs.Laws.Reads.{refusal-of, reads_of}
 use Rattle.regions.specs.Sight.{labels_after}
 use Rattle.regions.proofs.sight.label_locations.Goals as goal
 

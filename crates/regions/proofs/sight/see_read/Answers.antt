@@ -4,7 +4,7 @@ use mathlib.Core.Path.{refl, sym, ◌∙◌}
 use mathlib.Core.Bool.{false≢true}
 use lib.ListN.{length}
 use borrow.Author.Tests.{not-true, not-false}
-use Rattle.table.specs.Laws.Reads.{counts-read}
+use Rattle.table.proofs.Laws.Reads.{counts-read}
 use Rattle.regions.specs.Laws.Sight.{seen_parts, sight-unseen, sight-seen}
 use Rattle.regions.proofs.sight.see_read.Goals as goal
 

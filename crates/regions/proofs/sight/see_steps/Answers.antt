@@ -3,7 +3,7 @@ use native.Mathlib.Omega.{arith}
 use Prim.Native.Nat.{ℕ}
 use mathlib.Core.Path.{◌≡◌, refl, ◌∙◌}
 use lib.ListN.{length, replicate, length-replicate}
-use Rattle.table.specs.Laws.Reads.{counts-read, sound-read}
+use Rattle.table.proofs.Laws.Reads.{counts-read, sound-read}
 use Rattle.regions.specs.Edges.{Placed, placed-filled}
 use Rattle.regions.specs.Index.{index-zeros}
 use Rattle.regions.specs.Laws.Rows.{edge-fits}

@@ -2,7 +2,7 @@
 use mathlib.Core.Path.{◌≡◌, refl, sym, ◌∙◌, ap, subst}
 use lib.ListN.{length}
 use Rattle.table.specs.Model.{Model}
-use Rattle.table.specs.Laws.Reads.{refusal-of, reads_of}
+use Rattle.table.proofs.Laws.Reads.{refusal-of, reads_of}
 use Rattle.regions.specs.Sight.{is_seen, sight_of, Sighted}
 use Rattle.regions.specs.Laws.Sight.{refused-not}
 use Rattle.regions.proofs.sight.show_region.Goals as goal

@@ -1,6 +1,6 @@
 -- `bounds_read` meets its contract. Assumes nothing.
 use mathlib.Core.Path.{sym, ◌∙◌, ap}
-use Rattle.table.specs.Laws.Reads.{reads_of, refusal-of}
+use Rattle.table.proofs.Laws.Reads.{reads_of, refusal-of}
 use Rattle.regions.specs.View.{bounds_read}
 use Rattle.regions.proofs.view.bounds_read.Goals as goal
 

@@ -1,6 +1,6 @@
 -- `edge_count` meets its contract. Assumes nothing.
 use mathlib.Core.Path.{sym, ◌∙◌, ap}
-use Rattle.table.specs.Laws.Reads.{reads_of, refusal-of, counts-read}
+use Rattle.table.proofs.Laws.Reads.{reads_of, refusal-of, counts-read}
 use Rattle.regions.specs.View.{edges_read}
 use Rattle.regions.proofs.view.edge_count.Goals as goal
 

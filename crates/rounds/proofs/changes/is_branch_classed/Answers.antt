@@ -1,7 +1,7 @@
 -- `is_branch_classed` meets its contract. Assumes nothing.
 use mathlib.Core.Path.{refl, ◌∙◌}
 use borrow.Author.Tests.{eqb-true}
-use Rattle.bisimulation.specs.Laws.Tests.{clash}
+use Rattle.bisimulation.proofs.Laws.Tests.{clash}
 use Rattle.comparison.specs.Laws.Compare.{target-inside}
 use Rattle.rounds.specs.Laws.Changes.{branch-classed}
 use Rattle.rounds.proofs.changes.is_branch_classed.Goals as goal

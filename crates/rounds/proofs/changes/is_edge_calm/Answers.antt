@@ -4,7 +4,7 @@ use native.Mathlib.Omega.{arith}
 use mathlib.Core.Path.{◌≡◌, refl, sym, ◌∙◌, ap}
 use lib.ListN.{get_or}
 use borrow.Author.Tests.{eqb-true}
-use Rattle.bisimulation.specs.Laws.Tests.{clash}
+use Rattle.bisimulation.proofs.Laws.Tests.{clash}
 use Rattle.comparison.specs.Held.{count_at, target_at}
 use Rattle.comparison.specs.Laws.Steps.{each_none, each_on, each_over}
 use Rattle.comparison.specs.Laws.Compare.{target-inside}

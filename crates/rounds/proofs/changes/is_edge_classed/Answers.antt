@@ -2,7 +2,7 @@
 use Prim.Native.Nat.{ℕ}
 use native.Mathlib.Omega.{arith}
 use mathlib.Core.Path.{refl}
-use Rattle.bisimulation.specs.Laws.Tests.{clash}
+use Rattle.bisimulation.proofs.Laws.Tests.{clash}
 use Rattle.comparison.specs.Held.{count_at}
 use Rattle.rounds.specs.Changes.{BranchClassed}
 use Rattle.comparison.specs.Laws.Steps.{each_none, each_on, each_over}

@@ -2,7 +2,7 @@
 use Prim.Native.Nat.{ℕ}
 use native.Mathlib.Omega.{arith}
 use mathlib.Core.Path.{refl}
-use Rattle.bisimulation.specs.Laws.Tests.{clash}
+use Rattle.bisimulation.proofs.Laws.Tests.{clash}
 use Rattle.rounds.specs.Changes.{StillAt}
 use Rattle.comparison.specs.Laws.Steps.{each_none, each_on, each_over}
 use Rattle.rounds.proofs.changes.is_still.Goals as goal

@@ -5,7 +5,7 @@ use mathlib.Core.Path.{refl, sym, ◌∙◌, ap}
 use lib.Dec.{eqb}
 use lib.ListN.{get_or}
 use borrow.Author.Tests.{eq-eqb, eqb-true}
-use Rattle.bisimulation.specs.Laws.Tests.{clash}
+use Rattle.bisimulation.proofs.Laws.Tests.{clash}
 use Rattle.rounds.proofs.changes.is_still_at.Goals as goal
 
 pub returns-then-not-is_set : goal.returns-then-not-is_set

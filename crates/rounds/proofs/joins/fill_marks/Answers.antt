@@ -4,7 +4,7 @@ use native.Mathlib.Omega.{arith}
 use mathlib.Core.Path.{refl, sym, ◌∙◌, ap, ap₂, subst}
 use lib.ListN.{length, replicate, length-set, length-replicate}
 use Rattle.bisimulation.specs.Finite.{related, next}
-use Rattle.bisimulation.specs.Laws.Leads.{lead_low}
+use Rattle.bisimulation.proofs.Laws.Leads.{lead_low}
 use Rattle.rounds.specs.Rounds.{join_mark, MarkedTo}
 use Rattle.comparison.specs.Laws.Codes.{shelf-none}
 use Rattle.rounds.specs.Laws.Rounds.{kins-none}

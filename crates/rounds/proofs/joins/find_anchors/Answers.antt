@@ -3,7 +3,7 @@ use Prim.Native.Nat.{ℕ}
 use native.Mathlib.Omega.{arith}
 use mathlib.Core.Path.{refl, ◌∙◌, subst}
 use Rattle.bisimulation.specs.Finite.{related}
-use Rattle.bisimulation.specs.Laws.Leads.{lead_low}
+use Rattle.bisimulation.proofs.Laws.Leads.{lead_low}
 use Rattle.rounds.specs.Rounds.{Anchored}
 use Rattle.rounds.specs.Laws.Joins.{anchored-none}
 use Rattle.rounds.proofs.joins.find_anchors.Goals as goal

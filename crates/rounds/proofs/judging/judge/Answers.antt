@@ -3,7 +3,7 @@ use Prim.Native.Nat.{ℕ}
 use native.Mathlib.Omega.{arith}
 use mathlib.Core.Path.{refl, ◌∙◌}
 use lib.ListN.{length-replicate}
-use Rattle.bisimulation.specs.Laws.Leads.{related-equivalence, reps-own, reps-agree}
+use Rattle.bisimulation.proofs.Laws.Leads.{related-equivalence, reps-own, reps-agree}
 use Rattle.rounds.specs.Laws.Rounds.{accepts-agree}
 use Rattle.rounds.proofs.judging.judge.Goals as goal
 

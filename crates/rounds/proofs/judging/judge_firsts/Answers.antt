@@ -3,7 +3,7 @@ use Prim.Native.Nat.{◌<◌}
 use native.Mathlib.Omega.{arith}
 use mathlib.Core.Path.{sym, ◌∙◌, ap}
 use Rattle.bisimulation.specs.Finite.{related}
-use Rattle.bisimulation.specs.Laws.Leads.{lead_low}
+use Rattle.bisimulation.proofs.Laws.Leads.{lead_low}
 use Rattle.rounds.specs.Rounds.{judged_with}
 use Rattle.rounds.specs.Laws.Rounds.{reps-below, lead-alike, judged-on, judged-all, judged-not}
 use Rattle.rounds.proofs.judging.judge_firsts.Goals as goal

@@ -1,7 +1,7 @@
 -- `number_blocks` meets its contract. Assumes nothing.
 use Rattle.rounds.specs.Laws.Rounds.{numbered-none, numbered-on, numbered-over}
 use Rattle.bisimulation.specs.Finite.{related}
-use Rattle.bisimulation.specs.Laws.Leads.{related-equivalence}
+use Rattle.bisimulation.proofs.Laws.Leads.{related-equivalence}
 use native.Mathlib.Omega.{arith}
 use mathlib.Core.Path.{sym, ◌∙◌, ap}
 use lib.ListN.{length, length-set}

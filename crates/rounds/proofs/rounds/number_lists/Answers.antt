@@ -4,7 +4,7 @@ use mathlib.Core.Path.{refl, sym, ap}
 use mathlib.Core.List.{◌++◌}
 use lib.ListN.{drop}
 use lib.Seq.{length-take-le, drop_at}
-use Rattle.bisimulation.specs.Laws.Tests.{clash}
+use Rattle.bisimulation.proofs.Laws.Tests.{clash}
 use Rattle.rounds.proofs.rounds.number_lists.Goals as goal
 
 pub returns-then-not-is_roomy : goal.returns-then-not-is_roomy

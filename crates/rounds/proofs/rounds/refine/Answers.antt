@@ -1,6 +1,6 @@
 -- `refine` meets its contract. Assumes nothing.
 use Rattle.bisimulation.specs.Finite.{next}
-use Rattle.bisimulation.specs.Laws.Leads.{reps-own}
+use Rattle.bisimulation.proofs.Laws.Leads.{reps-own}
 use native.Mathlib.Omega.{arith}
 use mathlib.Core.Path.{refl, sym, ◌∙◌, ap}
 use lib.ListN.{length}

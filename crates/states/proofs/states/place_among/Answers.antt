@@ -1,7 +1,7 @@
 -- `place_among` meets its contract. Assumes nothing.
 use native.Mathlib.Omega.{arith}
 use mathlib.Core.Path.{sym, ◌∙◌, ap}
-use Rattle.table.specs.Laws.Reads.{counts-read}
+use Rattle.table.proofs.Laws.Reads.{counts-read}
 use Rattle.regions.specs.Explore.{listed}
 use Rattle.states.specs.Placing.{placed}
 use Rattle.states.specs.StateCall.{asked}

@@ -1,7 +1,7 @@
 -- `place_state` meets its contract. Assumes nothing.
 use mathlib.Core.Path.{sym, ◌∙◌, ap}
 use lib.ListN.{length}
-use Rattle.table.specs.Laws.Reads.{refusal-of, reads_of}
+use Rattle.table.proofs.Laws.Reads.{refusal-of, reads_of}
 use Rattle.regions.specs.Call.{room_for, from_answer, outcome_of, entries_after}
 use Rattle.states.specs.StateCall.{asked, placed_from, place_of}
 use Rattle.states.proofs.states.place_state.Goals as goal

@@ -2,7 +2,7 @@
 use mathlib.Core.Path.{◌∙◌, ap}
 use native.Mathlib.Omega.{arith}
 use Rattle.table.specs.Access.{passed, branch_count}
-use Rattle.table.specs.Laws.Reads.{branch-count-read}
+use Rattle.table.proofs.Laws.Reads.{branch-count-read}
 use Rattle.table.proofs.access.branch_count.Goals as goal
 
 pub returns : goal.returns

@@ -4,8 +4,8 @@ use mathlib.Core.Path.{◌∙◌, ap}
 use native.Mathlib.Omega.{arith}
 use Rattle.table.specs.Records.{body_at, guard_of}
 use Rattle.table.specs.Access.{guard_at, item_from, no_body}
-use Rattle.table.specs.Laws.Walks.{item-part}
-use Rattle.table.specs.Laws.Reads.{guard-read}
+use Rattle.table.proofs.Laws.Walks.{item-part}
+use Rattle.table.proofs.Laws.Reads.{guard-read}
 use Rattle.table.proofs.access.guard_at.Goals as goal
 
 pub returns : goal.returns

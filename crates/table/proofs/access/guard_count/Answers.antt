@@ -2,7 +2,7 @@
 use mathlib.Core.Path.{◌∙◌, ap}
 use native.Mathlib.Omega.{arith}
 use Rattle.table.specs.Access.{passed, guard_count}
-use Rattle.table.specs.Laws.Reads.{guard-count-read}
+use Rattle.table.proofs.Laws.Reads.{guard-count-read}
 use Rattle.table.proofs.access.guard_count.Goals as goal
 
 pub returns : goal.returns

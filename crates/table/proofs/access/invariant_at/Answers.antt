@@ -3,8 +3,8 @@ use mathlib.Core.Path.{◌∙◌, ap}
 use native.Mathlib.Omega.{arith}
 use Rattle.table.specs.Records.{invariant_of}
 use Rattle.table.specs.Access.{invariant_at}
-use Rattle.table.specs.Laws.Walks.{item-part}
-use Rattle.table.specs.Laws.Reads.{invariant-read}
+use Rattle.table.proofs.Laws.Walks.{item-part}
+use Rattle.table.proofs.Laws.Reads.{invariant-read}
 use Rattle.table.proofs.access.invariant_at.Goals as goal
 
 pub returns : goal.returns

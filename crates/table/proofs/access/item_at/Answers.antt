@@ -1,6 +1,6 @@
 -- `item_at` meets its contract: the record where the walk ends is of the kind, or there is no such item. Assumes nothing.
 use mathlib.Core.Path.{sym, ◌∙◌}
-use Rattle.table.specs.Laws.Walks.{item-none, item-some, inside}
+use Rattle.table.proofs.Laws.Walks.{item-none, item-some, inside}
 use Rattle.table.proofs.access.item_at.Goals as goal
 
 pub returns-then-byte_at-kind : goal.returns-then-byte_at-kind

@@ -2,8 +2,8 @@
 use mathlib.Core.Path.{◌∙◌, ap}
 use native.Mathlib.Omega.{arith}
 use Rattle.table.specs.Access.{label_at}
-use Rattle.table.specs.Laws.Walks.{item-part}
-use Rattle.table.specs.Laws.Reads.{label-read}
+use Rattle.table.proofs.Laws.Walks.{item-part}
+use Rattle.table.proofs.Laws.Reads.{label-read}
 use Rattle.table.specs.declared.records.Body.{Body}
 use Rattle.table.proofs.access.label_at.Goals as goal
 

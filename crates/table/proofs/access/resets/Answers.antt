@@ -4,7 +4,7 @@ use mathlib.Core.Path.{sym, ap}
 use lib.Bits.{and_mask}
 use lib.Dec.{eqb}
 use Rattle.table.specs.Model.{reset_in}
-use Rattle.table.specs.Laws.Masks.{no-reset}
+use Rattle.table.proofs.Laws.Masks.{no-reset}
 use Rattle.table.proofs.access.resets.Goals as goal
 
 pub returns-then-clock-lt8 : goal.returns-then-clock-lt8

@@ -3,7 +3,7 @@
 use Prim.Native.Nat.{◌-◌}
 use mathlib.Core.Path.{sym, ◌∙◌}
 use native.Mathlib.Omega.{arith}
-use Rattle.table.specs.Laws.Walks.{walking_start, walking_on, walked-other, walked_all, inside}
+use Rattle.table.proofs.Laws.Walks.{walking_start, walking_on, walked-other, walked_all, inside}
 use Rattle.table.proofs.access.walk.Goals as goal
 
 pub loop-n-init : goal.loop-n-init

@@ -6,10 +6,10 @@ use mathlib.Core.Logic.{inl, inr}
 use native.Mathlib.Omega.{arith}
 use lib.ListN.{set}
 use borrow.Author.Tests.{eqb-true, eqb-false, not-true, not-false}
-use Rattle.table.specs.Laws.Walks.{inside}
+use Rattle.table.proofs.Laws.Walks.{inside}
 use Rattle.table.specs.Access.{read_edge}
-use Rattle.table.specs.Laws.Reads.{edge-listed}
-use Rattle.table.specs.Laws.Edges.{comes-start, comes-on, list_over}
+use Rattle.table.proofs.Laws.Reads.{edge-listed}
+use Rattle.table.proofs.Laws.Edges.{comes-start, comes-on, list_over}
 use Rattle.table.proofs.edges.list_edges.Goals as goal
 
 pub loop-i-init : goal.loop-i-init

@@ -2,7 +2,7 @@
 -- of the edges that the list has room for. The measure is how many of them are left. Assumes nothing.
 use Prim.Native.Nat.{◌-◌}
 use Rattle.table.specs.Access.{read_edge}
-use Rattle.table.specs.Laws.Edges.{Comes}
+use Rattle.table.proofs.Laws.Edges.{Comes}
 use Rattle.table.proofs.edges.list_edges.Given as goal
 
 abbrev pub invariant-loop-i : goal.invariant-loop-i

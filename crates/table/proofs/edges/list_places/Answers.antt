@@ -6,8 +6,8 @@ use mathlib.Core.Logic.{inl, inr}
 use native.Mathlib.Omega.{arith}
 use lib.Seq.{sets}
 use borrow.Author.Tests.{eqb-true, eqb-false, not-true, not-false}
-use Rattle.table.specs.Laws.Reads.{places-read}
-use Rattle.table.specs.Laws.Edges.{comes-start, comes-on, places-over}
+use Rattle.table.proofs.Laws.Reads.{places-read}
+use Rattle.table.proofs.Laws.Edges.{comes-start, comes-on, places-over}
 use Rattle.table.proofs.edges.list_places.Goals as goal
 
 pub loop-i-init : goal.loop-i-init

@@ -3,7 +3,7 @@
 use Prim.Native.Nat.{◌-◌}
 use mathlib.Core.Path.{◌≡◌}
 use lib.ListN.{length}
-use Rattle.table.specs.Laws.Edges.{Comes}
+use Rattle.table.proofs.Laws.Edges.{Comes}
 use Rattle.table.proofs.edges.list_places.Given as goal
 
 abbrev pub invariant-loop-i : goal.invariant-loop-i

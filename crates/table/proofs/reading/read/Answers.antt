@@ -3,8 +3,8 @@
 use Prim.Native.Nat.{◌-◌}
 use mathlib.Core.Path.{sym, ◌∙◌, ap}
 use native.Mathlib.Omega.{arith}
-use Rattle.table.specs.Laws.Runs.{next-within}
-use Rattle.table.specs.Laws.Turns.{underway-start, underway-next, underway-refused, underway-end, read-long}
+use Rattle.table.proofs.Laws.Runs.{next-within}
+use Rattle.table.proofs.Laws.Turns.{underway-start, underway-next, underway-refused, underway-end, read-long}
 use Rattle.table.specs.declared.model.Reading.TheVariants.{Accepted}
 use Rattle.table.proofs.reading.read.Goals as goal
 

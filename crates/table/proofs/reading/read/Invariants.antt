@@ -2,7 +2,7 @@
 -- what is left of the table. Assumes nothing.
 use Prim.Native.Nat.{◌-◌}
 use lib.ListN.{length}
-use Rattle.table.specs.Laws.Turns.{Underway}
+use Rattle.table.proofs.Laws.Turns.{Underway}
 use Rattle.table.proofs.reading.read.Given as goal
 
 abbrev pub invariant-loop-number : goal.invariant-loop-number

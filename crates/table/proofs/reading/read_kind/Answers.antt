@@ -4,7 +4,7 @@ use mathlib.Core.Path.{sym, ◌∙◌, ap}
 use native.Mathlib.Omega.{arith}
 use Rattle.table.specs.Records.{record_of, edge, branch}
 use Rattle.table.specs.Refusals.{step_of, rows_of, next_of}
-use Rattle.table.specs.Laws.Turns.{other-kind}
+use Rattle.table.proofs.Laws.Turns.{other-kind}
 use Rattle.table.proofs.reading.read_kind.Goals as goal
 
 pub read_location-requires : goal.read_location-requires

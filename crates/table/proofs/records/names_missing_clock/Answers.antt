@@ -1,7 +1,7 @@
 -- `names_missing_clock` meets its contract: a byte has no bit from 8 on. Assumes nothing.
 use mathlib.Core.Path.{sym, ap}
 use lib.Dec.{ltb}
-use Rattle.table.specs.Laws.Masks.{nothing-from}
+use Rattle.table.proofs.Laws.Masks.{nothing-from}
 use Rattle.table.proofs.records.names_missing_clock.Goals as goal
 
 pub returns-else-clocks-lt8 : goal.returns-else-clocks-lt8

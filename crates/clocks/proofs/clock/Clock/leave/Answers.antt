@@ -1,10 +1,9 @@
 -- `leave` meets its contract: of the cell that the clock is, over or not. Assumes nothing.
 use Prim.Native.Nat.{ℕ, suc}
-use mathlib.Core.Path.{sym, ◌∙◌, ap, refl}
+use mathlib.Core.Path.{sym, ◌∙◌, ap}
 use mathlib.Core.Bool.{Bool, cond}
 use native.Mathlib.Omega.{arith}
-use borrow.Author.Tests.{lt-ltb, le-ltb}
-use Rattle.clocks.specs.Cells.{Cell, over, at, leave, leave-zero, leave-ranked}
+use Rattle.clocks.specs.Cells.{Cell, at, leave, leave-ranked}
 use Rattle.clocks.specs.Packed.{clock_of, cell-over, cell_at, clock-at, byte-kept}
 use Rattle.clocks.proofs.clock.Clock.leave.Goals as goal
 
@@ -14,30 +13,6 @@ returns-then-self-eq-OVER c =
     let if1 = c.if-self-eq-OVER in
     ap (λ (x : ℕ). record { bound = args.self.bound; whole = x; rank = 0 }) if1.true
     ∙ sym (ap (λ (y : Cell). clock_of (leave args.any y)) (cell-over args.self if1.true))
-
-pub returns-then-self : goal.returns-then-self
-returns-then-self c =
-    let args = c.args in
-    let struct_known = c.struct_known-1 in
-    let if1 = c.if-self-eq-OVER in
-    let if2 = c.if-self-eq0 in
-    clock-at args.self.bound args.self.whole 1 args.self.whole 1
-    (byte-kept args.self.whole (omega (arith, struct_known.given))) refl
-    ∙ sym (ap (λ (y : Cell). clock_of (leave args.any y)) (cell_at args.self if1.false)
-    ∙ ap clock_of (leave-zero args.any args.self.bound args.self.whole args.self.rank if2.true
-    ∙ ap (λ (b : Bool). cond b (at args.self.bound args.self.whole 1) (over args.self.bound))
-    (lt-ltb args.self.whole args.self.bound c.if-self.true)))
-
-pub returns-then-self-eq0 : goal.returns-then-self-eq0
-returns-then-self-eq0 c =
-    let args = c.args in
-    let if2 = c.if-self-eq0 in
-    let if1 = c.if-self-eq-OVER in
-    ap (λ (x : ℕ). record { bound = args.self.bound; whole = 16; rank = x }) if2.true
-    ∙ sym (ap (λ (y : Cell). clock_of (leave args.any y)) (cell_at args.self if1.false)
-    ∙ ap clock_of (leave-zero args.any args.self.bound args.self.whole args.self.rank if2.true
-    ∙ ap (λ (b : Bool). cond b (at args.self.bound args.self.whole 1) (over args.self.bound))
-    (le-ltb args.self.whole args.self.bound c.if-self.false)))
 
 pub returns-then-any : goal.returns-then-any
 returns-then-any c =

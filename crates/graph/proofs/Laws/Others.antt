@@ -11,9 +11,9 @@ use Rattle.graph.specs.Readers.{key_of, key_head, branch_count, branch_slot, act
 use Rattle.graph.specs.Writers.{with_edge_start, with_slot_start, with_edge_number, with_slot, with_branch_count, with_branch_slot}
 use Rattle.graph.specs.Writers.{with_edge}
 use Rattle.graph.specs.Writers.{with_weight}
-use Rattle.graph.specs.Laws.Columns.{Lent, load_stored, load-other, store_keeps}
-use Rattle.graph.specs.Laws.Latest.{cases}
-use Rattle.graph.specs.Laws.Stores.{location-below, slot-below, key_below}
+use Rattle.graph.proofs.Laws.Columns.{Lent, load_stored, load-other, store_keeps}
+use Rattle.graph.proofs.Laws.Latest.{cases}
+use Rattle.graph.proofs.Laws.Stores.{location-below, slot-below, key_below}
 
 -- A location, and the one after it, as the starts are numbered.
 start-at : (location : ℕ) → location < most_locations → location % most_locations ≡ location % (most_locations + 1)

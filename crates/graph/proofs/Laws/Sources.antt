@@ -10,10 +10,10 @@ use Rattle.std.proofs.lemmas.Bool.{eqb-false}
 use Rattle.graph.specs.Columns.{nothing, load, store, long, most_regions, source_heads, source_links}
 use Rattle.graph.specs.Readers.{reset_number, source_head, source_link, sources_from, sources_of}
 use Rattle.graph.specs.Writers.{with_source}
-use Rattle.graph.specs.Laws.Columns.{Kept, store_length, load_stored, load-other, store_keeps}
-use Rattle.graph.specs.Laws.Latest.{latest, both, decide, latest-none, latest-here, latest-past, latest-ways, latest-misses}
-use Rattle.graph.specs.Laws.Latest.{latest-covers}
-use Rattle.graph.specs.Laws.Stores.{region-below, number-below}
+use Rattle.graph.proofs.Laws.Columns.{Kept, store_length, load_stored, load-other, store_keeps}
+use Rattle.graph.proofs.Laws.Latest.{latest, both, decide, latest-none, latest-here, latest-past, latest-ways, latest-misses}
+use Rattle.graph.proofs.Laws.Latest.{latest-covers}
+use Rattle.graph.proofs.Laws.Stores.{region-below, number-below}
 
 -- Does the note of a time lead to a class?
 abbrev pub leads_to : (target : ℕ → ℕ) → (class time : ℕ) → Bool

@@ -12,8 +12,8 @@ use Rattle.bisimulation.specs.Structures.{Branch, total, Closed}
 use Rattle.bisimulation.specs.Finite.{Finite, structure, related, sum, all_below, some_below, alike, delays_match, edges_match, matches}
 use Rattle.bisimulation.specs.Finite.{next}
 use Rattle.bisimulation.specs.Finite.{blocks_by, blocks, rounds, rest_from, same_list, last_blocks, block_count, leaders, accepts}
-use Rattle.bisimulation.specs.Laws.Tests.{same_test, and-iff, cond-iff, all-below, some_below_lem, below-some}
-use Rattle.bisimulation.specs.Laws.Leads.{leads-agree}
+use Rattle.bisimulation.proofs.Laws.Tests.{same_test, and-iff, cond-iff, all-below, some_below_lem, below-some}
+use Rattle.bisimulation.proofs.Laws.Leads.{leads-agree}
 
 -- An edge of one structure at an item is an edge of another there: available, with the same action, denominator and branches.
 pub record SameEdge (F G : Finite) (x e f : ℕ) : Type 0 where

@@ -7,14 +7,14 @@ use Rattle.std.specs.Prelude.{◌≡◌, Bool, true, false, List, ◌⊎◌, len
 use Rattle.std.proofs.Math.Path.{refl, sym, ap}
 use Rattle.std.proofs.Math.Logic.{inl, inr}
 use Rattle.std.proofs.Math.Dec.{eqb}
-use Rattle.graph.specs.Laws.Latest.{decide, cases}
+use Rattle.graph.proofs.Laws.Latest.{decide, cases}
 use Rattle.std.specs.Int.Bits.{bit_or, or_zero_l, or_zero_r, or_self}
 use Rattle.std.proofs.lemmas.Nat.{or_shr, or_mod}
 use Rattle.graph.specs.Columns.{Column, load, store, most_regions, most_edges, available}
 use Rattle.graph.specs.Readers.{available_word, bit_of, is_available}
 use Rattle.graph.specs.Writers.{cleared_words, with_none_available, with_available}
-use Rattle.graph.specs.Laws.Columns.{Lent, Kept, apart, kept_same, kept_then, store_length, load_stored, load-modulo, load-other}
-use Rattle.graph.specs.Laws.Columns.{store_keeps}
+use Rattle.graph.proofs.Laws.Columns.{Lent, Kept, apart, kept_same, kept_then, store_length, load_stored, load-modulo, load-other}
+use Rattle.graph.proofs.Laws.Columns.{store_keeps}
 
 -- A bit of a word is below its end.
 pub bit-small : (k : ℕ) → k < 16 → 2 ^ k < 65536

@@ -8,13 +8,13 @@ use mathlib.Core.List.{List, Memᴰ}
 use Rattle.graph.specs.Columns.{nothing, load, store, long, most_regions, resets, source_heads, source_links}
 use Rattle.graph.specs.Readers.{reset_class, reset_number, reset_source, reset_mask, source_head, sources_of}
 use Rattle.graph.specs.Writers.{with_reset}
-use Rattle.graph.specs.Laws.Columns.{Kept, store_length, store_keeps}
-use Rattle.graph.specs.Laws.Latest.{decide}
-use Rattle.graph.specs.Laws.Bounds.{reset-source, reset-mask}
-use Rattle.graph.specs.Laws.Stores.{reset-below, number-below, reset-other, reset-stored}
-use Rattle.graph.specs.Laws.Walks.{reset-known, reset-plain, reset-both}
-use Rattle.graph.specs.Laws.Kept.{reset-kept}
-use Rattle.graph.specs.Laws.Sources.{Backward, backward-none, backward-kept, backward-more, sources-have, sources-only}
+use Rattle.graph.proofs.Laws.Columns.{Kept, store_length, store_keeps}
+use Rattle.graph.proofs.Laws.Latest.{decide}
+use Rattle.graph.proofs.Laws.Bounds.{reset-source, reset-mask}
+use Rattle.graph.proofs.Laws.Stores.{reset-below, number-below, reset-other, reset-stored}
+use Rattle.graph.proofs.Laws.Walks.{reset-known, reset-plain, reset-both}
+use Rattle.graph.proofs.Laws.Kept.{reset-kept}
+use Rattle.graph.proofs.Laws.Sources.{Backward, backward-none, backward-kept, backward-more, sources-have, sources-only}
 
 -- ---- Different numbers below a bound: at most as many as the bound
 

@@ -12,9 +12,9 @@ use Rattle.graph.specs.Readers.{edge_start, edge_count, edge_at, slot_mask, slot
 use Rattle.graph.specs.Readers.{branch_slot}
 use Rattle.graph.specs.Readers.{action_of, denominator_of, low_of, high_of}
 use Rattle.graph.specs.Writers.{with_slot, with_branch_count, with_branch_slot, with_edge, with_weight}
-use Rattle.graph.specs.Laws.Columns.{Lent, store_length, load_stored, load-other, store_keeps}
-use Rattle.graph.specs.Laws.Latest.{cases}
-use Rattle.graph.specs.Laws.Stores.{slot-below, branch-below, key_below}
+use Rattle.graph.proofs.Laws.Columns.{Lent, store_length, load_stored, load-other, store_keeps}
+use Rattle.graph.proofs.Laws.Latest.{cases}
+use Rattle.graph.proofs.Laws.Stores.{slot-below, branch-below, key_below}
 
 -- ---- The edges of a location
 

@@ -10,10 +10,10 @@ use borrow.Author.Tests.{eqb-true, eq-eqb, ne_eqb}
 use Rattle.graph.specs.Columns.{nothing, load, store, most_locations, most_slots, slot_keys, slot_locations, key_heads, key_links}
 use Rattle.graph.specs.Readers.{key_of, key_head, key_link, keys_of}
 use Rattle.graph.specs.Writers.{with_slot}
-use Rattle.graph.specs.Laws.Columns.{Lent, Kept, store_length, load_stored, load-other, store_keeps}
-use Rattle.graph.specs.Laws.Latest.{latest, cases, latest-ways}
-use Rattle.graph.specs.Laws.Stores.{slot-below, key_below, slot-length}
-use Rattle.graph.specs.Laws.Chains.{Chain, chain-none, chain_more, chain-met}
+use Rattle.graph.proofs.Laws.Columns.{Lent, Kept, store_length, load_stored, load-other, store_keeps}
+use Rattle.graph.proofs.Laws.Latest.{latest, cases, latest-ways}
+use Rattle.graph.proofs.Laws.Stores.{slot-below, key_below, slot-length}
+use Rattle.graph.proofs.Laws.Chains.{Chain, chain-none, chain_more, chain-met}
 
 -- A key is told by its mask and its target, and these by it.
 pub key-tells : (mask target by to : ℕ) → key_of by to ≡ key_of mask target

@@ -19,9 +19,9 @@ use Rattle.table.specs.Reading.{Item, item_at, Run, refused, ended, before, run,
 use Rattle.table.specs.Reading.{Parts, parts, no_parts, add, gather, model_of, accepted, answer_of, read_table}
 use Rattle.table.specs.Sound.{All, none, also, SoundInvariant, SoundGuard, SoundBranch, SoundEdge, Sound}
 use Rattle.table.specs.Written.{Bytes, bytes_of, written, edge_bytes, edges_bytes, table_of, first_edge, Placed}
-use Rattle.table.specs.Laws.Runs.{Denied, model_with}
-use Rattle.table.specs.Laws.Models.{sound, table-written, places}
-use Rattle.table.specs.Laws.Items.{byte, onward, edges_to_end}
+use Rattle.table.proofs.Laws.Runs.{Denied, model_with}
+use Rattle.table.proofs.Laws.Models.{sound, table-written, places}
+use Rattle.table.proofs.Laws.Items.{byte, onward, edges_to_end}
 use Rattle.table.specs.declared.model.Invariant.{Invariant}
 use Rattle.table.specs.declared.model.Guard.{Guard}
 use Rattle.table.specs.declared.model.Branch.{Branch}

@@ -7,7 +7,7 @@ use Rattle.table.specs.Records.{Record, header, location, invariant, edge, guard
 use Rattle.table.specs.Refusals.{Row, decide, outer_rows, rows_of, next_of, step_at, start}
 use Rattle.table.specs.Reading.{Item, item_at, Run, refused, ended, before, go, run, run_table}
 use Rattle.table.specs.Reading.{refusal, answer_of, read_table}
-use Rattle.table.specs.Laws.Runs.{Denied, denials, stepped, next-within}
+use Rattle.table.proofs.Laws.Runs.{Denied, denials, stepped, next-within}
 use Rattle.table.specs.declared.records.Progress.{Progress}
 use Rattle.table.specs.declared.records.Step.{Step}
 use Rattle.table.specs.declared.records.Step.TheVariants.{Refused, Next, End}

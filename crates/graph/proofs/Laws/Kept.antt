@@ -18,9 +18,9 @@ use Rattle.graph.specs.Readers.{along, keys_of, available_word}
 use Rattle.graph.specs.Readers.{bit_of, is_available, reset_class, delay_class, class_head, class_link, source_head, source_link}
 use Rattle.graph.specs.Readers.{sources_from}
 use Rattle.graph.specs.Readers.{sources_of, bucket_of, region_head, region_link, walk, region_at, landing_of}
-use Rattle.graph.specs.Laws.Columns.{Kept}
-use Rattle.graph.specs.Laws.Index.{bucket-below}
-use Rattle.graph.specs.Laws.Stores.{location-below, region-below, slot-below, branch-below, key_below, reset-below, word_below}
+use Rattle.graph.proofs.Laws.Columns.{Kept}
+use Rattle.graph.proofs.Laws.Index.{bucket-below}
+use Rattle.graph.proofs.Laws.Stores.{location-below, region-below, slot-below, branch-below, key_below, reset-below, word_below}
 
 module _ (graph graph' : List ℕ) where
   pub label_kept : Kept labels graph graph' → (location : ℕ) → label_of graph' location ≡ label_of graph location

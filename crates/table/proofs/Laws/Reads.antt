@@ -11,12 +11,12 @@ use Rattle.table.specs.Answer.{reading_of}
 use Rattle.table.specs.Sound.{Sound}
 use Rattle.table.specs.Edges.{edge_list}
 use Rattle.table.specs.Reads.{Reads, Counts, edge_of, Lists, ReadsEdge}
-use Rattle.table.specs.Laws.Edges.{edge-in-list, stored_at}
+use Rattle.table.proofs.Laws.Edges.{edge-in-list, stored_at}
 use Rattle.table.specs.Written.{Bytes, shape_of}
 use Rattle.table.specs.Access.{no_invariant, no_guard, no_branch, no_edge_struct, no_edge, edge_struct, label_at, invariant_at}
 use Rattle.table.specs.Access.{guard_at, guard_count, branch_at, branch_count, read_edge, edge_places}
-use Rattle.table.specs.Laws.Models.{sound, table-written, places}
-use Rattle.table.specs.Laws.Items.{label_is, invariant-is, places-are, structs-are, EdgeParts, edge-parts-are}
+use Rattle.table.proofs.Laws.Models.{sound, table-written, places}
+use Rattle.table.proofs.Laws.Items.{label_is, invariant-is, places-are, structs-are, EdgeParts, edge-parts-are}
 use Rattle.table.specs.declared.model.Edge.{Edge as EdgeStruct}
 use Rattle.table.specs.declared.model.Shape.{Shape}
 use Rattle.table.specs.declared.model.Reading.TheVariants.{Refused, Accepted}

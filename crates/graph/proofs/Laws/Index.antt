@@ -12,10 +12,10 @@ use borrow.Author.Tests.{eqb-true, eqb-false, ne_eqb, eq-eqb, ltb-true, ltb-fals
 use Rattle.graph.specs.Columns.{nothing, load, store, short, most_regions, most_locations, region_heads, region_links, classes}
 use Rattle.graph.specs.Readers.{class_of, bucket_of, region_head, region_link, walk, region_at}
 use Rattle.graph.specs.Writers.{with_region}
-use Rattle.graph.specs.Laws.Columns.{Kept, store_length, load_stored, load-other, store_keeps}
-use Rattle.graph.specs.Laws.Latest.{latest, both, latest-none, latest-here, latest-past, latest-ways, latest-same, latest-absent}
-use Rattle.graph.specs.Laws.Latest.{latest-only}
-use Rattle.graph.specs.Laws.Latest.{latest-through}
+use Rattle.graph.proofs.Laws.Columns.{Kept, store_length, load_stored, load-other, store_keeps}
+use Rattle.graph.proofs.Laws.Latest.{latest, both, latest-none, latest-here, latest-past, latest-ways, latest-same, latest-absent}
+use Rattle.graph.proofs.Laws.Latest.{latest-only}
+use Rattle.graph.proofs.Laws.Latest.{latest-through}
 
 lt-or-le : (a b : ℕ) → (a < b) ⊎ (b ≤ a)
 lt-or-le a b = elim (both (ltb a b)) [ inl e ↦ inl (ltb-true a b e) | inr e ↦ inr (ltb-false a b e) ]

@@ -6,7 +6,7 @@ use Rattle.table.specs.Records.{header, location, invariant, end, kind_of, body_
 use Rattle.table.specs.Reading.{read_table, accepted}
 use Rattle.table.specs.Sound.{All, none, also, ByteSized}
 use Rattle.table.specs.Written.{Bytes, bytes_of, written, edge_bytes, edges_bytes, table_of}
-use Rattle.table.specs.Laws.Models.{table-written}
+use Rattle.table.proofs.Laws.Models.{table-written}
 
 bytes_left : (a b : List ℕ) → Bytes (a ++ b) → Bytes a
 bytes_left [] b bytes i = omega arith

@@ -11,10 +11,10 @@ use mathlib.Core.List.{List, [], ◌∷◌, Memᴰ}
 use Rattle.graph.specs.Columns.{nothing, load, store, most_regions, class_heads, class_links}
 use Rattle.graph.specs.Readers.{class_head, class_link, along}
 use Rattle.graph.specs.Writers.{with_class}
-use Rattle.graph.specs.Laws.Columns.{Lent, store-lent, load_stored, load-other, store_keeps}
-use Rattle.graph.specs.Laws.Latest.{latest, decide, not-both, latest-none, latest-here, latest-past, latest-ways, latest-misses}
-use Rattle.graph.specs.Laws.Latest.{latest-covers}
-use Rattle.graph.specs.Laws.Stores.{region-below}
+use Rattle.graph.proofs.Laws.Columns.{Lent, store-lent, load_stored, load-other, store_keeps}
+use Rattle.graph.proofs.Laws.Latest.{latest, decide, not-both, latest-none, latest-here, latest-past, latest-ways, latest-misses}
+use Rattle.graph.proofs.Laws.Latest.{latest-covers}
+use Rattle.graph.proofs.Laws.Stores.{region-below}
 
 pub record Chain (head link : ℕ → ℕ) (member : ℕ → ℕ → Bool) (buckets n : ℕ) : Type 0 where
   pub heads : (bucket : ℕ) → bucket < buckets → head bucket ≡ latest (member bucket) n

@@ -9,8 +9,8 @@ use mathlib.Core.List.{List, [], ◌∷◌}
 use Rattle.graph.specs.Columns.{nothing, store, most_regions, resets, available}
 use Rattle.graph.specs.Readers.{class_of, region_head, region_link, walk, region_at, reset_class, source_head, source_link, sources_from}
 use Rattle.graph.specs.Readers.{sources_of}
-use Rattle.graph.specs.Laws.Columns.{store_length}
-use Rattle.graph.specs.Laws.Latest.{both}
+use Rattle.graph.proofs.Laws.Columns.{store_length}
+use Rattle.graph.proofs.Laws.Latest.{both}
 use Rattle.graph.specs.Writers.{cleared_words, with_none_available, with_source, with_reset}
 
 module _ (graph : List ℕ) (class : ℕ) where

@@ -18,10 +18,10 @@ use Rattle.graph.specs.Writers.{with_slot}
 use Rattle.graph.specs.Writers.{with_edge}
 use Rattle.graph.specs.Writers.{with_weight, with_region, with_class, with_location, with_delay, with_available_count, cleared_words}
 use Rattle.graph.specs.Writers.{with_none_available, with_available, with_class_delay, with_source, with_reset}
-use Rattle.graph.specs.Laws.Columns.{Lent, Kept, apart, kept_same, kept_then, store_length, load_stored, load-other, store_keeps}
-use Rattle.graph.specs.Laws.Latest.{decide, cases}
-use Rattle.graph.specs.Laws.Walks.{reset-known, reset-plain, reset-both}
-use Rattle.graph.specs.Laws.Index.{bucket-below}
+use Rattle.graph.proofs.Laws.Columns.{Lent, Kept, apart, kept_same, kept_then, store_length, load_stored, load-other, store_keeps}
+use Rattle.graph.proofs.Laws.Latest.{decide, cases}
+use Rattle.graph.proofs.Laws.Walks.{reset-known, reset-plain, reset-both}
+use Rattle.graph.proofs.Laws.Index.{bucket-below}
 
 -- Places within their columns.
 pub location-below : (location : ℕ) → location % most_locations < 64
