@@ -9,4 +9,5 @@ print-requires g c =
     let args = c.args in
     let write = c.write_part-answer in
     subst (λ (n : ℕ). Within write.result n) (sym write.auto.buffer)
-    (parted-within args.table.now args.entries.now args.list.now args.regions args.blocks args.rounds args.part args.buffer.now _ _ write.ensures)
+    (parted-within args.table.now args.entries.now args.list.now args.regions args.blocks args.rounds args.part args.buffer.now _ _
+    write.ensures)
