@@ -1,5 +1,6 @@
 // The region layer, beneath: one region by itself, with its delay, its reset and what an atom says of it.
 #![tactic(auto)]
+
 mod clock;
 mod four;
 mod region;

@@ -1,7 +1,7 @@
 -- What the writers leave: total too. Each stores to the columns that it names, and to nothing else.
-use Rattle.std.specs.Prelude.{ℕ, zero, suc, ◌+◌, ◌*◌, ◌/◌, ◌%◌, ◌^◌, Bool, cond, List, set, eqb}
+use Rattle.std.specs.Prelude.{ℕ, zero, suc, ◌+◌, ◌*◌, ◌/◌, ◌%◌, ◌^◌, cond, List, set, eqb}
 use Rattle.std.specs.Int.Bits.{bit_or}
-use Rattle.graph.specs.Columns.{nothing, load, store, most_regions, most_locations, most_edges, most_branches, most_slots, edge_place}
+use Rattle.graph.specs.Columns.{nothing, store, most_regions, most_locations, most_edges, most_branches, most_slots, edge_place}
 use Rattle.graph.specs.Columns.{labels, edge_starts, edge_numbers, slot_starts, slot_keys, branch_slots}
 use Rattle.graph.specs.Columns.{class_heads, class_links, region_heads, region_links, classes, locations, delays, available_counts}
 use Rattle.graph.specs.Columns.{available}

@@ -1,5 +1,6 @@
 // A graph of regions in two lent slices: total readers, and writers. It knows neither clocks nor bisimulations.
 #![tactic(auto)]
+
 mod classes;
 mod edges;
 mod index;

@@ -181,7 +181,7 @@ printed m found list blocks rounds =
     first_line (length found) blocks rounds
     ++ (each region_line (region_records m found list)
     ++ (each block_lines (block_records m found list blocks) ++ totals_text (region_records m found list)
-        (block_records m found list blocks)))
+    (block_records m found list blocks)))
 
 abbrev pub printed_graph : Model → List Region → List ℕ
 printed_graph m found =

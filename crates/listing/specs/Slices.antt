@@ -4,7 +4,6 @@
 use Rattle.std.specs.Prelude.{ℕ, ◌+◌, ◌*◌, ◌≤◌, ◌<◌, ◌≡◌, Bool, true, false, cond, List, [], eqb, get_or}
 pub use Rattle.partition.specs.Passed.{row_room}
 pub use Rattle.partition.specs.View.{branches_from, branches_at}
-use Rattle.text.specs.Text.{up_to}
 use Rattle.listing.specs.Printed.{StepRecord, step_of, step_line}
 
 -- The step of edge e, and the line of it where it is available.

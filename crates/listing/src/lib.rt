@@ -1,5 +1,6 @@
 // The listing layer: the printed model, in parts.
 #![tactic(auto)]
+
 mod blocks;
 mod labels;
 mod lines;

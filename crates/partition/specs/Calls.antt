@@ -1,7 +1,7 @@
 -- The partition call, the pair call and the judging call (document 01, "Refusal list"): what each answers, and what the lent lists
 -- then hold, for all tables, lent lengths and numbers. The rows are those of the graph call (1 to 15), then 16, 17, 18 and 19, as far
 -- as they fit the call. The lent entries hold what the graph call leaves.
-use Rattle.std.specs.Prelude.{ℕ, Bool, cond, not, ◌||◌, List, ◌++◌, eqb, leb, ltb, length, get_or, drop, ◌≡◌}
+use Rattle.std.specs.Prelude.{ℕ, Bool, cond, not, ◌||◌, List, ◌++◌, eqb, leb, ltb, length, drop, ◌≡◌}
 use Rattle.regions.specs.Passed.{Model, Answer, refusal, accepted, read_table, Region}
 use Rattle.regions.specs.Call.{Outcome, refused, cut, whole, from_answer, outcome_of}
 use Rattle.regions.specs.Graph.{Reached}

@@ -1,6 +1,7 @@
 // The partition layer: the partition call, the pair call and the judging call, over the graph in slices. For the layer above: one
 // region by itself.
 #![tactic(auto)]
+
 mod calls;
 mod view;
 

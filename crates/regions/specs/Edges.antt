@@ -1,5 +1,5 @@
 -- The edges of a model by number and by source, as exploring uses them.
-use Rattle.std.specs.Prelude.{ℕ, zero, suc, ◌+◌, ◌≤◌, ◌<◌, ◌≡◌, refl, Bool, true, false, cond, List, []}
+use Rattle.std.specs.Prelude.{ℕ, suc, ◌≤◌, ◌<◌, ◌≡◌, refl, Bool, true, false, cond, List, []}
 use Rattle.std.specs.Prelude.{◌∷◌, map, eqb, length, get_or, set, drop, replicate}
 use Rattle.std.proofs.Common.{arith, sym, ◌∙◌, subst, length-set, drop_of_length-le, drop-cons}
 use Rattle.std.proofs.Common.{get_or-set_same, get_or-set_other, eq-eqb, eqb-true}

@@ -1,9 +1,9 @@
 -- Invariants as limits: one number for each location and clock, which the code tests instead of walking over the atoms. Every
 -- invariant atom is an upper bound, so the lowest limit of a clock stands for all of them.
-use Rattle.std.specs.Prelude.{ℕ, zero, suc, ◌+◌, ◌*◌, ◌≤◌, ◌<◌, min, ◌⊎◌, ◌≡◌, Bool, cond, not, ◌&&◌, ◌||◌, List, []}
+use Rattle.std.specs.Prelude.{ℕ, zero, suc, ◌+◌, ◌*◌, ◌≤◌, ◌<◌, min, ◌≡◌, Bool, cond, not, ◌&&◌, ◌||◌, List, []}
 use Rattle.std.specs.Prelude.{◌∷◌, ◌++◌, eqb, ltb, leb, length, get_or, set, take, replicate}
 use native.Mathlib.Omega.{arith}
-use Rattle.std.proofs.Common.{add-one, inl, inr, ◌∙◌, ap, length-set, take-suc, take_all, get_or-set_same, get_or-set_other}
+use Rattle.std.proofs.Common.{add-one, ◌∙◌, ap, length-set, take-suc, take_all, get_or-set_same, get_or-set_other}
 use Rattle.std.proofs.Math.Path.{refl, sym, subst}
 use Rattle.std.proofs.Math.Bool.{true, false}
 use borrow.Author.Tests.{eq-eqb, ne_eqb, eqb-true, eqb-false, lt-ltb, le-ltb, ltb-true, ltb-false, le-leb, leb-true}

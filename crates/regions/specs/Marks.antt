@@ -1,6 +1,6 @@
 -- Marks on where the branches of one region lead, while its edges are gone through. Branches that have mask and target in common lead
 -- from a region to the same region, so what was found of one holds of the others: a byte for each such pair keeps it.
-use Rattle.std.specs.Prelude.{ℕ, zero, suc, ◌+◌, ◌*◌, ◌≤◌, ◌<◌, ◌≡◌, refl, Bool, true, false, cond}
+use Rattle.std.specs.Prelude.{ℕ, ◌+◌, ◌*◌, ◌≤◌, ◌<◌, ◌≡◌, refl, Bool, true, false, cond}
 use Rattle.std.specs.Prelude.{List, [], ◌∷◌, eqb, ltb, length, get_or, set, replicate}
 use Rattle.std.proofs.Common.{arith, sym, ◌∙◌, ap, subst, length-set, get_or-set_same, get_or-set_other, eqb-true, ltb-true, ltb-false}
 use Rattle.std.proofs.lemmas.List.{length-replicate}
@@ -11,7 +11,7 @@ use Rattle.table.specs.declared.model.Branch.{Branch}
 use Rattle.regions.specs.Lists.{zeros-at}
 use Rattle.regions.specs.Graph.{meets, landing}
 use Rattle.regions.specs.Limits.{Limited}
-use Rattle.regions.specs.Worklist.{known, meet}
+use Rattle.regions.specs.Worklist.{known}
 use Rattle.regions.specs.Explore.{same_region, same_refl, listed, found_of, AllMet, no_next}
 use Rattle.regions.specs.Laws.Worklist.{items_of, meet-known, known-met, known-last}
 use Rattle.regions.specs.declared.explore.Met.{Met}

@@ -1,6 +1,6 @@
 -- The graph as the layers above see it: the label of a region, the number of its delay region if there is one, and its available
 -- edges with action, denominator and, for each branch, weight and the number of the target region.
-use Rattle.std.specs.Prelude.{ℕ, zero, suc, Bool, cond, List, [], ◌∷◌, map, length, get_or}
+use Rattle.std.specs.Prelude.{ℕ, suc, cond, List, [], ◌∷◌, map, length, get_or}
 use Rattle.table.specs.Model.{Model, Edge}
 use Rattle.table.specs.Reading.{Answer, refusal, accepted}
 use Rattle.table.specs.declared.model.Branch.{Branch}

@@ -1,5 +1,6 @@
 // The region layer: guards, the region graph, and the graph for the layer above.
 #![tactic(auto)]
+
 mod bounds;
 mod call;
 mod classes;

@@ -1,6 +1,6 @@
 -- The state call (document 01, "Refusal list"): where a state lies in the graph. The rows are those of the graph call (1 to 15),
 -- then 20, then 21; the lent entries hold what the graph call leaves.
-use Rattle.std.specs.Prelude.{ℕ, suc, Bool, true, false, cond, not, ◌&&◌, ◌||◌, List, [], ◌∷◌, eqb, leb, ltb, length, take}
+use Rattle.std.specs.Prelude.{ℕ, suc, Bool, false, cond, not, ◌&&◌, ◌||◌, List, [], ◌∷◌, eqb, leb, ltb, length, take}
 use Rattle.table.specs.Model.{Model}
 use Rattle.table.specs.Reading.{Answer, refusal, accepted, read_table}
 use Rattle.regions.specs.Graph.{bounds_of}

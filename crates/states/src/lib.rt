@@ -1,5 +1,6 @@
 // The region layer, above: states, and the state call.
 #![tactic(auto)]
+
 mod states;
 
 pub use states::{Placing, place_state};

@@ -1,5 +1,6 @@
 // The table layer: reads a model table, refuses it by number and place, and hands out its parts.
 #![tactic(auto)]
+
 mod access;
 mod edges;
 mod format;

@@ -1,15 +1,15 @@
 -- Structures that agree have equal rounds, blocks and judgements. Edges may be numbered in any way: each available edge of one has an equal
 -- one in the
 -- other.
-use Prim.Native.Nat.{ℕ, zero, suc, ◌*◌, ◌<◌}
-use Rattle.std.proofs.Common.{arith, sym, ◌∙◌}
-use Rattle.std.specs.Prelude.{◌≡◌, refl, Bool, true, false, ◌&&◌}
+use Prim.Native.Nat.{ℕ, zero, suc, ◌<◌}
+use Rattle.std.proofs.Common.{sym, ◌∙◌}
+use Rattle.std.specs.Prelude.{◌≡◌, refl, Bool, true, ◌&&◌}
 use Rattle.std.proofs.Math.Path.{ap, ap₂, subst}
 use Rattle.std.proofs.Math.Bool.{cond}
-use mathlib.Core.List.{List, [], ◌∷◌, Memᴰ}
+use mathlib.Core.List.{List, Memᴰ}
 use Rattle.std.proofs.Math.Dec.{eqb}
 use Rattle.bisimulation.specs.Structures.{Branch, total, Closed}
-use Rattle.bisimulation.specs.Finite.{Finite, structure, related, sum, all_below, some_below, alike, delays_match, edges_match, matches}
+use Rattle.bisimulation.specs.Finite.{Finite, structure, related, all_below, some_below, alike, delays_match, edges_match, matches}
 use Rattle.bisimulation.specs.Finite.{next}
 use Rattle.bisimulation.specs.Finite.{blocks_by, blocks, rounds, rest_from, same_list, last_blocks, block_count, leaders, accepts}
 use Rattle.bisimulation.proofs.Laws.Tests.{same_test, and-iff, cond-iff, all-below, some_below_lem, below-some}

@@ -1,9 +1,9 @@
 -- Available edges as bits: clearing leaves none, and marking a rank makes that edge available and changes no other.
 use Prim.Native.Nat.{ℕ, zero, suc, ◌+◌, ◌*◌, ◌-◌, ◌/◌, ◌%◌, ◌^◌, ◌≤◌, ◌<◌}
-use Rattle.std.proofs.Common.{arith, mod-eq_of_lt, mul-div_cancel, pow-suc, mul_assoc, ◌∙◌, ap₂, subst}
+use Rattle.std.proofs.Common.{arith, mod-eq_of_lt, mul-div_cancel, pow-suc, mul_assoc, ◌∙◌}
 use Rattle.std.proofs.Math.Nat.{mod-lt, pow-le-pow_right, div-eq_of_lt, mul-mod_left, zero-div, one-le-pow, div-add-mod, mul-add-div}
 use Rattle.std.proofs.Math.Nat.{mul-add-mod_self_left}
-use Rattle.std.specs.Prelude.{◌≡◌, Bool, true, false, List, ◌⊎◌, length}
+use Rattle.std.specs.Prelude.{◌≡◌, true, false, List, ◌⊎◌, length}
 use Rattle.std.proofs.Math.Path.{refl, sym, ap}
 use Rattle.std.proofs.Math.Logic.{inl, inr}
 use Rattle.std.proofs.Math.Dec.{eqb}

@@ -6,7 +6,7 @@ use Rattle.std.proofs.Math.Nat.{mod-eq_of_lt, div-eq_of_lt, mul-add-div, mul-add
 use Rattle.std.proofs.Math.Path.{ap, ap₂}
 use Rattle.graph.specs.Columns.{load, most_regions, most_locations, most_edges, most_branches, edge_starts, edge_numbers, branch_slots}
 use Rattle.graph.specs.Columns.{edge_place}
-use Rattle.graph.specs.Readers.{edge_start, edge_count, edge_at, branch_count, denominator_of, low_of, reset_number, reset_source}
+use Rattle.graph.specs.Readers.{edge_start, edge_count, edge_at, branch_count, denominator_of, reset_number, reset_source}
 use Rattle.graph.specs.Readers.{reset_mask}
 
 pub edges_few : (graph : List ℕ) (location : ℕ) → edge_count graph location ≤ most_edges

@@ -1,7 +1,7 @@
 -- Loading after storing: what was stored is read back, and every other place and every other column stays.
 use Rattle.std.specs.Prelude.{ℕ, zero, suc, ◌+◌, ◌%◌, ◌≤◌, ◌<◌, ◌≡◌, refl, Bool, true, false, cond, ◌||◌, List, [], ◌∷◌, ◌⊎◌, leb, eqb}
 use Rattle.std.specs.Prelude.{length, get_or}
-use Rattle.std.proofs.Common.{arith, sym, ◌∙◌, inl, inr, leb-true}
+use Rattle.std.proofs.Common.{arith, ◌∙◌, inl, inr, leb-true}
 use Rattle.std.proofs.Math.Nat.{mod-eq_of_lt}
 use Rattle.std.proofs.Math.Logic.{⊎_elim}
 use Rattle.std.proofs.Math.ListN.{length-set, get_or-eq_default}

@@ -1,6 +1,6 @@
 -- The resets backwards: the resets that lead to a class are those that were noted with it.
-use Prim.Native.Nat.{ℕ, zero, suc, ◌+◌, ◌%◌, ◌≤◌, ◌<◌}
-use Rattle.std.proofs.Common.{arith, eq-or-lt_of_le, mod-eq_of_lt, mod-lt, sym, ◌∙◌, ap, ap₂, inl, inr, eqb-true, eq-eqb, ne_eqb}
+use Prim.Native.Nat.{ℕ, zero, suc, ◌%◌, ◌≤◌, ◌<◌}
+use Rattle.std.proofs.Common.{arith, eq-or-lt_of_le, mod-eq_of_lt, sym, ◌∙◌, ap, inl, inr, eqb-true, eq-eqb, ne_eqb}
 use Rattle.std.specs.Prelude.{◌≡◌, refl, true, false, cond, ◌⊎◌, eqb, length}
 use Rattle.std.proofs.Math.Path.{subst}
 use Rattle.std.proofs.Math.Bool.{Bool}
@@ -11,7 +11,7 @@ use Rattle.graph.specs.Columns.{nothing, load, store, long, most_regions, source
 use Rattle.graph.specs.Readers.{reset_number, source_head, source_link, sources_from, sources_of}
 use Rattle.graph.specs.Writers.{with_source}
 use Rattle.graph.proofs.Laws.Columns.{Kept, store_length, load_stored, load-other, store_keeps}
-use Rattle.graph.proofs.Laws.Latest.{latest, both, decide, latest-none, latest-here, latest-past, latest-ways, latest-misses}
+use Rattle.graph.proofs.Laws.Latest.{latest, both, latest-none, latest-here, latest-past, latest-ways, latest-misses}
 use Rattle.graph.proofs.Laws.Latest.{latest-covers}
 use Rattle.graph.proofs.Laws.Stores.{region-below, number-below}
 
@@ -213,7 +213,7 @@ module _ {graph : List ℕ} {number target : ℕ → ℕ} {n : ℕ} (back : Back
       links : (t : ℕ) → (t ≡ n) ⊎ (t < n) → load source_links two (number t) ≡ number_at number (latest (leads_to target (target t)) t)
       links t (inl e) =
           rw e (store_keeps source_heads one (after % most_regions) (reset_number class mask) source_links refl (region-below after)
-              (number n)
+          (number n)
           (subst (λ (k : ℕ). k < 61440) (sym is) (number-below class mask))
           ∙ ap (load source_links one) is
           ∙ load_stored source_links graph (reset_number class mask) head (number-below class mask) (omega (arith, back.lent)) head_small
@@ -234,6 +234,6 @@ module _ {graph : List ℕ} {number target : ℕ → ℕ} {n : ℕ} (back : Back
           ∙ sym is ∙ sym (number-some number n (omega (arith, room))) ∙ sym (ap (number_at number) (latest-here (leads_to target k) n e))
       heads k h (inr e) =
           load-other source_heads one (after % most_regions) (reset_number class mask) k
-              (λ same. eqb-false (target n) k e (goes ∙ sym same))
+          (λ same. eqb-false (target n) k e (goes ∙ sym same))
           ∙ store_keeps source_links graph (reset_number class mask) head source_heads refl (number-below class mask) k h
           ∙ back.head-is k h ∙ sym (ap (number_at number) (latest-past (leads_to target k) n e))

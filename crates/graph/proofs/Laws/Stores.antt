@@ -1,23 +1,20 @@
 -- What each writer of the graph slice leaves as it was: the length, and every column but those that it names. And, for what is read by one
 -- number, that it is read back.
-use Rattle.std.specs.Prelude.{ℕ, zero, suc, ◌+◌, ◌*◌, ◌-◌, ◌/◌, ◌%◌, ◌^◌, ◌≤◌, ◌<◌, ◌≡◌, refl, Bool, true, false, cond, List, length, eqb}
+use Rattle.std.specs.Prelude.{ℕ, ◌+◌, ◌*◌, ◌-◌, ◌%◌, ◌<◌, ◌≡◌, refl, true, List, length}
 use Rattle.std.specs.Prelude.{◌⊎◌}
-use Rattle.std.proofs.Common.{arith, mod-eq_of_lt, sym, ◌∙◌, ap, subst, length-set, inl, inr}
+use Rattle.std.proofs.Common.{arith, sym, ◌∙◌, ap, subst, inl, inr}
 use Rattle.std.proofs.Math.Nat.{mod-lt}
 use Rattle.graph.specs.Columns.{nothing, Column, load, store, most_regions, most_locations, most_edges, most_branches, most_slots}
-use Rattle.graph.specs.Columns.{edge_place}
 use Rattle.graph.specs.Columns.{labels, edge_starts, edge_numbers, slot_starts, slot_keys, branch_slots}
 use Rattle.graph.specs.Columns.{class_heads, class_links, region_heads, region_links, classes, locations, delays, available_counts}
-use Rattle.graph.specs.Columns.{available}
 use Rattle.graph.specs.Columns.{resets, class_delays, slot_locations, key_heads, key_links, source_heads, source_links}
 use Rattle.graph.specs.Readers.{label_of, delay_of, location_of, available_count, delay_class}
-use Rattle.graph.specs.Readers.{key_of, key_head, available_word, reset_class, class_head, reset_number, source_head, bucket_of}
+use Rattle.graph.specs.Readers.{key_of, key_head, reset_class, class_head, reset_number, source_head, bucket_of}
 use Rattle.graph.specs.Readers.{region_head}
 use Rattle.graph.specs.Writers.{with_label, with_edge_start, with_slot_start, with_edge_number, with_branch_count, with_branch_slot}
 use Rattle.graph.specs.Writers.{with_slot}
-use Rattle.graph.specs.Writers.{with_edge}
-use Rattle.graph.specs.Writers.{with_weight, with_region, with_class, with_location, with_delay, with_available_count, cleared_words}
-use Rattle.graph.specs.Writers.{with_none_available, with_available, with_class_delay, with_source, with_reset}
+use Rattle.graph.specs.Writers.{with_region, with_class, with_location, with_delay, with_available_count}
+use Rattle.graph.specs.Writers.{with_class_delay, with_source, with_reset}
 use Rattle.graph.proofs.Laws.Columns.{Lent, Kept, apart, kept_same, kept_then, store_length, load_stored, load-other, store_keeps}
 use Rattle.graph.proofs.Laws.Latest.{decide, cases}
 use Rattle.graph.proofs.Laws.Walks.{reset-known, reset-plain, reset-both}
@@ -228,7 +225,7 @@ module _ (graph : List ℕ) (bucket class : ℕ) where
   unfolding with_class
   class-length =
       store_length class_heads _ (bucket % most_regions) class
-          ∙ store_length class_links graph (class % most_regions) (class_head graph bucket)
+      ∙ store_length class_links graph (class % most_regions) (class_head graph bucket)
 
   pub class-keeps : (other : Column) → apart class_links other ≡ true → apart class_heads other ≡ true
       → Kept other graph (with_class graph bucket class)

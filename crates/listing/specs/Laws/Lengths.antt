@@ -173,7 +173,7 @@ module _ (list rows : List ℕ) (small : (i : ℕ) → get_or rows i 0 < 65536) 
     where
       go : (t : Bool) → weight_into list c (branches_from rows (at + 2) k) ≤ 65536 * k
           → cond t (get_or rows at 0 + weight_into list c (branches_from rows (at + 2) k))
-              (weight_into list c (branches_from rows (at + 2) k))
+          (weight_into list c (branches_from rows (at + 2) k))
           ≤ 65536 * suc k
       go true rest = omega (arith, rest, small at)
       go false rest = omega (arith, rest)

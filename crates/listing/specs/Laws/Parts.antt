@@ -143,9 +143,9 @@ module _ (F : Finite) (list : List ℕ) (count b : ℕ) (delays delays' rows : L
       λ l. block_line (record { number = b; label = l; size = size_below list b (length list); delays = []; steps = [] }) in
       ap (λ (l : ℕ). head l ++ (delay_line_of b (other_blocks list count b reached) ++ up_to (step_text_at list rows count b) edges)) el
       ∙ ap (λ (r : List ℕ). head (F.label low) ++ (delay_line_of b (other_blocks list count b r) ++ up_to (step_text_at list rows count b)
-          edges)) er
+      edges)) er
       ∙ ap (λ (k : ℕ). head (F.label low) ++ (delay_line_of b (other_blocks list count b (F.delays low)) ++ up_to
-          (step_text_at list rows count b) k)) ee
+      (step_text_at list rows count b) k)) ee
       ∙ ap (λ (t : List ℕ). head (F.label low) ++ (delay_line_of b (other_blocks list count b (F.delays low)) ++ t))
       (sym (all-steps F.edges (omega arith)))
 

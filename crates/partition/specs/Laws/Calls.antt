@@ -1,6 +1,6 @@
 -- What the answers of the partition call, the pair call and the judging call say: on success the table was read as a model whose
 -- regions are all listed, and the lists hold the blocks of the last round.
-use Rattle.std.specs.Prelude.{ℕ, ◌≤◌, ◌<◌, ◌≡◌, Bool, not, ◌||◌, List, ◌++◌, eqb, leb, ltb, length, get_or, drop, replicate}
+use Rattle.std.specs.Prelude.{ℕ, ◌≤◌, ◌<◌, ◌≡◌, Bool, ◌||◌, List, ◌++◌, eqb, leb, ltb, length, get_or, drop, replicate}
 use Rattle.std.proofs.Common.{arith, sym, ◌∙◌, subst, eq-eqb, ne_eqb, lt-ltb, le-ltb, le-leb, ltb-false, leb-false}
 use Rattle.std.proofs.Math.Path.{refl, ap, ap₂}
 use Rattle.std.proofs.Math.Bool.{true, false, cond}
@@ -21,12 +21,11 @@ use Rattle.partition.specs.Instances.{graph}
 use Rattle.comparison.specs.Held.{Held}
 use Rattle.partition.specs.Laws.Shown.{whole-held}
 use Rattle.partition.specs.Calls.{Accepted, from_outcome, after_graph, is_short, is_asked_past, blocks_of, numbered_in}
-use Rattle.partition.specs.Calls.{reduce_of, list_after, shared_of, pair_of, pair_list_after, judged_of, judge_of}
+use Rattle.partition.specs.Calls.{reduce_of, list_after, shared_of, pair_of, pair_list_after, judged_of}
 use Rattle.partition.specs.declared.calls.Reduction.{Reduction}
 use Rattle.partition.specs.declared.calls.Reduction.TheVariants as B
 use Rattle.partition.specs.declared.calls.Pairing.{Pairing}
 use Rattle.partition.specs.declared.calls.Pairing.TheVariants as P
-use Rattle.partition.specs.declared.calls.Judgement.{Judgement}
 use Rattle.partition.specs.declared.calls.Judgement.TheVariants as J
 
 abbrev graph_kind : Graph → ℕ
@@ -201,7 +200,7 @@ module _ (table : List ℕ) (cap : ℕ) (first second : List ℕ) where
     pair-lists list =
         on-accepted (λ number place. list)
         (λ m found. cond (is_short (length found) first second) list
-            (cond (is_asked_past (length found) r s) list (numbered_in list m found)))
+        (cond (is_asked_past (length found) r s) list (numbered_in list m found)))
         table cap pair-accepted
         ∙ rw (said.0, said.1) refl
 
@@ -263,13 +262,13 @@ module _ (first second : List ℕ) (m : Model) (found : List Region) where
 
       pub pair-list-past : (list : List ℕ) → is_asked_past (length found) r s ≡ true
           → list ≡ cond (is_short (length found) first second) list
-              (cond (is_asked_past (length found) r s) list (numbered_in list m found))
+          (cond (is_asked_past (length found) r s) list (numbered_in list m found))
       pair-list-past list e = rw (long, e) refl
 
       module _ (below : is_asked_past (length found) r s ≡ false) where
         pub pair-list-numbered : (list list' : List ℕ) → list' ≡ numbered_in list m found
             → list' ≡ cond (is_short (length found) first second) list
-                (cond (is_asked_past (length found) r s) list (numbered_in list m found))
+            (cond (is_asked_past (length found) r s) list (numbered_in list m found))
         pair-list-numbered list list' e = rw (long, below) e
 
         -- The numbers of the two regions are looked up in a list that holds the blocks.

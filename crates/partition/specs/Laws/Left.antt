@@ -2,7 +2,7 @@
 -- lent block lists then hold (`reduced-first`, `reduced-second`); that the blocks so listed are all taken, that the graph does not
 -- lead out of its regions, and that a block has one label (`left-taken` to `left-labels`). And what one that refused says of other calls
 -- (`reduced-refused`, `no-sixteen`).
-use Rattle.std.specs.Prelude.{ℕ, ◌*◌, ◌≤◌, ◌<◌, ◌≡◌, refl, Bool, true, false, cond, get_or}
+use Rattle.std.specs.Prelude.{ℕ, ◌≤◌, ◌<◌, ◌≡◌, refl, Bool, true, false, cond, get_or}
 use Rattle.std.proofs.Common.{arith, ◌∙◌, get_or-take, eq-eqb}
 use Rattle.std.proofs.Math.Path.{sym, ap, ap₂}
 use mathlib.Core.List.{List, ◌++◌, Memᴰ}
@@ -10,7 +10,6 @@ use Rattle.std.proofs.Math.ListN.{length, take, drop, length-append}
 use Rattle.std.proofs.Math.Seq.{take_at}
 use Rattle.regions.specs.Passed.{Model, Answer, refusal, accepted, read_table, Region}
 use Rattle.regions.specs.Call.{Outcome, refused, cut, whole, from_answer, room_for, outcome_of, entries_after}
-use Rattle.regions.specs.Entries.{entry_bytes, max_entries}
 use Rattle.regions.specs.Explore.{listed}
 use Rattle.regions.specs.Laws.Bytes.{listed-whole, entries-length, room_fits}
 use Rattle.regions.specs.Laws.Call.{whole-graph}

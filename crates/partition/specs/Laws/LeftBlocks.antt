@@ -2,9 +2,9 @@
 -- rounds is the least k whose round equals the next (`left-rests`, `left-least`, `left-few`); regions have one number exactly where that
 -- round relates them (`left-related`); blocks are numbered from 0 by their lowest region (`left-before`, `left-under`, `left-each`). They
 -- are the coarsest bisimulation of the region graph (`left-bisimulation`, `left-coarsest`).
-use Rattle.std.specs.Prelude.{ℕ, suc, ◌≤◌, ◌<◌, ◌≡◌, true, List, ◌↔◌, length, get_or, take}
-use Rattle.std.proofs.Common.{arith, sym, ◌∙◌, ap, subst, get_or-take, eqb-true, eq-eqb}
-use Rattle.bisimulation.specs.Structures.{Structure, Closed}
+use Rattle.std.specs.Prelude.{ℕ, suc, ◌<◌, ◌≡◌, true, List, ◌↔◌, get_or}
+use Rattle.std.proofs.Common.{arith, sym, ◌∙◌, subst, get_or-take, eqb-true, eq-eqb}
+use Rattle.bisimulation.specs.Structures.{Structure}
 use Rattle.bisimulation.specs.Bisimulations.{Bisimulation, Round}
 use Rattle.bisimulation.specs.Finite.{Finite, structure, related, rounds, last_blocks}
 use Rattle.bisimulation.proofs.Laws.Rounds.{bisimulation-agree}
@@ -82,7 +82,7 @@ module _ {table : List ℕ} {cap n b k : ℕ} {entries list : List ℕ} (left : 
   pub left-bisimulation : Bisimulation left_structure (λ x y. get_or list x 0 ≡ get_or list y 0)
   left-bisimulation =
       bisimulation-agree left_structure (left-closed left) (λ x y. related (last_blocks F) x y ≡ true)
-          (λ x y. get_or list x 0 ≡ get_or list y 0)
+      (λ x y. get_or list x 0 ≡ get_or list y 0)
       (λ x y hx hy. let same = same_number x y (outside x hx) (outside y hy) in (same.1, same.0)) (last-bisimulation F (left-closed left))
 
   -- Whatever one relates, at any level, has one number.

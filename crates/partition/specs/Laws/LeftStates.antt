@@ -1,7 +1,7 @@
 -- States and what a partition call left: a state lies in the region of an entry exactly where it lies in a region of the graph, and in one
 -- alone (`left-lies`, `left-lies-one`); the number of that entry, in the lent list, is the state's block (`left-number`). So two numbers
 -- say whether some bisimulation over all states relates the two states (`left-given`, `left-equal`).
-use Rattle.std.specs.Prelude.{ℕ, ◌<◌, ◌≡◌, refl, ◌↔◌, length, get_or}
+use Rattle.std.specs.Prelude.{ℕ, ◌<◌, ◌≡◌, ◌↔◌, length, get_or}
 use Rattle.std.proofs.Common.{arith, sym, ◌∙◌, ap, subst}
 use mathlib.Core.List.{List, Memᴰ}
 use Rattle.regions.specs.Passed.{Region}

@@ -4,11 +4,11 @@
 -- probabilistic time-abstracting bisimulation over all states of the model relates a and b. Whenever that list finds none for the
 -- pair call on these two regions, the call says in exactly the same cases that they share no block." When the list finds none for
 -- either call is said in Success (`reduce-exactly`, `pair-exactly`).
-use Prim.Native.Nat.{ℕ, ◌<◌}
-use Rattle.std.specs.Prelude.{◌≡◌, refl, Bool, true, false, ◌↔◌, eqb, length}
+use Prim.Native.Nat.{ℕ}
+use Rattle.std.specs.Prelude.{◌≡◌, refl, Bool, true, false, ◌↔◌, length}
 use Rattle.std.proofs.Math.Path.{sym, ap, subst}
-use Rattle.std.proofs.Common.{◌∙◌, eqb-true, eq-eqb, ne_eqb}
-use Rattle.std.proofs.lemmas.Bool.{false≢true, eqb-false}
+use Rattle.std.proofs.Common.{◌∙◌, eqb-true, eq-eqb}
+use Rattle.std.proofs.lemmas.Bool.{false≢true}
 use mathlib.Core.List.{List}
 use Rattle.std.proofs.Math.ListN.{get_or}
 use Rattle.regions.specs.Passed.{Model}
@@ -18,7 +18,7 @@ use Rattle.states.specs.States.{State, IsState}
 use Rattle.states.specs.Alike.{region_in}
 use Rattle.bisimulation.specs.Bisimulations.{Bisimulation}
 use Rattle.bisimulation.specs.Finite.{related, last_blocks, block_count, rounds as last_round}
-use Rattle.partition.specs.Instances.{graph, states, place_in, block_in}
+use Rattle.partition.specs.Instances.{graph, states, block_in}
 use Rattle.partition.specs.Laws.Bisimilar.{related-states, parted-states}
 use Rattle.partition.specs.Calls.{Accepted, Inside, region_number, numbered_in, list_after, pair_of}
 use Rattle.partition.specs.Promises.{Reduced, Paired}

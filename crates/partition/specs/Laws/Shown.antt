@@ -4,12 +4,12 @@ use Rattle.std.proofs.Common.{arith, sym, ◌∙◌, inl, inr, ltb-true, lt-ltb,
 use Rattle.std.specs.Prelude.{◌≡◌, Bool, true, false, eqb, ltb, length}
 use Rattle.std.proofs.Math.Path.{refl, ap, ap₂, subst}
 use Rattle.std.proofs.Math.Bool.{cond}
-use mathlib.Core.List.{List, [], ◌∷◌, ◌++◌, map, append-nil, Memᴰ}
+use mathlib.Core.List.{List, [], ◌∷◌, map, append-nil, Memᴰ}
 use Rattle.std.proofs.Math.ListN.{get_or}
 use Rattle.regions.specs.Passed.{Model, edge_of, no_branch, read_table, accepted, Branch as ModelBranch, Region}
 use Rattle.regions.specs.Graph.{bounds_of, meets, landing, available, delay_next, gather, first, goes}
 use Rattle.regions.specs.View.{number_in, delay_numbers}
-use Rattle.regions.specs.Shown.{Shown, followers, branch_of, open_below as shown_below}
+use Rattle.regions.specs.Shown.{Shown, open_below as shown_below}
 use Rattle.regions.specs.Call.{whole, outcome_of}
 use Rattle.regions.specs.Laws.Call.{whole-graph, whole-model}
 use Rattle.regions.specs.Order.{AllRegions}

@@ -1,17 +1,17 @@
 -- When the partition call and the pair call succeed, that an accepted table has one model and one list of regions whatever was lent,
 -- and that the two calls say the same.
-use Rattle.std.specs.Prelude.{ℕ, ◌≤◌, ◌<◌, ◌⊎◌, ◌↔◌, ◌≡◌, Bool, true, false, ◌||◌, List, [], eqb, leb, ltb, length, get_or}
-use Rattle.std.proofs.Common.{arith, inl, inr, sym, ◌∙◌, ap, ap₂, subst}
+use Rattle.std.specs.Prelude.{ℕ, ◌≤◌, ◌<◌, ◌↔◌, ◌≡◌, Bool, true, false, List, [], leb, length, get_or}
+use Rattle.std.proofs.Common.{arith, sym, ◌∙◌, ap, ap₂}
 use Rattle.std.proofs.Math.Path.{refl}
 use Rattle.std.proofs.Math.Bool.{cond}
 use borrow.Author.Tests.{eqb-true, eq-eqb, le-ltb, lt-leb, leb-true, leb-false}
-use Rattle.regions.specs.Passed.{Model, Answer, refusal, accepted, read_table, Region}
-use Rattle.regions.specs.Call.{Outcome, refused, cut, whole, outcome_of}
+use Rattle.regions.specs.Passed.{Model, Answer, refusal, accepted, Region}
+use Rattle.regions.specs.Call.{Outcome, refused, cut, whole}
 use Rattle.regions.specs.Laws.Call.{more_room}
 use Rattle.bisimulation.specs.Finite.{related, last_blocks, rounds, block_count}
 use Rattle.partition.specs.Instances.{graph}
-use Rattle.partition.specs.Calls.{is_short, is_asked_past, blocks_of, numbered_in, shared_of, reduce_of, list_after, pair_of}
-use Rattle.partition.specs.Laws.Calls.{on-accepted, blocks-are, numbered-at, reduce-accepted, reduce-long, reduce-lists}
+use Rattle.partition.specs.Calls.{is_short, blocks_of, numbered_in, shared_of, reduce_of, list_after, pair_of}
+use Rattle.partition.specs.Laws.Calls.{on-accepted, numbered-at, reduce-accepted, reduce-long, reduce-lists}
 use Rattle.partition.specs.Laws.Calls.{pair-accepted, pair-shares, pair-long, pair-below}
 use Rattle.partition.specs.Calls.{Accepted}
 use Rattle.partition.specs.declared.calls.Reduction.TheVariants as B
@@ -59,7 +59,7 @@ module _ (table : List ℕ) (cap : ℕ) (a : Accepted table cap) (first second :
   unfolding list_after
   reduce-holds list =
       on-accepted (λ number place. list) (λ m found. cond (is_short (length found) first second) list (numbered_in list m found)) table cap
-          a
+      a
       ∙ rw not_short refl
 
   -- The pair call, where moreover both numbers are those of regions.

@@ -1,20 +1,20 @@
 -- Whether a state that breaks its invariant has a zero delay does not matter: over the states with that delay (`states_zero`) and over
 -- those without (`states`) two states in regions of the graph are related by some bisimulation in the same cases (`zero-delay-alike`). The
 -- number of its region is a placing of each state in both, since a region of the graph meets its invariant, and so reaches itself.
-use Rattle.std.specs.Prelude.{ℕ, ◌<◌, ◌≡◌, ◌↔◌, ◌⊎◌, length, get_or}
-use Rattle.std.proofs.Common.{sym, ◌∙◌, ap, subst, inl, inr, ⊎_elim}
+use Rattle.std.specs.Prelude.{ℕ, ◌<◌, ◌≡◌, ◌↔◌, length, get_or}
+use Rattle.std.proofs.Common.{sym, ap, subst, inl, inr, ⊎_elim}
 use mathlib.Core.List.{List, Memᴰ}
 use Rattle.std.proofs.Math.Logic.{∥∥₁_map}
 use Rattle.regions.specs.Passed.{Model, read_table, accepted, Region}
 use Rattle.regions.specs.Call.{whole, outcome_of}
-use Rattle.regions.specs.Graph.{Reached, DelaysTo, stays}
+use Rattle.regions.specs.Graph.{Reached, stays}
 use Rattle.regions.specs.Laws.Call.{whole-model, reached-meets}
 use Rattle.states.specs.States.{State, IsState, Same, Delays}
 use Rattle.states.specs.Alike.{region_in}
 use Rattle.states.specs.Laws.States.{same_refl, same-sym, same-trans}
 use Rattle.bisimulation.specs.Structures.{Closed}
 use Rattle.bisimulation.specs.Bisimulations.{Bisimulation}
-use Rattle.bisimulation.specs.Finite.{structure, rounds}
+use Rattle.bisimulation.specs.Finite.{rounds}
 use Rattle.bisimulation.proofs.Laws.Blocks.{last-rests}
 use Rattle.bisimulation.proofs.Laws.Transfer.{transfer-related, transfer-parted}
 use Rattle.bisimulation.specs.Placings.{Respects, Placing}

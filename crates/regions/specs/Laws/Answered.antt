@@ -1,15 +1,14 @@
 -- Laws for the code of the graph call: entries that were listed are the bytes of their regions, and how its steps are put together.
-use Rattle.std.specs.Prelude.{ℕ, zero, suc, ◌+◌, ◌*◌, ◌/◌, ◌≤◌, min, ◌≡◌, refl, true, false, cond}
+use Rattle.std.specs.Prelude.{ℕ, zero, suc, ◌+◌, ◌*◌, ◌≤◌, ◌≡◌, refl, true, false}
 use Rattle.std.specs.Prelude.{List, [], ◌∷◌, ◌++◌, length, get_or, take, drop}
 use Rattle.std.proofs.Common.{arith, sym, ◌∙◌, ap, ap₂, append_assoc, append-nil, take-append-drop}
 use Rattle.std.proofs.Common.{length-drop, take-add, get_or-drop, ext_get_or}
 use Rattle.table.specs.Model.{Model}
-use Rattle.table.specs.Reading.{Answer, refusal, accepted, read_table}
-use Rattle.regions.specs.Entries.{entry_bytes, max_entries, bytes_of, region_at}
+use Rattle.table.specs.Reading.{accepted}
+use Rattle.regions.specs.Entries.{entry_bytes, bytes_of, region_at}
 use Rattle.regions.specs.Graph.{bounds_of, meets, next_of, first}
-use Rattle.regions.specs.Worklist.{Found, complete, full, explore}
+use Rattle.regions.specs.Worklist.{complete, full, explore}
 use Rattle.regions.specs.Explore.{same_region, listed, listed-length, Left}
-use Rattle.regions.specs.declared.call.Graph.{Graph}
 use Rattle.regions.specs.declared.call.Graph.TheVariants.{Refused, Regions}
 use Rattle.clocks.specs.declared.region.Region.{Region}
 use Rattle.regions.specs.Call.{from_found, refused, from_answer, graph_of, flat, entries_after}

@@ -1,6 +1,6 @@
 -- Laws on the graph call: what its answer says about the regions that are reached, without a word of exploring. The layers above go
 -- by these.
-use Rattle.std.specs.Prelude.{ℕ, ◌≤◌, ◌<◌, ◌⊎◌, ◌↔◌, ◌≡◌, Bool, true, false, cond, ◌&&◌, length, get_or}
+use Rattle.std.specs.Prelude.{ℕ, ◌≤◌, ◌<◌, ◌⊎◌, ◌↔◌, ◌≡◌, Bool, true, false, cond, ◌&&◌, length}
 use Rattle.std.proofs.Common.{arith, inl, inr, ⊎_elim, ◌∙◌, length-append}
 use Rattle.std.proofs.Math.Path.{refl, sym, ap, subst}
 use mathlib.Core.List.Memᴰ
@@ -14,7 +14,7 @@ use Rattle.regions.specs.Graph.{Leads, by-delay, by-edge, Reached, begun, led}
 use Rattle.regions.specs.Worklist.{Found, complete, full, explore, Reach, here, on}
 use Rattle.regions.specs.Explore.{both_true, same_region, same_true, same_refl}
 use Rattle.regions.specs.Call.{Outcome, refused, cut, whole, from_found, from_answer, outcome_of}
-use Rattle.regions.specs.Worklist.{Begins, Different}
+use Rattle.regions.specs.Worklist.{Begins}
 use Rattle.regions.specs.Order.{AllRegions, FirstRegions, Begun, MoreReached}
 use Rattle.regions.specs.Laws.Worklist.{different-grown, no_more, complete-all, full-room, full-first, larger-complete, larger-full}
 use Rattle.regions.specs.Laws.Worklist.{items_of}

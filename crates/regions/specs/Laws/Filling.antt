@@ -5,19 +5,18 @@ use Rattle.std.proofs.Common.{get_or-set_other, eqb-true, ltb-true, ltb-false, l
 use Rattle.std.proofs.Math.Numerals.{add-one}
 use Rattle.std.proofs.Math.Path.{sym, ap}
 use Rattle.std.proofs.Math.Bool.{cond}
-use mathlib.Core.List.Memᴰ
 use mathlib.Core.List.{List, [], ◌∷◌, map, Memᴰ}
 use Rattle.std.proofs.Math.Seq.{set_out}
 use Rattle.std.proofs.lemmas.Bool.{eqb-false}
 use Rattle.table.specs.Model.{Model}
 use Rattle.regions.specs.Entries.{entry_bytes, max_entries, region_at}
-use Rattle.regions.specs.Graph.{delay_next, first}
+use Rattle.regions.specs.Graph.{delay_next}
 use Rattle.regions.specs.Index.{hash_of, Index, Added, index_on}
 use Rattle.regions.specs.Explore.{listed, listed-length, listed_at}
 use Rattle.regions.specs.View.{number_in, label_of, delay_numbers}
 use Rattle.regions.specs.Shown.{followers, open_below}
 use Rattle.regions.specs.Filling.{Run, Blocks, Before, InUse, no-reset, by-branch, Still, RowFlagged, Flagged}
-use Rattle.regions.specs.Filling.{bare, Apart, Distinct, Classed, Grouped, Numbers}
+use Rattle.regions.specs.Filling.{bare, Apart, Distinct, Classed, Grouped}
 use Rattle.regions.specs.Order.{AllRegions}
 use Rattle.regions.specs.Laws.Worklist.{member}
 use Rattle.regions.specs.Laws.View.{number_at, delay-number}

@@ -12,7 +12,6 @@ use Rattle.table.specs.Access.{no_branch, no_edge}
 use Rattle.table.proofs.Laws.Models.{sound}
 use Rattle.table.proofs.Laws.Sized.{byte-sized}
 use Rattle.table.specs.declared.model.Branch.{Branch}
-use Rattle.table.specs.declared.model.Shape.{Shape}
 use Rattle.regions.specs.Filling.{Before, three_set, Fitting, RowTo, RowsTo}
 use Rattle.regions.specs.Laws.Bounds.{all-at}
 use Rattle.regions.specs.Laws.Filling.{before-none, before_on}

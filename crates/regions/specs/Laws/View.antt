@@ -1,13 +1,13 @@
 -- Laws on the graph as the layers above see it: numbers of regions, and labels. In a graph that was listed whole, delays and
 -- steps lead to numbers of regions, and the region of that number is the one that follows, or the one landed in.
-use Rattle.std.specs.Prelude.{ℕ, zero, suc, ◌+◌, ◌≤◌, ◌<◌, ◌≡◌, refl, Bool, true, false, cond, length, get_or, drop}
+use Rattle.std.specs.Prelude.{ℕ, suc, ◌+◌, ◌≤◌, ◌<◌, ◌≡◌, refl, Bool, true, false, cond, length, get_or, drop}
 use Rattle.std.proofs.Common.{arith, add-one, sym, ◌∙◌, subst, drop_of_length-le, drop-cons}
 use Rattle.std.proofs.Math.Path.{ap}
 use mathlib.Core.List.Memᴰ
 use mathlib.Core.List.{List, [], ◌∷◌, Memᴰ}
 use Rattle.table.specs.Model.{Model, Edge}
 use Rattle.table.specs.declared.model.Branch.{Branch}
-use Rattle.regions.specs.Graph.{bounds_of, landing, available, delay_next, gather, edge_next, Leads, by-delay, by-edge, Reached, led}
+use Rattle.regions.specs.Graph.{bounds_of, landing, available, delay_next, Leads, by-delay, by-edge, led}
 use Rattle.regions.specs.Graph.{DelaysTo, stays, goes}
 use Rattle.regions.specs.Explore.{same_region, same_true, same_refl}
 use Rattle.regions.specs.View.{number_in, label_of}

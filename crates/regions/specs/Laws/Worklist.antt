@@ -7,7 +7,7 @@
 use Prim.Native.Nat.{ℕ, zero, suc, ◌+◌, ◌-◌, ◌≤◌, ◌<◌}
 use Rattle.std.proofs.Common.{arith, not-suc-le-zero, le_of_suc-le-suc, inl, inr, ⊎_elim, sym, ap, subst, ◌∙◌}
 use Rattle.std.proofs.Common.{length-append, get_or-append-add, ltb-true, ltb-false, lt-ltb, le-ltb}
-use Rattle.std.specs.Prelude.{◌⊎◌, ◌↔◌, ◌≡◌, Bool, true, false, cond, ◌||◌, ltb, length, get_or}
+use Rattle.std.specs.Prelude.{◌⊎◌, ◌↔◌, ◌≡◌, Bool, true, false, ◌||◌, ltb, length, get_or}
 use Rattle.std.proofs.Math.Path.{refl}
 use mathlib.Core.List.Memᴰ
 use mathlib.Core.List.{List, [], ◌∷◌, ◌++◌, append_assoc, append-nil, Memᴰ}

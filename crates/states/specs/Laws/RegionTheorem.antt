@@ -2,7 +2,7 @@
 -- with fractions as clock values, does so under the automaton's own rules" (`each-state-leads`; `each-state-delays` and
 -- `each-state-steps` say more). So a reader may think of states, and the program goes by regions. Every well-formed region
 -- has a state (`formed-state`), and the region of a state stands in one entry of the graph, or in none (`one_entry`, `no-entry`).
-use Rattle.std.specs.Prelude.{ℕ, ◌≤◌, ◌<◌, ◌↔◌, ◌≡◌, refl, true, ◌&&◌, length}
+use Rattle.std.specs.Prelude.{ℕ, ◌≤◌, ◌<◌, ◌↔◌, ◌≡◌, refl, true, length}
 use Rattle.std.proofs.Common.{sym, ◌∙◌, subst}
 use mathlib.Core.List.{List, Memᴰ}
 use Rattle.table.specs.Access.{no_edge}
@@ -12,10 +12,10 @@ use Rattle.table.specs.Reading.{accepted, read_table}
 use Rattle.table.specs.Reads.{edge_of}
 use Rattle.table.specs.Sound.{Sound}
 use Rattle.table.specs.declared.model.Branch.{Branch}
-use Rattle.regions.specs.Graph.{bounds_of, fits, lands, landing, available, DelaysTo, Reached}
+use Rattle.regions.specs.Graph.{bounds_of, landing, available, DelaysTo, Reached}
 use Rattle.states.specs.States.{State, IsState, Same, Delays, enabled, target}
 use Rattle.states.specs.Placing.{placed}
-use Rattle.states.specs.Covering.{Covers, Waits}
+use Rattle.states.specs.Covering.{Covers}
 use Rattle.regions.specs.Entries.{region_at}
 use Rattle.regions.specs.Call.{whole, outcome_of, entries_after}
 use Rattle.states.specs.Laws.States.{same-placed, enabled-placed, target-placed, delays-state, delays-placed}

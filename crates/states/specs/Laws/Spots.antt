@@ -1,15 +1,14 @@
 -- Laws for the code that places a state: each clock by its whole part and fraction, ranks by counting, and the region of the four clocks.
 use Rattle.std.specs.Prelude.{ℕ, zero, suc, ◌+◌, ◌*◌, ◌/◌, ◌%◌, ◌≤◌, ◌<◌, min, ◌≡◌, refl, Bool, true, false, cond}
-use Rattle.std.specs.Prelude.{not, ◌&&◌, ◌||◌, List, [], ◌∷◌, map, eqb, leb, ltb, length, get_or}
+use Rattle.std.specs.Prelude.{not, ◌&&◌, ◌||◌, List, [], ◌∷◌, map, eqb, leb, length, get_or}
 use Rattle.std.proofs.Common.{arith, mul-le-mul_right, div-lt_iff_lt-mul, sym, ◌∙◌, ap, ap₂, eq-eqb, ne_eqb}
 use Rattle.std.proofs.Common.{eqb-true, lt-ltb, le-ltb, le-leb, leb-true, leb-false}
 use Rattle.std.proofs.lemmas.Bool.{eqb-false, lt-leb}
 use Rattle.clocks.specs.Cells.{Cell, over, at, fraction_of, member, rank, closed, close}
 use Rattle.clocks.specs.Packed.{over_part, clock_of, byte_at, pack}
 use Rattle.states.specs.StateCall.{asked}
-use Rattle.states.specs.Placing.{value_cell, state_cell, state_cells, placed}
+use Rattle.states.specs.Placing.{value_cell, state_cell, placed}
 use Rattle.clocks.specs.declared.region.Bounds.{Bounds}
-use Rattle.clocks.specs.declared.region.Region.{Region}
 use Rattle.states.specs.declared.states.Spot.{Spot}
 use Rattle.states.specs.declared.states.Spots.{Spots}
 use Rattle.states.specs.Spots.{value_at, SpotIs, SpotsAre, spot_fractions, spot_wholes, spot_ranks, is_fresh, fresh_count}

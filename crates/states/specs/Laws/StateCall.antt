@@ -5,13 +5,13 @@ use Rattle.std.proofs.Math.Path.{refl}
 use borrow.Author.Tests.{eq-eqb, ne_eqb, lt-ltb, le-ltb, le-leb, lt-leb, ltb-true}
 use Rattle.table.specs.Model.{Model}
 use Rattle.table.specs.Reading.{accepted, read_table}
-use Rattle.regions.specs.Graph.{largest_constant, bounds_of}
+use Rattle.regions.specs.Graph.{bounds_of}
 use Rattle.states.specs.States.{State}
 use Rattle.clocks.specs.Cells.{Cell, over, close}
 use Rattle.clocks.specs.Packed.{pack}
 use Rattle.states.specs.Placing.{value_cell, state_cell, state_cells, placed}
 use Rattle.regions.specs.Explore.{listed}
-use Rattle.regions.specs.Entries.{Tells, max_entries}
+use Rattle.regions.specs.Entries.{max_entries}
 use Rattle.regions.specs.Call.{Outcome, refused, cut, whole, from_answer, outcome_of, graph_of, entries_after}
 use Rattle.regions.specs.View.{number_in}
 use Rattle.states.specs.StateCall.{most_denominator, strays, is_not_taken, own_state, numbered, placed_among}

@@ -1,6 +1,5 @@
 -- `rank_of` meets its contract. The loop's invariant: the count is the rank of the number looked at last. The measure is what is
 -- left of the fraction. Assumes nothing.
-use Prim.Native.Nat.{◌-◌}
 use mathlib.Core.Path.{◌≡◌, ◌∙◌, ap, refl}
 use mathlib.Core.List.{[], ◌∷◌}
 use native.Mathlib.Omega.{arith}

@@ -1,7 +1,6 @@
 -- `and_four` meets its contract: the first that is false decides. Assumes nothing.
 use mathlib.Core.Path.{sym, ◌∙◌, ap, ap₂}
 use mathlib.Core.Bool.{Bool, true, ◌&&◌, and-true}
-use borrow.Author.Tests.{not-true, not-false}
 use Rattle.clocks.proofs.four.and_four.Goals as goal
 
 pub returns-then-not-a : goal.returns-then-not-a

@@ -1,5 +1,4 @@
 -- `close_among` meets its contract: each of the four clocks, as its method gives it. Assumes nothing.
-use Rattle.clocks.specs.Cells.{close}
 use Rattle.clocks.proofs.four.close_among.Goals as goal
 
 pub returns : goal.returns

@@ -2,7 +2,6 @@
 use Prim.Native.Nat.{ℕ, ◌%◌}
 use mathlib.Core.Path.{sym, ◌∙◌, ap}
 use mathlib.Core.List.{List}
-use Rattle.graph.specs.Readers.{reset_class}
 use Rattle.graph.specs.Writers.{with_source}
 use Rattle.graph.specs.Columns.{store}
 use Rattle.graph.proofs.Laws.Walks.{reset-known, reset-plain, reset-both}

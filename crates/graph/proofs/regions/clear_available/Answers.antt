@@ -1,5 +1,4 @@
 -- Loop: the first words are cleared, and nothing else has changed. Measure: the words that are left.
-use Prim.Native.Nat.{◌-◌}
 use mathlib.Core.Path.{◌∙◌, ap}
 use native.Mathlib.Omega.{arith}
 use Rattle.graph.specs.Columns.{store}

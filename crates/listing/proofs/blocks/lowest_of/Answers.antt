@@ -3,7 +3,6 @@ use Rattle.listing.specs.Laws.Blocks.{lowest_start, lowest-here, lowest-past, lo
 use native.Mathlib.Omega.{arith}
 use mathlib.Core.Path.{sym, ◌∙◌}
 use lib.ListN.{length}
-use Prim.Native.Nat.{◌-◌}
 use Rattle.listing.proofs.blocks.lowest_of.Goals as goal
 
 pub loop-x-init : goal.loop-x-init

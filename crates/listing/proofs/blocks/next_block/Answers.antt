@@ -3,9 +3,8 @@ use Rattle.listing.specs.Printed.{is_among}
 use Rattle.listing.specs.Slices.{Next}
 use Rattle.listing.specs.Laws.Blocks.{next_start, next-better, next-same, next-end, better-yes, better-no}
 use mathlib.Core.Path.{sym, ◌∙◌, ap, subst}
-use mathlib.Core.Logic.{⊎_elim}
 use lib.ListN.{get_or, take}
-use Prim.Native.Nat.{ℕ, ◌-◌, ◌+◌}
+use Prim.Native.Nat.{ℕ, ◌+◌}
 use Rattle.listing.proofs.blocks.next_block.Goals as goal
 use Rattle.listing.proofs.blocks.next_block.Goals.{then-is_better, else-is_better}
 
@@ -27,15 +26,15 @@ loop-i-preserved c =
     Next (λ b. is_among args.list.now b (take (loop.i + 1) args.regions.now)) args.from args.count k
     in
     elim c.if-is_better.branch [
-      then-is_better p ↦
-    let better = better-yes args.from v.result loop.best (sym is-better.ensures ∙ p.if-is_better.true) in
-    subst on (sym p.best-is)
-    (next-better args.list.now args.regions.now args.from args.count loop.best loop.i v.result inside is loop.invariant
-    better.0 better.1)
-    | else-is_better p ↦
-    let worse = better-no args.from v.result loop.best (sym is-better.ensures ∙ p.if-is_better.false) in
-    subst on (sym p.best-is)
-    (next-same args.list.now args.regions.now args.from args.count loop.best loop.i v.result inside is loop.invariant worse)
+      | then-is_better p ↦
+          let better = better-yes args.from v.result loop.best (sym is-better.ensures ∙ p.if-is_better.true) in
+          subst on (sym p.best-is)
+          (next-better args.list.now args.regions.now args.from args.count loop.best loop.i v.result inside is loop.invariant
+          better.0 better.1)
+      | else-is_better p ↦
+          let worse = better-no args.from v.result loop.best (sym is-better.ensures ∙ p.if-is_better.false) in
+          subst on (sym p.best-is)
+          (next-same args.list.now args.regions.now args.from args.count loop.best loop.i v.result inside is loop.invariant worse)
     ]
 
 pub returns : goal.returns

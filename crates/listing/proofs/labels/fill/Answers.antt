@@ -1,5 +1,4 @@
 -- The first i numbers of the slice are the label. Measure: the numbers that are left.
-use Prim.Native.Nat.{◌-◌}
 use native.Mathlib.Omega.{arith}
 use mathlib.Core.Path.{refl, ◌∙◌}
 use lib.ListN.{length, length-set}
@@ -29,5 +28,5 @@ returns c =
     let args = c.args in
     let loop = c.loop-i in
     filled-all (λ j. args.label) loop.labels loop.i (length args.labels.now) loop.invariant.1
-        (omega (arith, c.loop-i-test.false, loop.invariant.1))
+    (omega (arith, c.loop-i-test.false, loop.invariant.1))
     loop.invariant.2 loop.invariant.0

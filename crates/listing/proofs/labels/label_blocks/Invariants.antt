@@ -1,5 +1,5 @@
 -- Each block has the label of its lowest region from x on. Measure: x.
-use Prim.Native.Nat.{◌-◌, ◌≤◌}
+use Prim.Native.Nat.{◌≤◌}
 use mathlib.Core.Path.{◌≡◌}
 use lib.ListN.{length}
 use Rattle.listing.specs.Laws.Labels.{Labelled}

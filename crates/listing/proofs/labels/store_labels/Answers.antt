@@ -1,5 +1,5 @@
 -- The first x numbers of the slice are the labels of the first x regions. Measure: the numbers that are left.
-use Prim.Native.Nat.{ℕ, ◌-◌}
+use Prim.Native.Nat.{ℕ}
 use native.Mathlib.Omega.{arith}
 use mathlib.Core.Path.{refl, ◌∙◌, ap}
 use mathlib.Core.List.{List}
@@ -44,4 +44,4 @@ returns c =
     let loop = c.loop-x in
     λ m is. filled-all (λ x. (graph m (listed args.entries.now (length args.labels.now))).label x) loop.labels loop.x
     (length args.labels.now) loop.invariant.1 (omega (arith, c.loop-x-test.false, loop.invariant.1)) loop.invariant.2
-        (loop.invariant.0 m is)
+    (loop.invariant.0 m is)

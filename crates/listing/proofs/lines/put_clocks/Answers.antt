@@ -5,7 +5,7 @@ use Rattle.text.specs.Laws.Writing.{adds_none, adds_then, adds_same}
 use Rattle.listing.specs.Laws.Texts.{clocks_to, clocks-on}
 use native.Mathlib.Omega.{arith}
 use mathlib.Core.Path.{◌≡◌, ap}
-use Prim.Native.Nat.{ℕ, ◌-◌}
+use Prim.Native.Nat.{ℕ}
 use Rattle.listing.proofs.lines.put_clocks.Goals as goal
 
 pub loop-i-init : goal.loop-i-init

@@ -54,7 +54,7 @@ block_text-requires c =
     let pre = c.requires in
     let args = c.args in
     let lowest-of = c.lowest_of-low in
-    let show-item = c.show_item-shown in 
+    let show-item = c.show_item-shown in
     record {
       blocks_le_max_entries = (
         omega (arith, pre.1, pre.2),

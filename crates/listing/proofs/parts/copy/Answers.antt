@@ -3,7 +3,7 @@ use Rattle.listing.specs.Laws.Buffers.{copied-length, copied_on}
 use native.Mathlib.Omega.{arith}
 use mathlib.Core.Path.{◌≡◌, refl, ◌∙◌, ap}
 use mathlib.Core.List.{List, ◌++◌}
-use Prim.Native.Nat.{ℕ, ◌-◌, ◌≤◌, ◌<◌}
+use Prim.Native.Nat.{ℕ, ◌≤◌, ◌<◌}
 use lib.ListN.{length, take, drop, get_or, set}
 use Rattle.listing.proofs.parts.copy.Goals as goal
 

@@ -13,7 +13,7 @@ use Rattle.listing.proofs.parts.deliver.Goals as goal
 pub returns-then-k-eq0 : goal.returns-then-k-eq0
 returns-then-k-eq0 c =
     let args = c.args in
-    let zero-k = c.if-k-eq0.true in 
+    let zero-k = c.if-k-eq0.true in
     record {
       value = sym (ap (λ (j : ℕ). fitted (take j args.text.now) (length args.buffer.now)) zero-k);
       buffer_after = sym
@@ -27,7 +27,7 @@ returns-then-buffer-k c =
     let pre = c.requires in
     let part = take args.k args.text.now in
     let long = length-take-le args.k args.text.now pre in
-    let short = c.if-buffer-k.true in 
+    let short = c.if-buffer-k.true in
     record {
       value = sym (fitted_short part (length args.buffer.now) (omega (arith, long, short)) ∙ ap P.Short long);
       buffer_after = sym (after-short part args.buffer.now (omega (arith, long, short)));
@@ -42,7 +42,7 @@ returns c =
     let copy = c.copy in
     let part = take args.k args.text.now in
     let long = length-take-le args.k args.text.now pre in
-    let room : length part ≤ length args.buffer.now = omega (arith, long, if2.false) in 
+    let room : length part ≤ length args.buffer.now = omega (arith, long, if2.false) in
     record {
       value = sym (fitted-written part (length args.buffer.now) (omega (arith, long, if1.false)) room ∙ ap P.Written long);
       buffer_after = copy.ensures

@@ -4,7 +4,6 @@ use native.Mathlib.Omega.{arith}
 use mathlib.Core.Path.{◌≡◌, sym, ◌∙◌, ap}
 use lib.ListN.{length, take}
 use lib.Seq.{length-take-le}
-use borrow.Author.Tests.{not-true, not-false}
 use Rattle.partition.specs.Passed.{listed}
 use Rattle.listing.specs.Parts.{part_text}
 use Rattle.listing.specs.Laws.Parts.{gives_same, borne-parts, parted-read, parted-not}

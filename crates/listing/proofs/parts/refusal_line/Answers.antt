@@ -25,7 +25,7 @@ returns c =
     let put = c.put_refusal-k.ensures in
     let deliver = c.deliver in
     let room = refusal-fits args.number args.place (fits.number.fits) (fits.place.fits) in
-    let line = (adds-all put (omega (arith, room, length-replicate {A = ℕ} 128 0))).1 in 
+    let line = (adds-all put (omega (arith, room, length-replicate {A = ℕ} 128 0))).1 in
     record {
       value = deliver.ensures.value ∙ ap (λ (l : List ℕ). fitted l (length args.buffer.now)) line;
       buffer_after = deliver.ensures.buffer_after ∙ ap (λ (l : List ℕ). buffer_after l args.buffer.now) line;

@@ -1,7 +1,6 @@
 -- `put_others` meets its contract. Assumes nothing.
-use Prim.Native.Nat.{◌-◌}
 use native.Mathlib.Omega.{arith}
-use mathlib.Core.Bool.{true, not, ◌&&◌}
+use mathlib.Core.Bool.{not, ◌&&◌}
 use lib.Dec.{eqb}
 use Rattle.text.specs.Text.{field}
 use Rattle.listing.specs.Printed.{is_among}

@@ -31,7 +31,7 @@ put_shares-three-requires c =
     let number-at3 = c.number_at-2 in
     let args = c.args in
     let most : number_at.result ≤ 8 = omega (arith, number_at.ensures.0, pre.e_bound_2) in
-    let long = list-targets.auto.targets ∙ room-front number_at.result most in 
+    let long = list-targets.auto.targets ∙ room-front number_at.result most in
     record {
       from_bound = (omega (arith, pre.e_bound), omega (arith, long, most), number-at3.ensures.1);
       targets_value = list-targets.ensures ∙ ap (λ (n : ℕ). targets_of (branches_from args.rows.now (32 * args.e + 4) n))

@@ -1,8 +1,6 @@
 -- `put_steps` meets its contract. Assumes nothing.
-use Prim.Native.Nat.{◌-◌}
 use native.Mathlib.Omega.{arith}
 use mathlib.Core.Path.{◌≡◌, sym, ◌∙◌, ap}
-use mathlib.Core.Logic.{⊎_elim}
 use Rattle.text.specs.Text.{up_to}
 use Rattle.listing.specs.Slices.{step_text_at}
 use Rattle.text.specs.Laws.Writing.{adds_none, adds_same}
@@ -26,7 +24,7 @@ put_step-now-requires c =
     let pre = c.requires in
     let loop = c.loop-e in
     let number_at = c.number_at in
-    let if1 = c.if-number_at-eq1 in 
+    let if1 = c.if-number_at-eq1 in
     record {
       e_bound = omega (arith, loop-test.true, pre.edges_bound);
       e_bound_2 = pre.by_index loop.e loop-test.true (sym number_at.ensures.0 ∙ if1.true);
@@ -50,13 +48,13 @@ loop-e-preserved c =
     let number_at = c.number_at in
     let loop-test = c.loop-e-test in (
       elim c.if-number_at-eq1.branch [
-      then-number_at-eq1 w ↦
-    step-taken args.list.now args.rows.now args.count args.own loop.e w.text-is w.now-is
-          (sym number_at.ensures.0 ∙ w.if-number_at-eq1.true) loop.invariant.0 w.put_step-now.ensures
-    | else-number_at-eq1 w ↦
-    step_left args.list.now args.rows.now args.count args.own loop.e w.text-is w.now-is
-          (λ e. w.if-number_at-eq1.false (number_at.ensures.0 ∙ e)) loop.invariant.0
-    ],
+        | then-number_at-eq1 w ↦
+            step-taken args.list.now args.rows.now args.count args.own loop.e w.text-is w.now-is
+            (sym number_at.ensures.0 ∙ w.if-number_at-eq1.true) loop.invariant.0 w.put_step-now.ensures
+        | else-number_at-eq1 w ↦
+            step_left args.list.now args.rows.now args.count args.own loop.e w.text-is w.now-is
+            (λ e. w.if-number_at-eq1.false (number_at.ensures.0 ∙ e)) loop.invariant.0
+      ],
       omega (arith, loop-test.true),
     )
 

@@ -45,4 +45,4 @@ pub returns : goal.returns
 returns c =
     let args = c.args in
     ten-thousandths-half args.weight args.denominator c.if-denominator-eq0.false
-        (omega (arith, c.if-remainder-denominator.false, c.if-denominator-remainder.false))
+    (omega (arith, c.if-remainder-denominator.false, c.if-denominator-remainder.false))

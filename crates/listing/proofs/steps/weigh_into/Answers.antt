@@ -1,5 +1,5 @@
 -- `weigh_into` meets its contract. Assumes nothing.
-use Prim.Native.Nat.{ℕ, ◌+◌, ◌-◌}
+use Prim.Native.Nat.{ℕ, ◌+◌}
 use native.Mathlib.Omega.{arith}
 use mathlib.Core.Path.{sym, ◌∙◌, ap}
 use lib.ListN.{get_or}
@@ -74,7 +74,7 @@ loop-i-preserved c =
       omega (arith, loop.invariant.0),
       weight-miss args.list.now args.rows.now args.c args.from args.k loop.i loop.total loop-test.true loop.invariant.0
           (λ e. c.if-block_at-c.false (block_at.ensures ∙ ap (λ (x : ℕ). get_or args.list.now x 0) number_at.ensures.0 ∙ e))
-              loop.invariant.1,
+          loop.invariant.1,
       omega (arith, loop.invariant.2, loop-test.true),
     )
 

@@ -1,5 +1,5 @@
 -- `largest_edge` meets its contract. Assumes nothing.
-use Prim.Native.Nat.{◌-◌, ◌<◌, max}
+use Prim.Native.Nat.{◌<◌, max}
 use mathlib.Core.Path.{◌∙◌, ap}
 use native.Mathlib.Omega.{arith}
 use lib.ListN.{length}

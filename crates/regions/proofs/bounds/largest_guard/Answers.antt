@@ -1,5 +1,5 @@
 -- `largest_guard` meets its contract. Assumes nothing.
-use Prim.Native.Nat.{◌-◌, max}
+use Prim.Native.Nat.{max}
 use mathlib.Core.Path.{◌∙◌, ap}
 use native.Mathlib.Omega.{arith}
 use Rattle.table.specs.Access.{no_guard}

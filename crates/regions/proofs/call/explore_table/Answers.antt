@@ -11,7 +11,7 @@ returns-in-Refused c =
     let args = c.args in
     let read = c.read-reading in
     let out = ap (from_answer (room_for (length args.entries.now)))
-    (refusal-of args.bytes.now _ _ (sym c.in-Refused.is ∙ read.ensures)) in 
+    (refusal-of args.bytes.now _ _ (sym c.in-Refused.is ∙ read.ensures)) in
     record {
       value = sym (ap graph_of out);
       entries_after = sym (ap (entries_after args.entries.now) out);
@@ -25,7 +25,7 @@ returns-in-Accepted c =
     let graph-of = c.graph_of in
     let (m, reads) = reads_of args.bytes.now _ (sym c.in-Accepted.is ∙ read.ensures) in
     let out = ap (from_answer (room_for (length args.entries.now))) reads.answer in
-    let done = graph-of.ensures m reads in 
+    let done = graph-of.ensures m reads in
     record {
       value = done.0 ∙ sym (ap graph_of out);
       entries_after = done.1 ∙ sym (ap (entries_after args.entries.now) out);

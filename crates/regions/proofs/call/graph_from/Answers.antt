@@ -2,7 +2,6 @@
 use Prim.Native.Nat.{ℕ}
 use mathlib.Core.Path.{◌≡◌, sym, ◌∙◌, ap, ap₂}
 use mathlib.Core.Bool.{Bool}
-use borrow.Author.Tests.{not-true, not-false}
 use Rattle.regions.specs.Graph.{meets, next_of, first}
 use Rattle.regions.specs.Worklist.{explore}
 use Rattle.regions.specs.Explore.{same_region, listed, found_of}

@@ -1,6 +1,5 @@
 -- `flag_masks` meets its contract. Assumes nothing.
 use native.Mathlib.Omega.{arith}
-use Prim.Native.Nat.{◌-◌}
 use mathlib.Core.Path.{◌≡◌, ◌∙◌, subst, sym}
 use Rattle.regions.specs.Filling.{Flagged}
 use Rattle.regions.specs.Laws.Filling.{flagged-none, flagged-on}

@@ -1,6 +1,6 @@
 -- `flag_row` meets its contract. Assumes nothing.
 use native.Mathlib.Omega.{arith}
-use Prim.Native.Nat.{◌+◌, ◌*◌, ◌-◌}
+use Prim.Native.Nat.{◌+◌, ◌*◌}
 use mathlib.Core.Path.{◌∙◌, ap}
 use lib.ListN.{get_or, set}
 use Rattle.regions.specs.Laws.Filling.{still-none, still-on, row-flagged-on}
@@ -58,7 +58,7 @@ pub returns : goal.returns
 returns c =
     let loop = c.loop-i in
     let load = c.load-count in
-    let loop-test = c.loop-i-test in 
+    let loop-test = c.loop-i-test in
     record {
       still = loop.invariant.0;
       row_flagged = λ j h. loop.invariant.1 j (omega (arith, h, loop-test.false, load.ensures.0));

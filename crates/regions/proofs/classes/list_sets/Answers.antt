@@ -1,6 +1,6 @@
 -- `list_sets` meets its contract. Assumes nothing.
 use native.Mathlib.Omega.{arith}
-use Prim.Native.Nat.{ℕ, ◌+◌, ◌*◌, ◌%◌, ◌-◌, ◌<◌}
+use Prim.Native.Nat.{ℕ, ◌+◌, ◌*◌, ◌%◌, ◌<◌}
 use mathlib.Core.Path.{◌≡◌, refl, ◌∙◌, ap, subst}
 use lib.ListN.{set}
 use Rattle.regions.specs.Filling.{bare, Classed, Grouped}
@@ -32,7 +32,7 @@ pub group_of-group-requires : goal.group_of-group-requires
 group_of-group-requires c =
     let loop = c.loop-x in
     let loop-test = c.loop-x-test in
-    let pre = c.requires in 
+    let pre = c.requires in
     record {
       index = loop.invariant.0.index;
       n_lt_max_entries = (

@@ -1,8 +1,7 @@
 -- `number_masks` meets its contract. Assumes nothing.
 use native.Mathlib.Omega.{arith}
-use Prim.Native.Nat.{ℕ, ◌+◌, ◌%◌, ◌-◌}
+use Prim.Native.Nat.{ℕ, ◌+◌, ◌%◌}
 use mathlib.Core.Path.{◌≡◌, sym, ◌∙◌, subst}
-use mathlib.Core.Logic.{⊎_elim}
 use lib.ListN.{get_or, set}
 use Rattle.regions.specs.Filling.{Run, Before, Numbers}
 use Rattle.regions.specs.Laws.Filling.{run_on, run_past, before-none, before_on}
@@ -46,23 +45,22 @@ loop-mask-preserved c =
     let mask : ℕ = loop.mask in
     let P : ℕ → ℕ → Type 0 = (λ k v. get_or args.used.now k 0 ≡ 1 → Numbers args.bounds args.r args.sets.now args.count k v) in
     elim c.if-load-eq1.branch [
-      then-load-eq1 w ↦
-    let v : ℕ = w.reset_number-number.result % 65536 in
-    let small : v ≡ w.reset_number-number.result = omega (arith, w.reset_number-number.ensures.upper_bound) in
-    let stored : if1.resets ≡ set loop.resets (base + mask) v = w.resets-is ∙ w.store.ensures in (
-      before_on base (base + mask) v args.resets.now loop.resets if1.resets (omega arith) stored loop.invariant.0,
-      run_on base mask P loop.resets if1.resets v (omega (arith, loop-test.true, loop.invariant.0.as_long, pre.base_in_bounds)) stored
-          loop.invariant.1
-          (λ _. subst (λ (k : ℕ). Numbers args.bounds args.r args.sets.now args.count mask k) (sym small)
-              w.reset_number-number.ensures.numbers),
-    )
-    | else-load-eq1 w ↦
-    (
-      subst (Before base args.resets.now) (sym w.resets-is) loop.invariant.0,
-      subst (Run base (mask + 1) P) (sym w.resets-is) (run_past base mask P loop.resets loop.invariant.1
-          (λ flagged. absurd (w.if-load-eq1.false
-          (load.ensures.0 ∙ flagged)))),
-    )
+      | then-load-eq1 w ↦
+          let v : ℕ = w.reset_number-number.result % 65536 in
+          let small : v ≡ w.reset_number-number.result = omega (arith, w.reset_number-number.ensures.upper_bound) in
+          let stored : if1.resets ≡ set loop.resets (base + mask) v = w.resets-is ∙ w.store.ensures in (
+            before_on base (base + mask) v args.resets.now loop.resets if1.resets (omega arith) stored loop.invariant.0,
+            run_on base mask P loop.resets if1.resets v (omega (arith, loop-test.true, loop.invariant.0.as_long, pre.base_in_bounds)) stored
+                loop.invariant.1
+                (λ _. subst (λ (k : ℕ). Numbers args.bounds args.r args.sets.now args.count mask k) (sym small)
+                w.reset_number-number.ensures.numbers),
+          )
+      | else-load-eq1 w ↦ (
+        subst (Before base args.resets.now) (sym w.resets-is) loop.invariant.0,
+        subst (Run base (mask + 1) P) (sym w.resets-is) (run_past base mask P loop.resets loop.invariant.1
+            (λ flagged. absurd (w.if-load-eq1.false
+            (load.ensures.0 ∙ flagged)))),
+      )
     ]
 
 pub shape_of-resets : goal.shape_of-resets
@@ -73,7 +71,7 @@ shape_of-resets c =
 pub returns : goal.returns
 returns c =
     let loop = c.loop-mask in
-    let loop-test = c.loop-mask-test in 
+    let loop-test = c.loop-mask-test in
     record {
       before = loop.invariant.0;
       run = λ j h. loop.invariant.1 j (omega (arith, h, loop-test.false));

@@ -17,7 +17,7 @@ returns-in-At c =
     let reset = c.reset in
     let pre = c.requires in
     let at = rw c.in-At.is at find.ensures in let is = bare_of.ensures ∙ ap (λ (r : Region). bare r)
-    reset.ensures in 
+    reset.ensures in
     record {
       upper_bound = omega (arith, at.0, pre.few);
       numbers = λ j less same. (at.0, at.1 ∙ is);
@@ -29,7 +29,7 @@ returns-in-Nothing c =
     let bare_of = c.bare_of-q in
     let reset = c.reset in
     let none = rw c.in-Nothing.is at find.ensures in let is = bare_of.ensures ∙ ap (λ (r : Region).
-    bare r) reset.ensures in 
+    bare r) reset.ensures in
     record {
       upper_bound = omega arith;
       numbers = λ j less same. absurd (none j less (same ∙ sym is));

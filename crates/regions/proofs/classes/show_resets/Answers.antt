@@ -1,6 +1,6 @@
 -- `show_resets` meets its contract. Assumes nothing.
 use native.Mathlib.Omega.{arith}
-use Prim.Native.Nat.{◌*◌, ◌-◌}
+use Prim.Native.Nat.{◌*◌}
 use mathlib.Core.Path.{◌≡◌, refl, ◌∙◌, subst}
 use lib.ListN.{get_or}
 use Rattle.regions.specs.Entries.{region_at}
@@ -21,7 +21,7 @@ pub number_masks-requires : goal.number_masks-requires
 number_masks-requires c =
     let pre = c.requires in
     let loop-test = c.loop-x-test in
-    let loop = c.loop-x in 
+    let loop = c.loop-x in
     record {
       index = pre.index;
       base_in_bounds = omega (arith, loop-test.true, loop.invariant.0, pre.n_le_max_entries.0, pre.n_le_max_entries.1);

@@ -8,7 +8,7 @@ use Rattle.regions.proofs.classes.show_targets.Goals as goal
 
 pub list_sets-count-requires : goal.list_sets-count-requires
 list_sets-count-requires c =
-    let pre = c.requires in 
+    let pre = c.requires in
     record {
       index = index-zeros _ _;
       set_room = record {

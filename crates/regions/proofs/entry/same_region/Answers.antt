@@ -1,6 +1,5 @@
 -- `same_region` meets its contract: a part that differs tells the regions apart, and the ranks decide. Assumes nothing.
 use mathlib.Core.Path.{ap}
-use borrow.Author.Tests.{not-true, not-false}
 use Rattle.regions.specs.Entries.{tells-not, region-rest}
 use Rattle.regions.proofs.entry.same_region.Goals as goal
 

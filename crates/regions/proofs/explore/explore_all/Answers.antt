@@ -11,7 +11,7 @@ use Rattle.regions.proofs.explore.explore_all.Goals as goal
 
 pub returns-then-cap-lt1 : goal.returns-then-cap-lt1
 returns-then-cap-lt1 c =
-    let args = c.args in 
+    let args = c.args in
     record {
       left = record { entries = refl; fits = omega arith; after = λ k h. refl };
       start_value = λ m reads limited placed linked same. let none : args.cap ≡ 0 =
@@ -22,7 +22,7 @@ returns-then-cap-lt1 c =
 pub add-requires : goal.add-requires
 add-requires c =
     let pre = c.requires in
-    let some = c.if-cap-lt1 in 
+    let some = c.if-cap-lt1 in
     record {
       index = index-zeros _ _;
       n_lt_max_entries = (omega arith, omega (arith, pre.1, some.false), omega (arith, length-replicate {A = ℕ} 4096 0));
@@ -51,7 +51,7 @@ returns c =
     let args = c.args in
     let room = c.if-cap-lt1 in
     let pre = c.requires in
-    let long = explore-listed.ensures.kept.entries ∙ add.ensures.entries in 
+    let long = explore-listed.ensures.kept.entries ∙ add.ensures.entries in
     record {
       left = record {
         entries = long;

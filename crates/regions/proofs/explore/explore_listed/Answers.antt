@@ -1,5 +1,5 @@
 -- `explore_listed` meets its contract. Assumes nothing.
-use Prim.Native.Nat.{ℕ, ◌-◌}
+use Prim.Native.Nat.{ℕ}
 use mathlib.Core.Path.{sym, ◌∙◌, ap}
 use native.Mathlib.Omega.{arith}
 use Rattle.regions.specs.Graph.{next_of}
@@ -51,7 +51,7 @@ returns-then-met c =
     let loop = c.loop-i in
     let meet-next = c.meet_next-met in
     let loop-test = c.loop-i-test in
-    let read-entry = c.read_entry-r in 
+    let read-entry = c.read_entry-r in
     record {
       kept = kept_on args.cap 1 args.entries.now args.heads.now args.nexts.now loop.entries loop.heads loop.nexts
           meet-next.new.entries meet-next.new.heads meet-next.new.nexts
@@ -106,7 +106,7 @@ shape_of-nexts c = c.loop-i.invariant.0.links
 pub returns : goal.returns
 returns c =
     let args = c.args in
-    let loop = c.loop-i in 
+    let loop = c.loop-i in
     record {
       kept = loop.invariant.0;
       entries_value = λ m d reads limited placed linked same. loop.invariant.1 m d reads limited placed linked same

@@ -1,7 +1,5 @@
 -- `meet_branches` meets its contract. Assumes nothing.
-use Prim.Native.Nat.{◌-◌}
 use mathlib.Core.Path.{refl, sym, ◌∙◌, ap}
-use mathlib.Core.Bool.{false}
 use mathlib.Core.List.{[], ◌∷◌}
 use native.Mathlib.Omega.{arith}
 use Rattle.table.specs.Access.{no_branch}
@@ -23,7 +21,7 @@ loop-i-init c =
 
 pub meet_target-met-requires : goal.meet_target-met-requires
 meet_target-met-requires c =
-    let loop = c.loop-i in 
+    let loop = c.loop-i in
     record {
       room = loop.invariant.0.room;
       visited = loop.invariant.1;
@@ -60,17 +58,17 @@ returns-then-met c =
     let meet-target = c.meet_target-met in
     let branch-count = c.branch_count-branches in
     let branch-at = c.branch_at-b in
-    let loop-test = c.loop-i-test in 
+    let loop-test = c.loop-i-test in
     record {
       kept = kept_on args.cap args.n args.entries.now args.heads.now args.nexts.now loop.entries loop.heads
           loop.nexts _ _ _ loop.listed _ loop.invariant.0 meet-target.ensures.kept;
       visited_2 = meet-target.ensures.visited_2;
       all_met = λ m e reads. let few = branch-count.ensures.value_2 m e reads in let target = ap (landing args.bounds args.r)
-            (branch-at.ensures.value_2 m e reads) in loop-full
-            (λ (b : Branch). landing args.bounds args.r b ∷ []) (edge_of m e).branches loop.i no_branch args.cap args.n
-            loop.listed
-            args.entries.now loop.entries (loop.invariant.2 m e reads) (omega (arith, loop-test.true)) _
-            meet-target.result c.if-met.true (rw target at meet-target.ensures.all_met);
+          (branch-at.ensures.value_2 m e reads) in loop-full
+          (λ (b : Branch). landing args.bounds args.r b ∷ []) (edge_of m e).branches loop.i no_branch args.cap args.n
+          loop.listed
+          args.entries.now loop.entries (loop.invariant.2 m e reads) (omega (arith, loop-test.true)) _
+          meet-target.result c.if-met.true (rw target at meet-target.ensures.all_met);
     }
 
 pub overflow_add-i : goal.overflow_add-i
@@ -121,12 +119,12 @@ pub returns : goal.returns
 returns c =
     let loop = c.loop-i in
     let branch-count = c.branch_count-branches in
-    let args = c.args in 
+    let args = c.args in
     record {
       kept = loop.invariant.0;
       visited_2 = loop.invariant.1;
       all_met = λ m e reads. let few = branch-count.ensures.value_2 m e reads in loop-over
-            (λ (b : Branch). landing args.bounds args.r b ∷ []) (edge_of m e).branches loop.i no_branch args.cap args.n
-            loop.listed
-            args.entries.now loop.entries (loop.invariant.2 m e reads) (omega (arith, c.loop-i-test.false));
+          (λ (b : Branch). landing args.bounds args.r b ∷ []) (edge_of m e).branches loop.i no_branch args.cap args.n
+          loop.listed
+          args.entries.now loop.entries (loop.invariant.2 m e reads) (omega (arith, c.loop-i-test.false));
     }

@@ -16,7 +16,7 @@ pub returns-then-not-moved : goal.returns-then-not-moved
 returns-then-not-moved c =
     let args = c.args in
     let pre = c.requires in
-    let delay = c.delay-moved in 
+    let delay = c.delay-moved in
     record {
       kept = kept-none args.cap args.n args.entries.now args.heads.now args.nexts.now pre;
       all_met = λ m limited same. ap
@@ -31,7 +31,7 @@ returns-then-not-meets_invariant c =
     let pre = c.requires in
     let delay = c.delay-moved in
     let if1 = c.if-not-moved in
-    let meets-invariant = c.meets_invariant in 
+    let meets-invariant = c.meets_invariant in
     record {
       kept = kept-none args.cap args.n args.entries.now args.heads.now args.nexts.now pre;
       all_met = λ m limited same. ap
@@ -56,7 +56,7 @@ returns c =
     let delay = c.delay-moved in
     let if1 = c.if-not-moved in
     let meets-invariant = c.meets_invariant in
-    let if2 = c.if-not-meets_invariant in 
+    let if2 = c.if-not-meets_invariant in
     record {
       kept = meet_one.ensures.kept;
       all_met = λ m limited same. ap

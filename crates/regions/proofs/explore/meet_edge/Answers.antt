@@ -17,7 +17,7 @@ is_available-requires c =
 
 pub meet_branches-requires : goal.meet_branches-requires
 meet_branches-requires c =
-    let pre = c.requires in 
+    let pre = c.requires in
     record {
       room = pre.room;
       visited = pre.tested.1;
@@ -56,15 +56,15 @@ returns-then-is_available c =
     let is-available = c.is_available in
     let if1 = c.if-is_available
     in
-    let args = c.args in 
+    let args = c.args in
     record {
       kept = meet-branches.ensures.kept;
       tested_2 = (is-available.ensures.tested, meet-branches.ensures.visited_2);
       all_met = λ m e limited edge from same. let taken = sym (is-available.ensures.value m e limited edge from same)
-            ∙ if1.true in ap (λ (qs : List Region). meet same_region args.cap (listed args.entries.now args.n) qs)
-            (edge-some m (edge_of m e) args.r taken
-            ∙ ap (λ (x : Bounds). gather (λ b. landing x args.r b ∷ []) (edge_of m e).branches) (sym same))
-            ∙ meet-branches.ensures.all_met m e edge;
+          ∙ if1.true in ap (λ (qs : List Region). meet same_region args.cap (listed args.entries.now args.n) qs)
+          (edge-some m (edge_of m e) args.r taken
+          ∙ ap (λ (x : Bounds). gather (λ b. landing x args.r b ∷ []) (edge_of m e).branches) (sym same))
+          ∙ meet-branches.ensures.all_met m e edge;
     }
 
 pub shape_of-tested : goal.shape_of-tested
@@ -77,11 +77,11 @@ pub returns : goal.returns
 returns c =
     let args = c.args in
     let pre = c.requires in
-    let is-available = c.is_available in 
+    let is-available = c.is_available in
     record {
       kept = kept-none args.cap args.n args.entries.now args.heads.now args.nexts.now pre.room;
       tested_2 = (is-available.ensures.tested, pre.tested.1);
       all_met = λ m e limited edge from same. let left = sym (is-available.ensures.value m e limited edge from same)
-            ∙ c.if-is_available.false in ap (λ (qs : List Region). meet same_region args.cap (listed args.entries.now args.n) qs)
-            (edge_none m (edge_of m e) args.r left);
+          ∙ c.if-is_available.false in ap (λ (qs : List Region). meet same_region args.cap (listed args.entries.now args.n) qs)
+          (edge_none m (edge_of m e) args.r left);
     }

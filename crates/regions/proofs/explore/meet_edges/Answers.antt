@@ -1,9 +1,7 @@
 -- `meet_edges` meets its contract. Assumes nothing.
-use Prim.Native.Nat.{ℕ, suc, ◌-◌, ◌<◌}
+use Prim.Native.Nat.{ℕ, suc, ◌<◌}
 use native.Mathlib.Numerals.{add-one}
 use mathlib.Core.Path.{refl, sym, ◌∙◌, ap}
-use mathlib.Core.Bool.{false}
-use mathlib.Core.Logic.{⊎_elim}
 use native.Mathlib.Omega.{arith}
 use lib.ListN.{length}
 use Rattle.table.specs.Access.{no_edge}
@@ -50,7 +48,7 @@ slice_bounds-meet_edge-end-then-link-i c =
 
 pub meet_edge-met-requires : goal.meet_edge-met-requires
 meet_edge-met-requires c =
-    let loop = c.loop-i in 
+    let loop = c.loop-i in
     record {
       room = loop.invariant.0.room;
       tested = (loop.invariant.1, loop.invariant.2);
@@ -81,7 +79,7 @@ returns-then-met c =
     let meet-edge = c.meet_edge-met in
     let loop-test = c.loop-i-test in
     let if1 = c.if-link-i in
-    let number_at = c.number_at-place in 
+    let number_at = c.number_at-place in
     record {
       kept = kept_on args.cap args.n args.entries.now args.heads.now args.nexts.now loop.entries loop.heads loop.nexts
           meet-edge.new.entries
@@ -117,47 +115,47 @@ loop-i-preserved c =
     let loop = c.loop-i in
     let loop-test = c.loop-i-test in
     elim c.if-link-i.branch [
-      then-link-i+else-met w ↦
-    let met = w.meet_edge-met in
-    rw (w.entries-is, w.heads-is, w.nexts-is, w.tested-is, w.visited-is, w.listed-is, w.link-is) (
-      kept_on args.cap args.n args.entries.now args.heads.now args.nexts.now loop.entries loop.heads loop.nexts
-          met.new.entries
-          met.new.heads met.new.nexts loop.listed met.result.count
-          loop.invariant.0 met.ensures.kept,
-      met.ensures.tested_2.0,
-      met.ensures.tested_2.1,
-      λ m answer few limited placed linked same.
-          let here : loop.i < length m.edges = omega (arith, loop-test.true, few) in
-          let (link, all) = loop.invariant.3 m answer few limited placed linked same in
-          let mine = link_here m args.r.location loop.i here (sym link ∙ w.if-link-i.true ∙ add-one loop.i) in
-          let edge : ReadsEdge args.bytes.now w.number_at-place.result m loop.i = record {
-            answer = answer;
-            place_is = w.number_at-place.ensures ∙ placed
-                loop.i here;
-          } in
-          let one = met.ensures.all_met m loop.i limited edge (sym mine) same in (
-            w.edge_link-link-then-link-i.ensures ∙ linked.follow loop.i here ∙ ap (λ (k : ℕ). link_from m k (suc loop.i)) mine
-                ∙ ap (link_from m
-                args.r.location) (sym (add-one loop.i)),
-            loop-on (edge_next m args.r) m.edges loop.i no_edge args.cap args.n loop.listed args.entries.now loop.entries all here
+      | then-link-i+else-met w ↦
+          let met = w.meet_edge-met in
+          rw (w.entries-is, w.heads-is, w.nexts-is, w.tested-is, w.visited-is, w.listed-is, w.link-is) (
+            kept_on args.cap args.n args.entries.now args.heads.now args.nexts.now loop.entries loop.heads loop.nexts
                 met.new.entries
-                met.result w.if-met.false one,
-          ),
-    )
-    | else-link-i w ↦
-    rw (w.entries-is, w.heads-is, w.nexts-is, w.tested-is, w.visited-is, w.listed-is, w.link-is) (
-      loop.invariant.0,
-      loop.invariant.1,
-      loop.invariant.2,
-      λ m answer few limited placed linked same.
-          let here : loop.i < length m.edges = omega (arith, loop-test.true, few) in
-          let (link, all) = loop.invariant.3 m answer few limited placed linked same in
-          let other = link-other m args.r.location loop.i here (λ h. w.if-link-i.false (link ∙ h ∙ sym (add-one loop.i))) in (
-            link ∙ sym (link-past m args.r.location loop.i here other) ∙ ap (link_from m args.r.location) (sym (add-one loop.i)),
-            loop-past (edge_next m args.r) m.edges loop.i no_edge args.cap args.n loop.listed args.entries.now loop.entries all here
-                (edge-elsewhere m (edge_of m loop.i) args.r other),
-          ),
-    )
+                met.new.heads met.new.nexts loop.listed met.result.count
+                loop.invariant.0 met.ensures.kept,
+            met.ensures.tested_2.0,
+            met.ensures.tested_2.1,
+            λ m answer few limited placed linked same.
+                let here : loop.i < length m.edges = omega (arith, loop-test.true, few) in
+                let (link, all) = loop.invariant.3 m answer few limited placed linked same in
+                let mine = link_here m args.r.location loop.i here (sym link ∙ w.if-link-i.true ∙ add-one loop.i) in
+                let edge : ReadsEdge args.bytes.now w.number_at-place.result m loop.i = record {
+                  answer = answer;
+                  place_is = w.number_at-place.ensures ∙ placed
+                      loop.i here;
+                } in
+                let one = met.ensures.all_met m loop.i limited edge (sym mine) same in (
+                  w.edge_link-link-then-link-i.ensures ∙ linked.follow loop.i here ∙ ap (λ (k : ℕ). link_from m k (suc loop.i)) mine
+                      ∙ ap (link_from m
+                      args.r.location) (sym (add-one loop.i)),
+                  loop-on (edge_next m args.r) m.edges loop.i no_edge args.cap args.n loop.listed args.entries.now loop.entries all here
+                      met.new.entries
+                      met.result w.if-met.false one,
+                ),
+          )
+      | else-link-i w ↦
+          rw (w.entries-is, w.heads-is, w.nexts-is, w.tested-is, w.visited-is, w.listed-is, w.link-is) (
+            loop.invariant.0,
+            loop.invariant.1,
+            loop.invariant.2,
+            λ m answer few limited placed linked same.
+                let here : loop.i < length m.edges = omega (arith, loop-test.true, few) in
+                let (link, all) = loop.invariant.3 m answer few limited placed linked same in
+                let other = link-other m args.r.location loop.i here (λ h. w.if-link-i.false (link ∙ h ∙ sym (add-one loop.i))) in (
+                  link ∙ sym (link-past m args.r.location loop.i here other) ∙ ap (link_from m args.r.location) (sym (add-one loop.i)),
+                  loop-past (edge_next m args.r) m.edges loop.i no_edge args.cap args.n loop.listed args.entries.now loop.entries all here
+                      (edge-elsewhere m (edge_of m loop.i) args.r other),
+                ),
+          )
     ]
 
 pub shape_of-entries : goal.shape_of-entries
@@ -172,7 +170,7 @@ shape_of-nexts c = c.loop-i.invariant.0.links
 pub returns : goal.returns
 returns c =
     let args = c.args in
-    let loop = c.loop-i in 
+    let loop = c.loop-i in
     record {
       kept = loop.invariant.0;
       all_met = λ m reads limited placed linked same.

@@ -29,7 +29,7 @@ pub returns-then-met : goal.returns-then-met
 unfolding next_of
 returns-then-met c =
     let meet-delay = c.meet_delay-met in
-    let args = c.args in 
+    let args = c.args in
     record {
       kept = meet-delay.ensures.kept;
       all_met = λ m reads limited placed linked same. met-full args.cap args.n (delay_next m args.r)
@@ -66,7 +66,7 @@ returns c =
     let args = c.args in
     let meet-delay = c.meet_delay-met in
     let meet-edges = c.meet_edges in
-    let if1 = c.if-met in 
+    let if1 = c.if-met in
     record {
       kept = kept_on args.cap args.n args.entries.now args.heads.now args.nexts.now meet-delay.new.entries
           meet-delay.new.heads meet-delay.new.nexts meet-edges.new.entries

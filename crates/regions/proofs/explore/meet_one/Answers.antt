@@ -12,7 +12,7 @@ pub add-requires : goal.add-requires
 add-requires c =
     let pre = c.requires
     in
-    let if1 = c.if-n-cap in 
+    let if1 = c.if-n-cap in
     record {
       index = pre.index;
       n_lt_max_entries = (omega (arith, if1.true, pre.few), omega (arith, if1.true, pre.fits), omega (arith, if1.true, pre.links));
@@ -46,7 +46,7 @@ returns-then-n-cap c =
     let pre = c.requires in
     let if1 = c.if-n-cap in
     let add = c.add in
-    let none = rw c.in-Nothing.is at find.ensures in 
+    let none = rw c.in-Nothing.is at find.ensures in
     record {
       kept = one_kept args.cap args.n args.entries.now args.heads.now args.nexts.now pre args.q if1.true add.new.entries
           add.new.head add.new.next add.ensures;
@@ -59,7 +59,7 @@ returns-in-At c =
     let find = c.find-looked in
     let args = c.args in
     let pre = c.requires in
-    let visited = rw c.in-At.is at find.ensures in 
+    let visited = rw c.in-At.is at find.ensures in
     record {
       kept = kept-none args.cap args.n args.entries.now args.heads.now args.nexts.now pre;
       all_met = one_known args.cap args.n args.entries.now
@@ -71,7 +71,7 @@ returns-else-n-cap c =
     let find = c.find-looked in
     let args = c.args in
     let pre = c.requires in
-    let none = rw c.in-Nothing.is at find.ensures in 
+    let none = rw c.in-Nothing.is at find.ensures in
     record {
       kept = kept-none args.cap args.n args.entries.now args.heads.now args.nexts.now pre;
       all_met = one-full args.cap args.n args.entries.now

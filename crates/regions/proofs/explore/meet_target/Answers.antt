@@ -10,12 +10,12 @@ pub returns-then-byte_at-eq-VISITED : goal.returns-then-byte_at-eq-VISITED
 returns-then-byte_at-eq-VISITED c =
     let args = c.args in
     let pre = c.requires in
-    let mark-place = c.mark_place-at in 
+    let mark-place = c.mark_place-at in
     record {
       kept = kept-none args.cap args.n args.entries.now args.heads.now args.nexts.now pre.room;
       visited_2 = pre.visited;
       all_met = visited-met args.bounds args.r args.cap args.n args.entries.now args.visited.now pre.visited
-            args.b _ mark-place.ensures _ c.byte_at.ensures c.if-byte_at-eq-VISITED.true;
+          args.b _ mark-place.ensures _ c.byte_at.ensures c.if-byte_at-eq-VISITED.true;
     }
 
 pub meet_one-met-requires : goal.meet_one-met-requires
@@ -44,11 +44,11 @@ returns-then-met c =
     let meet_one = c.meet_one-met in
     let args = c.args in
     let pre = c.requires in
-    let all = rw landing-of.ensures at meet_one.ensures.all_met in 
+    let all = rw landing-of.ensures at meet_one.ensures.all_met in
     record {
       kept = meet_one.ensures.kept;
       visited_2 = visited-kept args.bounds args.r args.cap args.n args.entries.now _ meet_one.result
-            args.visited.now pre.visited (landing args.bounds args.r args.b ∷ []) all;
+          args.visited.now pre.visited (landing args.bounds args.r args.b ∷ []) all;
       all_met = all;
     }
 
@@ -83,10 +83,10 @@ returns c =
     let if2 = c.if-met in
     let mark-place = c.mark_place-at in
     let put_byte = c.put_byte in
-    let all = rw landing-of.ensures at meet_one.ensures.all_met in 
+    let all = rw landing-of.ensures at meet_one.ensures.all_met in
     record {
       kept = meet_one.ensures.kept;
       visited_2 = visited-on args.bounds args.r args.cap args.n args.entries.now _ meet_one.result args.visited.now
-            pre.visited args.b all if2.false _ mark-place.ensures _ put_byte.ensures;
+          pre.visited args.b all if2.false _ mark-place.ensures _ put_byte.ensures;
       all_met = all;
     }

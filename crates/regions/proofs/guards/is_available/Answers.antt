@@ -1,6 +1,5 @@
 -- `is_available` meets its contract. Assumes nothing.
 use mathlib.Core.Path.{sym, ◌∙◌, ap}
-use borrow.Author.Tests.{not-true, not-false}
 use Rattle.table.specs.Reads.{edge_of}
 use Rattle.regions.specs.Graph.{every, satisfies, lands}
 use Rattle.regions.specs.Laws.Graph.{not-source, not-guards, when-fits}
@@ -10,7 +9,7 @@ use Rattle.regions.proofs.guards.is_available.Goals as goal
 pub returns-then-source-location : goal.returns-then-source-location
 returns-then-source-location c =
     let pre = c.requires in
-    let args = c.args in 
+    let args = c.args in
     record {
       tested = pre;
       value = λ m e limited edge from same. sym (not-source m (edge_of m e) args.r (λ h. c.if-source-location.true (from ∙ h)));
@@ -20,7 +19,7 @@ pub returns-then-not-meets_guards : goal.returns-then-not-meets_guards
 returns-then-not-meets_guards c =
     let pre = c.requires in
     let args = c.args in
-    let if1 = c.if-source-location in 
+    let if1 = c.if-source-location in
     record {
       tested = pre;
       value = λ m e limited edge from same. sym
@@ -47,7 +46,7 @@ returns c =
     let args = c.args in
     let if1 = c.if-source-location in
     let meets-guards = c.meets_guards in
-    let if2 = c.if-not-meets_guards in 
+    let if2 = c.if-not-meets_guards in
     record {
       tested = lands-all.ensures.tested;
       value = λ m e limited edge from same. lands-all.ensures.value m e limited edge

@@ -1,8 +1,6 @@
 -- `lands_all` meets its contract. Assumes nothing.
-use Prim.Native.Nat.{◌-◌}
 use mathlib.Core.Path.{refl, sym, ◌∙◌, ap}
 use native.Mathlib.Omega.{arith}
-use borrow.Author.Tests.{not-true, not-false}
 use Rattle.table.specs.Access.{no_branch}
 use Rattle.table.specs.Reads.{edge_of}
 use Rattle.regions.specs.Graph.{meets, landing, lands}
@@ -34,7 +32,7 @@ returns-then-not-meets_target c =
     let loop = c.loop-i in
     let args = c.args in
     let loop-test = c.loop-i-test in
-    let branch-at = c.branch_at-b in 
+    let branch-at = c.branch_at-b in
     record {
       tested = meets-target.ensures.tested;
       value = λ m e limited edge. let few = branch-count.ensures.value_2 m e edge in sym
@@ -73,7 +71,7 @@ unfolding lands
 returns c =
     let loop = c.loop-i in
     let branch-count = c.branch_count-count in
-    let args = c.args in 
+    let args = c.args in
     record {
       tested = loop.invariant.0;
       value = λ m e limited edge. let few = branch-count.ensures.value_2 m e edge in sym

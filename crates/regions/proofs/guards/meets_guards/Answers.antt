@@ -1,8 +1,6 @@
 -- `meets_guards` meets its contract. Assumes nothing.
-use Prim.Native.Nat.{◌-◌}
 use mathlib.Core.Path.{refl, sym, ◌∙◌, ap}
 use native.Mathlib.Omega.{arith}
-use borrow.Author.Tests.{not-true, not-false}
 use Rattle.table.specs.Access.{no_guard}
 use Rattle.table.specs.Reads.{edge_of}
 use Rattle.regions.specs.Graph.{satisfies}

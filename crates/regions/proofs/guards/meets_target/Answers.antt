@@ -9,7 +9,7 @@ pub returns-then-mark-eq-BROKEN : goal.returns-then-mark-eq-BROKEN
 returns-then-mark-eq-BROKEN c =
     let args = c.args in
     let pre = c.requires in
-    let mark-place = c.mark_place-at in 
+    let mark-place = c.mark_place-at in
     record {
       value = tested-broken args.limits.now args.bounds args.r args.tested.now pre args.b _ mark-place.ensures _
           c.byte_at-mark.ensures c.if-mark-eq-BROKEN.true;
@@ -21,7 +21,7 @@ returns-then-mark-eq-MET c =
     let args = c.args in
     let pre = c.requires in
     let mark-place = c.mark_place-at in
-    let byte_at = c.byte_at-mark in 
+    let byte_at = c.byte_at-mark in
     record {
       value = tested-met args.limits.now args.bounds args.r args.tested.now pre args.b _ mark-place.ensures _
           byte_at.ensures c.if-mark-eq-MET.true;
@@ -50,7 +50,7 @@ returns-then-meets_invariant c =
     let pre = c.requires in
     let mark-place = c.mark_place-at in
     let put_byte = c.put_byte in
-    let told = meets-invariant.ensures in let lands = landing-of.ensures in 
+    let told = meets-invariant.ensures in let lands = landing-of.ensures in
     record {
       value = λ m limited. sym if3.true ∙ told m limited ∙ ap (meets args.bounds m.invariants) lands;
       tested = tested-on args.limits.now args.bounds args.r args.tested.now pre args.b _ mark-place.ensures _ lands
@@ -79,7 +79,7 @@ returns c =
     let pre = c.requires in
     let mark-place = c.mark_place-at in
     let put-byte2 = c.put_byte-2 in
-    let told = meets-invariant.ensures in let lands = landing-of.ensures in 
+    let told = meets-invariant.ensures in let lands = landing-of.ensures in
     record {
       value = λ m limited. sym if3.false ∙ told m limited ∙ ap (meets args.bounds m.invariants) lands;
       tested = tested-on args.limits.now args.bounds args.r args.tested.now pre args.b _ mark-place.ensures _ lands

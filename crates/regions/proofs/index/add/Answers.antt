@@ -7,7 +7,7 @@ use Rattle.regions.proofs.index.add.Goals as goal
 pub link_entry-requires : goal.link_entry-requires
 link_entry-requires c =
     let pre = c.requires in
-    let args = c.args in 
+    let args = c.args in
     record {
       bucket_count_in_bounds = (pre.index.buckets, pre.n_lt_max_entries.0, pre.n_lt_max_entries.2);
       r_bound = head_few args.entries.now args.head.now args.next.now args.n

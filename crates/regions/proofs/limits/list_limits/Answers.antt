@@ -1,5 +1,5 @@
 -- `list_limits` meets its contract. Assumes nothing.
-use Prim.Native.Nat.{◌-◌, min}
+use Prim.Native.Nat.{min}
 use native.Mathlib.Omega.{arith}
 use mathlib.Core.Path.{refl, sym, ◌∙◌, ap, subst}
 use lib.ListN.{length, take, length-replicate}
@@ -25,7 +25,7 @@ loop-i-preserved c =
           few = (counts-read args.bytes.now args.shape m reads).invariants in holding-next m (sound-read args.bytes.now
           args.shape m reads) loop.limits loop.i (omega (arith, loop-test.true, few)) invariant-at.result
           (invariant-at.ensures.value_2 m reads) (loop.invariant.0 ∙ ap length none ∙ length-replicate 1024 no_limit)
-              (loop.invariant.1 m reads
+          (loop.invariant.1 m reads
           none) lower.new.limits lower.ensures,
     )
 

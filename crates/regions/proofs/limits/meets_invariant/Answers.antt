@@ -1,7 +1,6 @@
 -- `meets_invariant` meets its contract. Assumes nothing.
 use native.Mathlib.Omega.{arith}
 use mathlib.Core.Path.{sym, ◌∙◌}
-use borrow.Author.Tests.{not-true, not-false}
 use Rattle.regions.specs.Limits.{limit-broken, limits-tell}
 use Rattle.regions.proofs.limits.meets_invariant.Goals as goal
 
@@ -36,5 +35,5 @@ returns c =
     let is-under3 = c.is_under-3 in
     let if3 = c.if-not-is_under-3 in
     λ m limited. limits-tell m args.limits.now limited args.bounds args.r (sym is-under.ensures ∙ if1.false)
-        (sym is-under2.ensures ∙ if2.false) (sym is-under3.ensures ∙ if3.false)
+    (sym is-under2.ensures ∙ if2.false) (sym is-under3.ensures ∙ if3.false)
     c.is_under-4.result c.is_under-4.ensures

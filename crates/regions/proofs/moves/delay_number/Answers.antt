@@ -13,7 +13,7 @@ use Rattle.regions.proofs.moves.delay_number.Goals as goal
 pub returns-then-not-moved : goal.returns-then-not-moved
 returns-then-not-moved c =
     let args = c.args in
-    let delay = c.delay-moved in 
+    let delay = c.delay-moved in
     record {
       upper_bound = omega arith;
       r_value = λ m x all limited same h is. follows-none m args.entries.now args.n args.r (delay-none m
@@ -26,7 +26,7 @@ returns-then-not-meets_invariant c =
     let args = c.args in
     let delay = c.delay-moved in
     let if1 = c.if-not-moved in
-    let meets-invariant = c.meets_invariant in 
+    let meets-invariant = c.meets_invariant in
     record {
       upper_bound = omega arith;
       r_value = λ m x all limited same h is. follows-none m args.entries.now args.n args.r (delay-breaks m
@@ -44,7 +44,7 @@ returns-in-At c =
     let if1 = c.if-not-moved in
     let meets-invariant = c.meets_invariant in
     let if2 = c.if-not-meets_invariant in
-    let at = rw c.in-At.is at find.ensures in 
+    let at = rw c.in-At.is at find.ensures in
     record {
       upper_bound = omega (arith, at.0);
       r_value = λ m x all limited same h is. follows-at m
@@ -64,7 +64,7 @@ returns-in-Nothing c =
     let if1 = c.if-not-moved in
     let meets-invariant = c.meets_invariant in
     let if2 = c.if-not-meets_invariant in
-    let none = rw c.in-Nothing.is at find.ensures in 
+    let none = rw c.in-Nothing.is at find.ensures in
     record {
       upper_bound = omega arith;
       r_value = λ m x all limited same h is. absurd

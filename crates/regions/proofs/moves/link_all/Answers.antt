@@ -1,6 +1,6 @@
 -- `link_all` meets its contract. Assumes nothing.
 use native.Mathlib.Omega.{arith}
-use Prim.Native.Nat.{◌+◌, ◌-◌}
+use Prim.Native.Nat.{◌+◌}
 use mathlib.Core.Path.{◌≡◌, refl, ◌∙◌}
 use lib.ListN.{get_or}
 use Rattle.regions.specs.Index.{hash_of, head_few}
@@ -19,7 +19,7 @@ link_entry-requires c =
     let loop-test = c.loop-x-test in
     let pre = c.requires in
     let args = c.args in
-    let read-entry = c.read_entry-r in 
+    let read-entry = c.read_entry-r in
     record {
       bucket_count_in_bounds = (
         loop.invariant.0.buckets,

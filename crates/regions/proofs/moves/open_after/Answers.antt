@@ -17,7 +17,7 @@ shape_of-tested-then-is_available c =
 pub returns-then-is_available : goal.returns-then-is_available
 returns-then-is_available c =
     let is-available = c.is_available in
-    let args = c.args in 
+    let args = c.args in
     record {
       tested = is-available.ensures.tested;
       value = λ m limited edge from same old. sym (open-here _ args.e (sym (is-available.ensures.value m
@@ -33,7 +33,7 @@ shape_of-tested c =
 pub returns : goal.returns
 returns c =
     let is-available = c.is_available in
-    let args = c.args in 
+    let args = c.args in
     record {
       tested = is-available.ensures.tested;
       value = λ m limited edge from same old. old ∙ sym (open-past _ args.e (sym

@@ -1,6 +1,6 @@
 -- `show_flags` meets its contract. Assumes nothing.
 use native.Mathlib.Omega.{arith}
-use Prim.Native.Nat.{suc, ◌-◌}
+use Prim.Native.Nat.{suc}
 use mathlib.Core.Path.{◌≡◌, refl, ◌∙◌, ap}
 use Rattle.table.specs.Reads.{edge_of}
 use Rattle.regions.specs.Graph.{available}

@@ -1,6 +1,6 @@
 -- `show_labels` meets its contract. Assumes nothing.
 use native.Mathlib.Omega.{arith}
-use Prim.Native.Nat.{◌<◌, ◌-◌, ◌%◌}
+use Prim.Native.Nat.{◌<◌, ◌%◌}
 use mathlib.Core.Path.{◌≡◌, refl, ◌∙◌}
 use Rattle.regions.specs.Entries.{region_at}
 use Rattle.regions.specs.View.{label_of}

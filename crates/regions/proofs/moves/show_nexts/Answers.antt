@@ -1,6 +1,6 @@
 -- `show_nexts` meets its contract. Assumes nothing.
 use native.Mathlib.Omega.{arith}
-use Prim.Native.Nat.{◌-◌, ◌%◌}
+use Prim.Native.Nat.{◌%◌}
 use mathlib.Core.Path.{◌≡◌, refl, sym, ◌∙◌, ap}
 use Rattle.regions.specs.Entries.{region_at}
 use Rattle.regions.specs.Limits.{stored-as-long}

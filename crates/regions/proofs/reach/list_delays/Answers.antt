@@ -1,6 +1,6 @@
 -- `list_delays` meets its contract. The loop's invariant: the numbers of the first i regions and of the one that it has come to
 -- are stored, and what that one reaches is left. Assumes nothing.
-use Prim.Native.Nat.{◌-◌, ◌%◌}
+use Prim.Native.Nat.{◌%◌}
 use native.Mathlib.Omega.{arith}
 use mathlib.Core.Path.{refl, sym, ◌∙◌}
 use borrow.Author.Tests.{not-true, not-false}

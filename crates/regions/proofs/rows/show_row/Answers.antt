@@ -1,6 +1,6 @@
 -- `show_row` meets its contract. Assumes nothing.
 use native.Mathlib.Omega.{arith}
-use Prim.Native.Nat.{ℕ, ◌+◌, ◌*◌, ◌%◌, ◌-◌}
+use Prim.Native.Nat.{ℕ, ◌+◌, ◌*◌, ◌%◌}
 use mathlib.Core.Path.{◌≡◌, ◌∙◌, subst}
 use lib.ListN.{length}
 use Rattle.table.specs.Reads.{edge_of}
@@ -130,7 +130,7 @@ returns c =
     let branch-count = c.branch_count-count in
     let start = before-three args.at args.at (args.action % 65536) (args.denominator % 65536)
     (at_most.result % 65536) args.rows.now args.rows.now store-three.new.list (omega arith)
-    store-three.ensures (before-none args.at args.rows.now) in 
+    store-three.ensures (before-none args.at args.rows.now) in
     record {
       before = before-then args.at args.rows.now
           store-three.new.list loop.rows start loop.invariant.0;

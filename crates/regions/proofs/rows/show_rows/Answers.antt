@@ -1,6 +1,6 @@
 -- `show_rows` meets its contract. Assumes nothing.
 use native.Mathlib.Omega.{arith}
-use Prim.Native.Nat.{◌-◌, ◌<◌}
+use Prim.Native.Nat.{◌<◌}
 use mathlib.Core.Path.{refl, ◌∙◌, ap}
 use lib.ListN.{length}
 use Rattle.table.specs.Reads.{ReadsEdge}

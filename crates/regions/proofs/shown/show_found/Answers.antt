@@ -6,7 +6,7 @@ pub show_listed-requires : goal.show_listed-requires
 show_listed-requires c =
     let is-roomy = c.is_roomy in
     let if1 = c.if-is_roomy in
-    let h = is-roomy.ensures.holds if1.true in 
+    let h = is-roomy.ensures.holds if1.true in
     record {
       n_le_max_entries = (h.0, h.1);
       roomy = record {
@@ -24,7 +24,7 @@ returns-then-is_roomy c =
     let is-roomy = c.is_roomy in
     let if1 = c.if-is_roomy in
     let show-listed = c.show_listed in
-    let h = is-roomy.ensures.holds if1.true in 
+    let h = is-roomy.ensures.holds if1.true in
     record {
       shown = λ m reads all few fits room. show-listed.ensures m reads all;
       labels_unchanged = λ
@@ -40,7 +40,7 @@ returns-then-is_roomy c =
 
 pub returns-else-is_roomy : goal.returns-else-is_roomy
 returns-else-is_roomy c =
-    let is-roomy = c.is_roomy in 
+    let is-roomy = c.is_roomy in
     record {
       shown = λ m reads all few fits room. absurd (is-roomy.ensures.fails c.if-is_roomy.false (
         few,

@@ -14,12 +14,12 @@ use Rattle.regions.proofs.shown.show_read.Goals as goal
 pub returns-in-Refused : goal.returns-in-Refused
 returns-in-Refused c =
     let graph-of = c.graph_of-graph in
-    let args = c.args in 
+    let args = c.args in
     record {
       value = λ m reads. let done = graph-of.ensures m reads in (sym c.in-Refused.is ∙ done.0, done.1);
       shown = λ m found reads is
-            room. absurd (not-refused _ _ (from_answer (room_for (length args.entries.now)) (accepted m)) found (sym
-            c.in-Refused.is ∙ (graph-of.ensures m reads).0) is);
+          room. absurd (not-refused _ _ (from_answer (room_for (length args.entries.now)) (accepted m)) found (sym
+          c.in-Refused.is ∙ (graph-of.ensures m reads).0) is);
       labels_unchanged = λ m reads none. (refl, refl, refl, refl, refl, refl);
     }
 
@@ -27,7 +27,7 @@ pub returns-in-Regions : goal.returns-in-Regions
 returns-in-Regions c =
     let graph-of = c.graph_of-graph in
     let show-found = c.show_found in
-    let args = c.args in 
+    let args = c.args in
     record {
       value = λ m reads. let done = graph-of.ensures m reads in let answer = sym c.in-Regions.is ∙ done.0 in (
         answer,
@@ -35,16 +35,16 @@ returns-in-Regions c =
       );
       shown = λ m found reads is room. let done = graph-of.ensures m reads in let answer = sym c.in-Regions.is ∙ done.0 in
           subst (λ (k : List Region). Shown m k show-found.new.labels show-found.new.nexts
-            show-found.new.flags show-found.new.resets show-found.new.spots
-            show-found.new.rows) (list-found args.bytes.now args.entries.now graph-of.new.entries m
-            (room_for (length args.entries.now)) reads.answer _ answer done.1 found is) (show-found.ensures.shown m reads
-            (all_listed args.bytes.now args.entries.now graph-of.new.entries m (room_for (length args.entries.now))
-            reads.answer _ answer done.1 found is) (few-found args.bytes.now args.entries.now graph-of.new.entries
-            m (room_for (length args.entries.now)) reads.answer _ answer done.1 found is (omega arith)) (bytes-found
-            args.bytes.now args.entries.now graph-of.new.entries m (room_for (length args.entries.now)) reads.answer
-            _ answer done.1 found is (room_fits (length args.entries.now))) room);
+          show-found.new.flags show-found.new.resets show-found.new.spots
+          show-found.new.rows) (list-found args.bytes.now args.entries.now graph-of.new.entries m
+          (room_for (length args.entries.now)) reads.answer _ answer done.1 found is) (show-found.ensures.shown m reads
+          (all_listed args.bytes.now args.entries.now graph-of.new.entries m (room_for (length args.entries.now))
+          reads.answer _ answer done.1 found is) (few-found args.bytes.now args.entries.now graph-of.new.entries
+          m (room_for (length args.entries.now)) reads.answer _ answer done.1 found is (omega arith)) (bytes-found
+          args.bytes.now args.entries.now graph-of.new.entries m (room_for (length args.entries.now)) reads.answer
+          _ answer done.1 found is (room_fits (length args.entries.now))) room);
       labels_unchanged = λ m reads none. let done =
-            graph-of.ensures m reads in let answer = sym c.in-Regions.is ∙ done.0 in let (found, is) = all_found
-            args.bytes.now args.entries.now graph-of.new.entries m (room_for (length args.entries.now)) reads.answer
-            _ answer done.1 in show-found.ensures.labels_unchanged (λ room. none found is room);
+          graph-of.ensures m reads in let answer = sym c.in-Regions.is ∙ done.0 in let (found, is) = all_found
+          args.bytes.now args.entries.now graph-of.new.entries m (room_for (length args.entries.now)) reads.answer
+          _ answer done.1 in show-found.ensures.labels_unchanged (λ room. none found is room);
     }

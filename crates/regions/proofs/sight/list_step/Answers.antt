@@ -37,7 +37,7 @@ list_ways-requires c =
     let two = stored-as-long store.new.list store2.new.list (args.at + 1) (args.edge.action % 65536) store2.ensures
     in
     let three = stored-as-long store2.new.list store3.new.list (args.at + 2) (args.edge.denominator % 65536)
-    store3.ensures in 
+    store3.ensures in
     record {
       index = pre.index;
       n_le_max_entries = (pre.n_le_max_entries.0, omega (arith, pre.n_le_max_entries.1, one, two, three));
@@ -63,7 +63,7 @@ returns-then-is_available c =
     let three = before_on at (at + 2) (args.edge.denominator % 65536) args.rows.now store2.new.list store3.new.list
     (omega
     arith)
-    store3.ensures two in 
+    store3.ensures two in
     record {
       before = before-less at (at + 3) args.rows.now store3.new.list list-ways.new.rows (omega
           arith) three
@@ -83,7 +83,7 @@ returns-else-is_available c =
     let store4 = c.store-else-is_available in
     let pre = c.requires in
     let is-available = c.is_available in
-    let if1 = c.if-is_available in 
+    let if1 = c.if-is_available in
     record {
       before = before_on args.at args.at 0 args.rows.now args.rows.now store4.new.list (omega arith) store4.ensures
           (before-none args.at args.rows.now);

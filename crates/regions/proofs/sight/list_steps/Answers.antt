@@ -1,6 +1,6 @@
 -- `list_steps` meets its contract. Assumes nothing.
 use native.Mathlib.Omega.{arith}
-use Prim.Native.Nat.{◌-◌, ◌<◌}
+use Prim.Native.Nat.{◌<◌}
 use mathlib.Core.Path.{refl, ◌∙◌}
 use lib.ListN.{length}
 use Rattle.table.specs.Reads.{ReadsEdge}
@@ -21,11 +21,19 @@ pub list_step-requires : goal.list_step-requires
 list_step-requires c =
     let pre = c.requires in
     let loop-test = c.loop-e-test in
-    let loop = c.loop-e in 
+    let loop = c.loop-e in
     record {
       index = pre.index;
-      n_le_max_entries = (pre.n_le_max_entries.0, omega (arith, loop-test.true, loop.invariant.0, pre.n_le_max_entries.1,
-          pre.n_le_max_entries.2));
+      n_le_max_entries = (
+        pre.n_le_max_entries.0,
+        omega (
+          arith,
+          loop-test.true,
+          loop.invariant.0,
+          pre.n_le_max_entries.1,
+          pre.n_le_max_entries.2,
+        ),
+      );
     }
 
 pub overflow_add-e : goal.overflow_add-e

@@ -1,6 +1,6 @@
 -- `list_ways` meets its contract. Assumes nothing.
 use native.Mathlib.Omega.{arith}
-use Prim.Native.Nat.{◌+◌, ◌*◌, ◌%◌, ◌-◌}
+use Prim.Native.Nat.{◌+◌, ◌*◌, ◌%◌}
 use mathlib.Core.Path.{◌∙◌, ap}
 use lib.ListN.{length, length-set}
 use Rattle.regions.specs.Graph.{landing}
@@ -143,7 +143,7 @@ returns c =
     let store = c.store in
     let loop = c.loop-i in
     let at_most = c.at_most-count in
-    let branch-count = c.branch_count in 
+    let branch-count = c.branch_count in
     record {
       before = before-then (args.at + 3) args.rows.now store.new.list loop.rows (before_on (args.at + 3) (args.at + 3)
           (at_most.result % 65536) args.rows.now args.rows.now store.new.list (omega arith) store.ensures

@@ -3,7 +3,6 @@ use native.Mathlib.Omega.{arith}
 use mathlib.Core.Path.{refl, sym, ◌∙◌}
 use mathlib.Core.Bool.{false≢true}
 use lib.ListN.{length}
-use borrow.Author.Tests.{not-true, not-false}
 use Rattle.table.proofs.Laws.Reads.{counts-read}
 use Rattle.regions.specs.Laws.Sight.{seen_parts, sight-unseen, sight-seen}
 use Rattle.regions.proofs.sight.see_read.Goals as goal
@@ -12,7 +11,7 @@ pub returns-then-not-is_seen : goal.returns-then-not-is_seen
 returns-then-not-is_seen c =
     let is_seen = c.is_seen in
     let args = c.args in
-    let out = sym is_seen.ensures ∙ c.if-not-is_seen.true in 
+    let out = sym is_seen.ensures ∙ c.if-not-is_seen.true in
     record {
       value = λ m reads. sight-unseen m args.entries.now args.n args.x _ out;
       sighted = λ m reads seen. absurd (false≢true (sym out ∙ seen));
@@ -44,7 +43,7 @@ returns c =
     let read-entry = c.read_entry-location in
     let label_at = c.label_at-label in
     let see-steps = c.see_steps-reached in
-    let seen = sym is_seen.ensures ∙ if1.false in 
+    let seen = sym is_seen.ensures ∙ if1.false in
     record {
       value = λ m reads. sight-seen m args.entries.now args.n args.x _ seen read-entry.result label_at.result
           see-steps.result args.shape.edges read-entry.ensures (label_at.ensures.value_2 m reads) (see-steps.ensures m

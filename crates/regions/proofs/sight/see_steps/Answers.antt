@@ -12,7 +12,7 @@ use Rattle.regions.proofs.sight.see_steps.Goals as goal
 
 pub link_all-requires : goal.link_all-requires
 link_all-requires c =
-    let pre = c.requires in 
+    let pre = c.requires in
     record {
       index = index-zeros _ _;
       n_le_max_entries = (pre.0, pre.2, omega (arith, pre.0, length-replicate {A = ℕ} 4096 0));
@@ -27,7 +27,7 @@ pub list_steps-requires : goal.list_steps-requires
 list_steps-requires c =
     let link-all = c.link_all in
     let pre = c.requires in
-    let at_most = c.at_most-edges in 
+    let at_most = c.at_most-edges in
     record {
       index = link-all.ensures;
       n_le_max_entries = (pre.0, at_most.ensures.0, pre.4);
@@ -36,7 +36,7 @@ list_steps-requires c =
 pub list_delays-requires : goal.list_delays-requires
 list_delays-requires c =
     let link-all = c.link_all in
-    let pre = c.requires in 
+    let pre = c.requires in
     record {
       index = link-all.ensures;
       n_le_max_entries = (pre.0, pre.3);

@@ -11,16 +11,16 @@ pub returns-in-Refused : goal.returns-in-Refused
 returns-in-Refused c =
     let args = c.args in
     let read = c.read-reading in
-    let out = refusal-of args.bytes.now _ _ (sym c.in-Refused.is ∙ read.ensures) in 
+    let out = refusal-of args.bytes.now _ _ (sym c.in-Refused.is ∙ read.ensures) in
     record {
       value = sym (ap (sight_of (is_seen args.n args.x (length args.entries.now) (length args.delays.now) (length
           args.rows.now)) args.entries.now args.n args.x) out);
       sighted = λ m answer seen. absurd (refused-not _ _ m (sym out ∙ answer));
       by_index = λ number place answer. (refl, refl);
       delays_unchanged = λ none. (
-            refl,
-            refl,
-          );
+        refl,
+        refl,
+      );
     }
 
 pub returns-in-Accepted : goal.returns-in-Accepted
@@ -28,15 +28,15 @@ returns-in-Accepted c =
     let args = c.args in
     let read = c.read-reading in
     let see-read = c.see_read in
-    let (m, reads) = reads_of args.bytes.now _ (sym c.in-Accepted.is ∙ read.ensures) in 
+    let (m, reads) = reads_of args.bytes.now _ (sym c.in-Accepted.is ∙ read.ensures) in
     record {
       value = see-read.ensures.value m reads ∙ sym (ap (sight_of (is_seen args.n args.x (length args.entries.now) (length
           args.delays.now) (length args.rows.now)) args.entries.now args.n args.x) reads.answer);
       sighted = λ k answer seen. let same : m ≡ k = cc (reads.answer, answer) in subst (λ (y : Model). Sighted y args.entries.now
-            args.n args.x args.delays.now see-read.new.delays see-read.new.rows)
-            same
-            (see-read.ensures.sighted m reads seen);
+          args.n args.x args.delays.now see-read.new.delays see-read.new.rows)
+          same
+          (see-read.ensures.sighted m reads seen);
       by_index = λ number place answer. absurd (refused-not number place m (sym answer ∙ reads.answer));
       delays_unchanged = λ none. see-read.ensures.delays_unchanged
-              none;
+          none;
     }

@@ -1,6 +1,5 @@
 -- The first i numbers of the slice are the labels of the first i locations. Measure: the numbers that are left.
 use native.Mathlib.Omega.{arith}
-use Prim.Native.Nat.{◌-◌}
 use mathlib.Core.Path.{refl, ◌∙◌}
 use lib.ListN.{length, length-set}
 use Rattle.regions.specs.Laws.Sight.{labels-on, labels-all}
@@ -29,5 +28,5 @@ returns c =
     let loop = c.loop-i in
     let args = c.args in
     λ m r. labels-all m loop.labels loop.i (length args.labels.now) loop.invariant.1 (omega (arith, c.loop-i-test.false, loop.invariant.1))
-        loop.invariant.2
+    loop.invariant.2
     (loop.invariant.0 m r)

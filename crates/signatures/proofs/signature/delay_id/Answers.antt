@@ -22,7 +22,7 @@ returns c =
     record {
       interns = subst (λ (l : List ℕ). Interns l args.index.now args.numbers.now intern.new.index intern.new.numbers intern.result)
           (part-behind 130 (length args.list.now - 130) list-delays.result args.list.now list-delays.new.list
-              (omega (arith, pre.names_bound.1))
+          (omega (arith, pre.names_bound.1))
           fits ∙ list-delays.ensures.0) intern.ensures;
       x_len_bound = (
         omega (

@@ -5,7 +5,6 @@ use mathlib.Core.Path.{refl, sym}
 use native.Mathlib.Omega.{arith}
 use lib.ListN.{length-replicate}
 use mathlib.Core.Bool.{false≢true}
-use borrow.Author.Tests.{not-true, not-false}
 use Rattle.signatures.specs.Dictionary.{entries_of}
 use Rattle.signatures.specs.Raw.{raw_step}
 use Rattle.signatures.specs.Named.{items_in}

@@ -10,7 +10,7 @@ use Rattle.states.proofs.states.is_not_taken.Goals as goal
 
 pub returns-then-shape-location : goal.returns-then-shape-location
 returns-then-shape-location c =
-    let args = c.args in 
+    let args = c.args in
     record {
       value = λ m el ec. no-location m (asked args.location args.v0 args.v1 args.v2 args.v3 args.d) (omega (
         arith,
@@ -23,7 +23,7 @@ returns-then-shape-location c =
 pub returns-then-d-eq0 : goal.returns-then-d-eq0
 returns-then-d-eq0 c =
     let args = c.args in
-    let if1 = c.if-shape-location in 
+    let if1 = c.if-shape-location in
     record {
       value = λ m el ec. no-parts m (asked args.location args.v0 args.v1 args.v2 args.v3 args.d) (omega (
         arith,
@@ -37,7 +37,7 @@ pub returns-then-d-gt-MOST_PARTS : goal.returns-then-d-gt-MOST_PARTS
 returns-then-d-gt-MOST_PARTS c =
     let args = c.args in
     let if1 = c.if-shape-location in
-    let if2 = c.if-d-eq0 in 
+    let if2 = c.if-d-eq0 in
     record {
       value = λ m el ec. many-parts m (asked args.location args.v0 args.v1 args.v2 args.v3 args.d) (omega (
         arith,
@@ -53,7 +53,7 @@ returns c =
     let if1 = c.if-shape-location in
     let if2 = c.if-d-eq0 in
     let if3 = c.if-d-gt-MOST_PARTS in
-    let struct_known = c.struct_known-1 in 
+    let struct_known = c.struct_known-1 in
     record {
       value = λ m el ec. c.some_stray.ensures ∙ ap (λ (n : ℕ). strays n 0 (args.v0 ∷ args.v1 ∷ args.v2 ∷ args.v3
           ∷ [])) ec ∙ by-strays m (asked args.location args.v0 args.v1 args.v2 args.v3 args.d) (omega (

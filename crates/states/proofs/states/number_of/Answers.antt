@@ -1,5 +1,4 @@
 -- `number_of` meets its contract. Assumes nothing.
-use Prim.Native.Nat.{◌-◌}
 use native.Mathlib.Omega.{arith}
 use mathlib.Core.Path.{sym, ◌∙◌}
 use Rattle.regions.specs.Explore.{listed, listed-length, listed_at}

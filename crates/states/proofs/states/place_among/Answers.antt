@@ -51,4 +51,4 @@ returns c =
     number_of.result _ (sym (is-not-taken.ensures.value m counts.locations counts.clocks) ∙ if1.false)
     ((number_of.ensures few) ∙ ap (number_in (listed args.entries.now args.n)) (region-at.ensures ∙ ap (λ (b :
     Bounds). placed b (asked args.location args.v0 args.v1 args.v2 args.v3 args.d)) (bounds-read.ensures ∙ ap bounds_read reads.answer)))
-        c.if-number-n.false
+    c.if-number-n.false

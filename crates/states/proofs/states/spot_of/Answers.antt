@@ -20,8 +20,11 @@ returns-then-most-v c =
 
 pub overflow_cast-result : goal.overflow_cast-result
 overflow_cast-result c = let byte : c.byte_of.result < 256 = search rules in
-    omega (arith, whole-small c.args.bounds c.args.d c.args.i c.args.v c.requires.0 (subst (λ (x : ℕ). x < 256) c.byte_of.ensures byte)
-    (subst (λ (x : ℕ). c.args.v ≤ x * c.args.d) c.byte_of.ensures c.if-most-v.false))
+    omega (
+      arith,
+      whole-small c.args.bounds c.args.d c.args.i c.args.v c.requires.0 (subst (λ (x : ℕ). x < 256) c.byte_of.ensures byte)
+          (subst (λ (x : ℕ). c.args.v ≤ x * c.args.d) c.byte_of.ensures c.if-most-v.false),
+    )
 
 pub returns-then-i-count : goal.returns-then-i-count
 returns-then-i-count c = let byte : c.byte_of.result < 256 = search rules in let low =

@@ -18,7 +18,7 @@ returns c =
     let given = ap (λ (w : ℕ). record { weight = w; target = item-at.result.c; mask = item-at.result.d })
     c.two_bytes.ensures.0 ∙ ap branch_of item-at.ensures
     ∙ ap (λ (first : ℕ). branch_of (item_from 6 no_body body_at args.table.now first args.i)) branches-from.ensures
-    ∙ item-part branch_of args.table.now _ 6 args.i in 
+    ∙ item-part branch_of args.table.now _ 6 args.i in
     record {
       value = given;
       value_2 = λ m e reads. given

@@ -10,7 +10,7 @@ unfolding branch_count
 returns c =
     let args = c.args in
     let shared-slice-known = c.type_inv.table in
-    let given = c.walk-w.ensures.1 ∙ ap (passed 6 8 args.table.now) c.branches_from.ensures in 
+    let given = c.walk-w.ensures.1 ∙ ap (passed 6 8 args.table.now) c.branches_from.ensures in
     record {
       value = given;
       value_2 = λ m e reads. given

@@ -15,7 +15,7 @@ returns c =
     let shared-slice-known = c.type_inv.table in
     let given = ap guard_of c.item_at-body.ensures
     ∙ ap (λ (first : ℕ). guard_of (item_from 5 no_body body_at args.table.now first args.i)) c.guards_from.ensures
-    ∙ item-part guard_of args.table.now _ 5 args.i in 
+    ∙ item-part guard_of args.table.now _ 5 args.i in
     record {
       value = given;
       value_2 = λ m e reads. given

@@ -12,7 +12,7 @@ unfolding invariant_at
 returns c =
     let args = c.args in
     let given = ap invariant_of c.item_at-body.ensures
-    ∙ item-part invariant_of args.table.now args.shape.first_invariant 3 args.i in 
+    ∙ item-part invariant_of args.table.now args.shape.first_invariant 3 args.i in
     record {
       value = given;
       value_2 = λ m reads. given

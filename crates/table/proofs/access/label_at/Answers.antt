@@ -12,7 +12,7 @@ unfolding label_at
 returns c =
     let args = c.args in
     let given = ap (λ (b : Body). b.a) c.item_at-body.ensures
-    ∙ item-part (λ b. b.a) args.table.now args.shape.first_location 2 args.i in 
+    ∙ item-part (λ b. b.a) args.table.now args.shape.first_location 2 args.i in
     record {
       value = given;
       value_2 = λ m reads. given

@@ -1,6 +1,5 @@
 -- `walk` meets its contract. The loop's invariant: going on from here comes to where the whole walk comes to. The measure is how
 -- many records may still be passed. Assumes nothing.
-use Prim.Native.Nat.{◌-◌}
 use mathlib.Core.Path.{sym, ◌∙◌}
 use native.Mathlib.Omega.{arith}
 use Rattle.table.proofs.Laws.Walks.{walking_start, walking_on, walked-other, walked_all, inside}

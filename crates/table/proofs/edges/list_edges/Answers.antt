@@ -1,11 +1,10 @@
 -- `list_edges` meets its contract. The loop's invariant: storing the edges from here on comes to what storing all edges comes to,
 -- of the edges that the list has room for. The measure is how many of them are left. Assumes nothing.
-use Prim.Native.Nat.{◌-◌}
 use mathlib.Core.Path.{sym, ◌∙◌, ap}
 use mathlib.Core.Logic.{inl, inr}
 use native.Mathlib.Omega.{arith}
 use lib.ListN.{set}
-use borrow.Author.Tests.{eqb-true, eqb-false, not-true, not-false}
+use borrow.Author.Tests.{eqb-true, eqb-false}
 use Rattle.table.proofs.Laws.Walks.{inside}
 use Rattle.table.specs.Access.{read_edge}
 use Rattle.table.proofs.Laws.Reads.{edge-listed}
@@ -27,7 +26,7 @@ returns-then-not-is_edge c =
     let loop = c.loop-i in
     let whole = list_over args.table.now args.shape.edges args.shape.first_edge room_for.result loop.at loop.i
     no_edges.result loop.edges no_edges.ensures room_for.ensures
-    (inr (eqb-false _ 4 (sym c.is_edge.ensures ∙ c.if-not-is_edge.true))) loop.invariant in 
+    (inr (eqb-false _ 4 (sym c.is_edge.ensures ∙ c.if-not-is_edge.true))) loop.invariant in
     record {
       value = whole;
       lists = λ m reads. edge-listed args.table.now m
@@ -87,7 +86,7 @@ returns c =
     let room_for = c.room_for-count in
     let loop = c.loop-i in
     let whole = list_over args.table.now args.shape.edges args.shape.first_edge room_for.result loop.at loop.i
-    no_edges.result loop.edges no_edges.ensures room_for.ensures (inl c.loop-i-test.false) loop.invariant in 
+    no_edges.result loop.edges no_edges.ensures room_for.ensures (inl c.loop-i-test.false) loop.invariant in
     record {
       value = whole;
       lists = λ m reads. edge-listed args.table.now m

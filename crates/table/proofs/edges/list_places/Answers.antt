@@ -1,11 +1,10 @@
 -- `list_places` meets its contract. The loop's invariant: storing the places from here on comes to what storing all places
 -- comes to, and the list keeps its length. The measure is how many edges are left. Assumes nothing.
-use Prim.Native.Nat.{◌-◌}
 use mathlib.Core.Path.{refl, sym, ◌∙◌, ap}
 use mathlib.Core.Logic.{inl, inr}
 use native.Mathlib.Omega.{arith}
 use lib.Seq.{sets}
-use borrow.Author.Tests.{eqb-true, eqb-false, not-true, not-false}
+use borrow.Author.Tests.{eqb-true, eqb-false}
 use Rattle.table.proofs.Laws.Reads.{places-read}
 use Rattle.table.proofs.Laws.Edges.{comes-start, comes-on, places-over}
 use Rattle.table.proofs.edges.list_places.Goals as goal
@@ -26,7 +25,7 @@ returns-then-not-is_edge c =
     let shared-slice-known = c.type_inv.table in
     let loop = c.loop-i in
     let whole = places-over args.table.now args.shape.edges args.shape.first_edge args.places.now loop.at loop.i
-    loop.places (inr (eqb-false _ 4 (sym c.is_edge.ensures ∙ c.if-not-is_edge.true))) loop.invariant.0 in 
+    loop.places (inr (eqb-false _ 4 (sym c.is_edge.ensures ∙ c.if-not-is_edge.true))) loop.invariant.0 in
     record {
       places_after = whole;
       places_after_2 = λ m reads. whole
@@ -69,7 +68,7 @@ returns c =
     let shared-slice-known = c.type_inv.table in
     let loop = c.loop-i in
     let whole = places-over args.table.now args.shape.edges args.shape.first_edge args.places.now loop.at loop.i
-    loop.places (inl c.loop-i-test.false) loop.invariant.0 in 
+    loop.places (inl c.loop-i-test.false) loop.invariant.0 in
     record {
       places_after = whole;
       places_after_2 = λ m reads. whole

@@ -1,6 +1,5 @@
 -- `read` meets its contract. The loop's invariant: reading on from here gives what reading from the start gives. The measure is
 -- what is left of the table. Assumes nothing.
-use Prim.Native.Nat.{◌-◌}
 use mathlib.Core.Path.{sym, ◌∙◌, ap}
 use native.Mathlib.Omega.{arith}
 use Rattle.table.proofs.Laws.Runs.{next-within}
@@ -20,7 +19,7 @@ loop-number-init c =
 
 pub read_record-step-requires : goal.read_record-step-requires
 read_record-step-requires c =
-    let loop = c.loop-number in 
+    let loop = c.loop-number in
     record {
       at_bound = omega (arith, loop.invariant.short, loop.invariant.inside);
       ranged = loop.invariant.ranged;

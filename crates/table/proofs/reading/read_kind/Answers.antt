@@ -67,5 +67,5 @@ returns-in_default c =
     c.read_end.ensures ∙ sym
     (ap (step_of args.p args.at args.size)
     (other-kind args.kind args.body c.in_default.in_default-own.rest.0.0.0.0.0.1 c.in_default.in_default-own.rest.0.0.0.0.1
-        c.in_default.in_default-own.rest.0.0.0.1 c.in_default.in_default-own.rest.0.0.1 c.in_default.in_default-own.rest.0.1
+    c.in_default.in_default-own.rest.0.0.0.1 c.in_default.in_default-own.rest.0.0.1 c.in_default.in_default-own.rest.0.1
     c.in_default.in_default-own.rest.1))

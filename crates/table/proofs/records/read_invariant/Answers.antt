@@ -1,6 +1,6 @@
 -- `read_invariant` meets its contract: the tests are the rows of the invariant atom, in their order. Assumes nothing.
 use mathlib.Core.Path.{sym, ◌∙◌}
-use borrow.Author.Tests.{lt-ltb, le-ltb, le-leb, lt-leb, eq-eqb, ne_eqb, leb-true, leb-false, not-true, not-false}
+use borrow.Author.Tests.{lt-ltb, le-ltb, le-leb, lt-leb, eq-eqb, ne_eqb, leb-true, leb-false}
 use Rattle.table.proofs.records.read_invariant.Goals as goal
 
 pub returns-then-p-ne-IN_INVARIANTS : goal.returns-then-p-ne-IN_INVARIANTS
