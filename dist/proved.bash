@@ -47,9 +47,9 @@ write_manifest() {
   } >"$made" && chmod 644 "$made" && mv -f -- "$made" "$manifest"
 }
 
-# Proves crates with rt, each with those beneath it, and tells on standard error how far that has come. `check` takes crates that were proved
-# before and have not changed since as they are; `verdict` proves each from nothing, and takes nothing that earlier runs left. What rt
-# prints is shown where the proofs fail. The caller sets pipefail.
+# Proves crates with rt, each with those beneath it, and tells on standard error how far that has come. `check` takes crates that were
+# proved before and have not changed since as they are; `verdict` proves each from nothing, and takes nothing that earlier runs left. What
+# rt prints is shown where the proofs fail. The caller sets pipefail.
 #   prove_crates check|verdict CRATE ...
 prove_crates() {
   local log=build/proving.log last=build/proving.seconds began=$SECONDS verb=$1 crate expected line name='' status=0

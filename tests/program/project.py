@@ -125,7 +125,7 @@ class Project:
         self.put("dist/MANIFEST", self.manifest("dist"))
 
     def tell_stub(self, name, data=b""):
-        """Writes a file that the stub looks at: what it builds, with which word it fails, what `rt ci` does, and whether a source changes."""
+        """Writes a file that the stub looks at: what it builds, the word with which it fails, what `rt ci` does, whether a source changes."""
         write(os.path.join(self.stub, name), data.encode() if isinstance(data, str) else data, 0o755)
 
     # Digests.

@@ -163,7 +163,7 @@ def hold_damaged(project):
 
 
 def hold_prove(project):
-    """Proves from nothing where that is asked for, though dist/ is of the sources. Other calls take dist/ again. None takes away what rt kept."""
+    """Proves from nothing where that is asked for, though dist/ is of the sources; other calls take dist/ again. What rt kept stays."""
     stamps = ["crates/table/out/stamp", "crates/reduce/out/stamp", "crates/terkwabu/out/stamp"]
     for name in stamps:
         project.put(name, b"")
@@ -315,8 +315,9 @@ def hold_test(project):
 
 
 def hold_gate(project):
-    """Lets `rt ci` fail, be stopped, end without its count or tell of edits that are bad, while the steps beside it go on. ./test stops then."""
+    """Lets `rt ci` fail, be stopped, end without its count or tell of bad edits, while the steps beside it go on: ./test stops then."""
     edits = "must-fail edits: 3 refused"
+    some_bad = f"{edits}, 1 of them only by a limit, 10 bad"
     uncounted, beside = GATE[: GATE.index("4 passed")], "rt ci, or one of the steps beside it"
     unsure, bad, none = "rt ci did not pass: no line begins with rt: ok", "must-fail edits are bad: ", "rt ci ended without its count"
     project.put("tests/vectors/none.jsonl", b"")
@@ -329,7 +330,7 @@ def hold_gate(project):
         ("a count that is not the gate's", 60, GATE.replace("failed", "failed (table alone: not the gate)"), "0", [none, beside]),
         ("no line that says that all is well", 60, "rt: table proved\n4 passed, 0 failed\n", "0", [unsure, beside]),
         ("a bad edit", 60, GATE.replace(edits, f"{edits}, 1 bad"), "0", [bad + "1", beside]),
-        ("bad edits, and one refused by a limit", 60, GATE.replace(edits, f"{edits}, 1 of them only by a limit, 10 bad"), "0", [bad + "10", beside]),
+        ("bad edits, and one refused by a limit", 60, GATE.replace(edits, some_bad), "0", [bad + "10", beside]),
         ("a gate that passes, and then a step that fails", 1, GATE.replace(edits, f"{edits}, 0 bad"), "0", [beside]),
     ):
         project.put("tests/models/run", f"#!/bin/sh\nsleep {seconds}\nexit 1\n".encode(), 0o755)
