@@ -60,8 +60,10 @@ prove_crates() {
   for crate; do (cd "crates/$crate" && rt "$verb") || exit; done </dev/null 2>&1 | while IFS= read -r line || [[ -n $line ]]; do
     printf '%s\n' "$line" >>"$log"
     case $line in
-      # Stands before what is said of a crate, and the other line at its end.
+      # These two name the crate, and the last line that is said of it follows.
       "rt: chose --jobs "*" for "*) name=${line##* } ;;
+      "fn "*"::"*": proved") name=${line#fn } name=${name%%::*} ;;
+      "logic=proved tests="*) ;;
       "logic=proved "*) printf '  %s proved; %d s so far, of about %d\n' "$name" $((SECONDS - began)) "$expected" >&2 ;;
     esac
   done || status=$?

@@ -19,6 +19,18 @@ rt: table proved
 rt: ok; handles allowed: none; must-fail edits: 3 refused; every proof and must-fail edit was done in this run
 4 passed, 0 failed
 """
+SAID = """\
+rt: chose --jobs 2 for table
+fn table::read::read_all: proved
+logic=proved functions=1
+rt: chose to run the two checks side by side
+logic=proved tests=1 functions=2
+fn clocks::region::Region::delay: proved
+crate clocks: modules loaded=1 checked=0
+logic=proved functions=1
+rt: chose --jobs 2 for rounding
+logic=proved functions=0
+"""
 STUB = """\
 #!/bin/sh
 here=${0%/*}
@@ -33,9 +45,9 @@ case $1 in
     exit "$(cat "$here/ends")"
     ;;
 esac
-echo "rt: chose --jobs 2 for table"
-echo "fn table::read: proved"
-echo "logic=proved functions=1"
+cat <<'END'
+SAID
+END
 if [ "$(cat "$here/fails")" = "$1" ]; then
   printf 'rt: the stub fails' >&2
   case $1 in check | verdict) ;; *) echo >&2 ;; esac # a proof that fails leaves its last line without an end
@@ -50,7 +62,7 @@ esac
 mkdir -p out
 if [ -e "$here/$made" ]; then cp "$here/$made" "out/$made"; fi
 if [ "$1" = run ]; then echo "refused 2 place 0"; fi
-""".replace("SOURCE", SOURCE)
+""".replace("SOURCE", SOURCE).replace("SAID\n", SAID)
 
 
 def program(place):

@@ -9,7 +9,7 @@ import re
 import shutil
 
 from calls import CALLS, Did, header_version, hold, hold_own, link_tools, read
-from project import DIST, GATE, PROVER, SOURCE, Project, digest, program
+from project import DIST, GATE, PROVER, SAID, SOURCE, Project, digest, program
 
 CHECK_REDUCE = ["reduce: check", "reduce: run", "project: version"]
 CHECK_LIBRARY = ["terkwabu: check", "terkwabu: lib", "project: version"]
@@ -20,13 +20,10 @@ COMMENT = b"// A comment.\n"
 PROGRESS = """\
 proving from the sources; about 600 s if nothing was proved before
   table proved; N s so far, of about 600
+  clocks proved; N s so far, of about 600
+  rounding proved; N s so far, of about 600
 """
-BOTH = PROGRESS + PROGRESS.splitlines(keepends=True)[1]  # of two crates
-SAID = """\
-rt: chose --jobs 2 for table
-fn table::read: proved
-logic=proved functions=1
-"""
+BOTH = PROGRESS + PROGRESS[PROGRESS.index("  table") :]  # of two crates
 FAILURE = SAID + "rt: the stub fails\n"
 
 
