@@ -4,6 +4,7 @@ ghost use Rattle.std.specs.Prelude.{◌≤◌, length};
 use crate::digest::mix_bytes;
 use crate::questions::Question;
 use crate::{blocks, graphs, listings, lists, pairs, places, print, proposals};
+use std::io;
 
 // How much is lent: bytes for entries, and the numbers of two lists.
 #[derive(Clone, Copy)]
@@ -28,46 +29,41 @@ fn fill(lent: &mut [u8], byte: u8) {
 }
 
 // Fills the lists before the call; the first of call 6 is the proposal, which the input has. Answers false where that ends early.
-fn fill_lists(question: Question, byte: u8, first: &mut [u64], second: &mut [u64]) -> bool
+fn fill_lists(
+    rt: &impl Input,
+    question: Question,
+    byte: u8,
+    first: &mut [u64],
+    second: &mut [u64],
+) -> io::Result<bool>
     requires { (length first.old ≤ 4200) × (length second.old ≤ 4200) }
 {
     match question {
-        Question::Proposal => lists::read(first),
+        Question::Proposal => lists::read(rt, first),
         _ => {
             lists::fill(first, byte, 0);
             lists::fill(second, byte, 1);
-            true
+            Ok(true)
         }
     }
 }
 
 // Runs the call that answers the question, over bytes and lists that were filled.
 fn run_over(
+    rt: &impl Print,
     bytes: &[u8],
     question: Question,
     lent: &mut [u8],
     first: &mut [u64],
     second: &mut [u64],
-) {
+) -> io::Result<()> {
     match question {
-        Question::Whole => {
-            graphs::run(bytes, lent);
-        }
-        Question::Place(state) => {
-            places::run(bytes, state, lent);
-        }
-        Question::Blocks => {
-            blocks::run(bytes, lent, first, second);
-        }
-        Question::Pair { r, s } => {
-            pairs::run(bytes, r, s, lent, first, second);
-        }
-        Question::Proposal => {
-            proposals::run(bytes, first, lent);
-        }
-        Question::Listing => {
-            listings::run(bytes, lent, first, second);
-        }
+        Question::Whole => graphs::run(rt, bytes, lent),
+        Question::Place(state) => places::run(rt, bytes, state, lent),
+        Question::Blocks => blocks::run(rt, bytes, lent, first, second),
+        Question::Pair { r, s } => pairs::run(rt, bytes, r, s, lent, first, second),
+        Question::Proposal => proposals::run(rt, bytes, first, lent),
+        Question::Listing => listings::run(rt, bytes, lent, first, second),
     }
 }
 
@@ -89,40 +85,47 @@ fn is_listing(question: Question) -> bool {
 }
 
 // Prints what the bytes hold after the call, and the lists where it writes those.
-fn print_lent(question: Question, lent: &[u8], first: &[u64], second: &[u64]) {
+fn print_lent(
+    rt: &impl Print,
+    question: Question,
+    lent: &[u8],
+    first: &[u64],
+    second: &[u64],
+) -> io::Result<()> {
     if is_listing(question) {
-        print::word(b"\n");
-        return;
+        return print::word(rt, b"\n");
     }
-    print::digest(b" entries ", mix_bytes(0, lent));
+    print::digest(rt, b" entries ", mix_bytes(0, lent))?;
     if writes_lists(question) {
-        lists::print(first, second);
+        lists::print(rt, first, second)?;
     }
-    print::word(b"\n");
+    print::word(rt, b"\n")
 }
 
 // Fills the lent bytes and lists, runs the call, and prints what they hold after it. Answers false where the input ends early.
 fn run_filled(
+    rt: &(impl Input + Print),
     bytes: &[u8],
     question: Question,
     byte: u8,
     lent: &mut [u8],
     first: &mut [u64],
     second: &mut [u64],
-) -> bool
+) -> io::Result<bool>
     requires { (length first.old ≤ 4200) × (length second.old ≤ 4200) }
 {
     fill(lent, byte);
-    if !fill_lists(question, byte, first, second) {
-        return false;
+    if !fill_lists(rt, question, byte, first, second)? {
+        return Ok(false);
     }
-    run_over(bytes, question, lent, first, second);
-    print_lent(question, lent, first, second);
-    true
+    run_over(rt, bytes, question, lent, first, second)?;
+    print_lent(rt, question, lent, first, second)?;
+    Ok(true)
 }
 
 // Lends the first bytes of a room and the first numbers of two lists, as many as the case says.
 fn run_part(
+    rt: &(impl Input + Print),
     bytes: &[u8],
     question: Question,
     byte: u8,
@@ -130,7 +133,7 @@ fn run_part(
     room: &mut [u8],
     one: &mut [u64],
     two: &mut [u64],
-) -> bool
+) -> io::Result<bool>
     requires entries_in_bounds { sizes.entries ≤ length room.old }
     requires first_in_bounds { (sizes.first ≤ length one.old) × (sizes.first ≤ 4200) }
     requires second_in_bounds { (sizes.second ≤ length two.old) × (sizes.second ≤ 4200) }
@@ -141,16 +144,24 @@ fn run_part(
     let lent = &mut room[..entries];
     let first = &mut one[..here];
     let second = &mut two[..there];
-    run_filled(bytes, question, byte, lent, first, second)
+    run_filled(rt, bytes, question, byte, lent, first, second)
 }
 
 // Runs a call on a table, with some bytes and lists lent. Answers false where the input ends early.
-pub(crate) fn run(bytes: &[u8], question: Question, byte: u8, sizes: Sizes) -> bool
+pub(crate) fn run(
+    rt: &(impl Input + Print),
+    bytes: &[u8],
+    question: Question,
+    byte: u8,
+    sizes: Sizes,
+) -> io::Result<bool>
     requires entries_bound { sizes.entries ≤ 37000 }
     requires first_bound { (sizes.first ≤ 4200) × (sizes.second ≤ 4200) }
 {
     let mut room = [0u8; 37000];
     let mut one = [0u64; 4200];
     let mut two = [0u64; 4200];
-    run_part(bytes, question, byte, sizes, &mut room, &mut one, &mut two)
+    run_part(
+        rt, bytes, question, byte, sizes, &mut room, &mut one, &mut two,
+    )
 }

@@ -7,6 +7,7 @@ use crate::digest::mix_bytes;
 use crate::print;
 use listing::Part;
 use partition::Reduction;
+use std::io;
 
 // As many parts as the longest listing has: its first line, 4,096 regions, as many blocks and the totals, and the end.
 const PARTS: u64 = 8195;
@@ -97,25 +98,32 @@ fn add_refusal(number: u64, place: u64, buffer: &mut [u8]) -> Text {
     add(text, answer, buffer)
 }
 
-fn print_text(text: Text) {
-    print::number(b"listing ", text.length);
-    print::digest(b" digest ", text.digest);
+fn print_text(rt: &impl Print, text: Text) -> io::Result<()> {
+    print::number(rt, b"listing ", text.length)?;
+    print::digest(rt, b" digest ", text.digest)
 }
 
 // Runs the call on a table, lent bytes and lists.
-pub(crate) fn run(bytes: &[u8], lent: &mut [u8], first: &mut [u64], second: &mut [u64]) {
+pub(crate) fn run(
+    rt: &impl Print,
+    bytes: &[u8],
+    lent: &mut [u8],
+    first: &mut [u64],
+    second: &mut [u64],
+) -> io::Result<()> {
     let mut buffer = [0u8; 65536];
     let answer = partition::reduce_table(bytes, lent, first, second);
     match answer {
         Reduction::Refused { number, place } => {
-            print_text(add_refusal(number as u64, place as u64, &mut buffer));
+            let text = add_refusal(number as u64, place as u64, &mut buffer);
+            print_text(rt, text)
         }
         Reduction::Blocks {
             regions,
             blocks,
             rounds,
         } => {
-            print_text(add_parts(
+            let text = add_parts(
                 bytes,
                 lent,
                 second,
@@ -123,7 +131,8 @@ pub(crate) fn run(bytes: &[u8], lent: &mut [u8], first: &mut [u64], second: &mut
                 blocks,
                 rounds,
                 &mut buffer,
-            ));
+            );
+            print_text(rt, text)
         }
     }
 }

@@ -4,6 +4,7 @@ ghost use Rattle.std.specs.Prelude.{◌*◌, ◌≤◌, ◌<◌, length};
 use crate::digest::mix;
 use crate::numbers::decode;
 use crate::{input, print};
+use std::io;
 
 // What number i of list k holds before the call, so that a stray write shows.
 pub(crate) fn filler(byte: u8, k: usize, i: usize) -> usize
@@ -29,24 +30,24 @@ pub(crate) fn fill(list: &mut [u64], byte: u8, k: usize)
 }
 
 // Reads a list from as many bytes of the input as it takes, by way of a room for these. Answers false where the input ends early.
-fn read_by(room: &mut [u8], list: &mut [u64]) -> bool
+fn read_by(rt: &impl Input, room: &mut [u8], list: &mut [u64]) -> io::Result<bool>
     requires { 8 * length list.old ≤ length room.old }
 {
     let size = 8 * list.len();
     let bytes = &mut room[..size];
-    if !input::read(bytes) {
-        return false;
+    if !input::read(rt, bytes)? {
+        return Ok(false);
     }
     decode(bytes, list);
-    true
+    Ok(true)
 }
 
 // Reads a list from the input, eight bytes a number. Answers false where the input ends early.
-pub(crate) fn read(list: &mut [u64]) -> bool
+pub(crate) fn read(rt: &impl Input, list: &mut [u64]) -> io::Result<bool>
     requires { length list.old ≤ 4200 }
 {
     let mut room = [0u8; 33600];
-    read_by(&mut room, list)
+    read_by(rt, &mut room, list)
 }
 
 fn size_of(number: u64) -> usize {
@@ -65,6 +66,6 @@ fn mix_all(digest: u64, list: &[u64]) -> u64 {
 }
 
 // Prints the digest of two lists.
-pub(crate) fn print(first: &[u64], second: &[u64]) {
-    print::digest(b" lists ", mix_all(mix_all(0, first), second));
+pub(crate) fn print(rt: &impl Print, first: &[u64], second: &[u64]) -> io::Result<()> {
+    print::digest(rt, b" lists ", mix_all(mix_all(0, first), second))
 }

@@ -2,6 +2,7 @@
 use crate::numbers::eight_at;
 use crate::print;
 use states::Placing;
+use std::io;
 
 // A state: a location, and the values of the four clocks over a denominator.
 #[derive(Clone, Copy)]
@@ -27,7 +28,7 @@ pub(crate) fn state_of(bytes: &[u8; 48]) -> State {
 }
 
 // Runs the call on a table, a state and lent bytes.
-pub(crate) fn run(bytes: &[u8], state: State, lent: &mut [u8]) {
+pub(crate) fn run(rt: &impl Print, bytes: &[u8], state: State, lent: &mut [u8]) -> io::Result<()> {
     let answer = states::place_state(
         bytes,
         lent,
@@ -39,11 +40,7 @@ pub(crate) fn run(bytes: &[u8], state: State, lent: &mut [u8]) {
         state.denominator,
     );
     match answer {
-        Placing::Refused { number, place } => {
-            print::refused(number, place);
-        }
-        Placing::Region(n) => {
-            print::number(b"state ", n);
-        }
+        Placing::Refused { number, place } => print::refused(rt, number, place),
+        Placing::Region(n) => print::number(rt, b"state ", n),
     }
 }

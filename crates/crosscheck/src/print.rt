@@ -1,23 +1,23 @@
 // Words and numbers on standard output.
-use libc::STDOUT_FILENO;
+use std::io;
 
-pub(crate) fn word(text: &[u8]) {
-    io::write_all(STDOUT_FILENO, text);
+pub(crate) fn word(rt: &impl Print, text: &[u8]) -> io::Result<()> {
+    rt.write_all(text)
 }
 
 // A word and a number after it.
-pub(crate) fn number(text: &[u8], n: usize) {
-    io::write_all(STDOUT_FILENO, text);
-    io::print_decimal(STDOUT_FILENO, n as u64);
+pub(crate) fn number(rt: &impl Print, text: &[u8], n: usize) -> io::Result<()> {
+    rt.write_all(text)?;
+    rt.print(n)
 }
 
-pub(crate) fn digest(text: &[u8], n: u64) {
-    io::write_all(STDOUT_FILENO, text);
-    io::print_decimal(STDOUT_FILENO, n);
+pub(crate) fn digest(rt: &impl Print, text: &[u8], n: u64) -> io::Result<()> {
+    rt.write_all(text)?;
+    rt.print(n)
 }
 
 // A refusal: its number and place.
-pub(crate) fn refused(n: u8, place: usize) {
-    number(b"refused ", n as usize);
-    number(b" place ", place);
+pub(crate) fn refused(rt: &impl Print, n: u8, place: usize) -> io::Result<()> {
+    number(rt, b"refused ", n as usize)?;
+    number(rt, b" place ", place)
 }

@@ -6,6 +6,7 @@ ghost use Rattle.std.specs.Prelude.{◌≤◌, length};
 use crate::digest::{mix, mix_list};
 use crate::lists::filler;
 use crate::print;
+use std::io;
 use table::{Edge, Reading, Shape};
 
 // Fills the list of places before the call.
@@ -105,12 +106,12 @@ fn least(a: usize, b: usize) -> usize {
     if a < b { a } else { b }
 }
 
-fn print_shape(shape: Shape) {
-    print::number(b"model ", shape.clocks as usize);
-    print::number(b" ", shape.locations as usize);
-    print::number(b" ", shape.initial as usize);
-    print::number(b" atoms ", shape.invariants);
-    print::number(b" edges ", shape.edges);
+fn print_shape(rt: &impl Print, shape: Shape) -> io::Result<()> {
+    print::number(rt, b"model ", shape.clocks as usize)?;
+    print::number(rt, b" ", shape.locations as usize)?;
+    print::number(rt, b" ", shape.initial as usize)?;
+    print::number(rt, b" atoms ", shape.invariants)?;
+    print::number(rt, b" edges ", shape.edges)
 }
 
 // The part of an edge that list k has: the source in list 1, the action in list 2, the denominator in list 3.
@@ -143,54 +144,68 @@ fn mix_lists(places: &[usize], edges: [Edge; 128]) -> u64 {
     mix_parts(with_actions, edges, 3, room)
 }
 
-fn print_lists(sum: u64) {
-    print::digest(b" lent ", sum);
-    print::word(b"\n");
+fn print_lists(rt: &impl Print, sum: u64) -> io::Result<()> {
+    print::digest(rt, b" lent ", sum)?;
+    print::word(rt, b"\n")
 }
 
 // A refused table: the places are to be as they were filled, and there is no edge list.
-fn print_refused(number: u8, place: usize, places: &[usize]) {
-    print::refused(number, place);
-    print_lists(mix_list(0, places));
+fn print_refused(rt: &impl Print, number: u8, place: usize, places: &[usize]) -> io::Result<()> {
+    print::refused(rt, number, place)?;
+    print_lists(rt, mix_list(0, places))
 }
 
 // An accepted table: its model and the four lists.
-fn print_model(bytes: &[u8], shape: Shape, places: &[usize], edges: [Edge; 128]) {
-    print_shape(shape);
+fn print_model(
+    rt: &impl Print,
+    bytes: &[u8],
+    shape: Shape,
+    places: &[usize],
+    edges: [Edge; 128],
+) -> io::Result<()> {
+    print_shape(rt, shape)?;
     let count = least(shape.edges, places.len());
     let head = mix_invariants(mix_labels(0, bytes, shape), bytes, shape);
-    print::digest(b" digest ", mix_edges(head, bytes, count, places, edges));
-    print_lists(mix_lists(places, edges));
+    print::digest(
+        rt,
+        b" digest ",
+        mix_edges(head, bytes, count, places, edges),
+    )?;
+    print_lists(rt, mix_lists(places, edges))
 }
 
 // Runs the call, over a list of places that was filled.
-fn run_over(bytes: &[u8], places: &mut [usize]) {
+fn run_over(rt: &impl Print, bytes: &[u8], places: &mut [usize]) -> io::Result<()> {
     let reading = table::read(bytes);
     match reading {
-        Reading::Refused { number, place } => {
-            print_refused(number, place, places);
-        }
+        Reading::Refused { number, place } => print_refused(rt, number, place, places),
         Reading::Accepted(shape) => {
             table::list_places(bytes, shape, places);
-            print_model(bytes, shape, places, table::list_edges(bytes, shape));
+            print_model(rt, bytes, shape, places, table::list_edges(bytes, shape))
         }
     }
 }
 
 // Fills the first `room` numbers of a list and runs the call over those.
-fn run_filled(bytes: &[u8], room: usize, byte: u8, list: &mut [usize])
+fn run_filled(
+    rt: &impl Print,
+    bytes: &[u8],
+    room: usize,
+    byte: u8,
+    list: &mut [usize],
+) -> io::Result<()>
     requires room_bound { room ≤ 160 }
     requires room_in_bounds { room ≤ length list.old }
 {
     let places = &mut list[..room];
     fill(places, byte);
-    run_over(bytes, places);
+    run_over(rt, bytes, places)
 }
 
 // Runs the call on a table, with room for some edges.
-pub(crate) fn run(bytes: &[u8], room: usize, byte: u8)
+pub(crate) fn run(rt: &impl Print, bytes: &[u8], room: usize, byte: u8) -> io::Result<()>
     requires { room ≤ 160 }
 {
     let mut list = [0usize; 160];
-    run_filled(bytes, room, byte, &mut list);
+    run_filled(rt, bytes, room, byte, &mut list)
 }

@@ -116,7 +116,8 @@ pub record Gives (text buffer : List ℕ) (answer : Part) (buffer' : List ℕ) :
   pub enough : length text ≤ most_bytes
 
 -- What the part call promises: its answer, what the buffer then holds, how long a buffer is enough, and how many parts there may be. So a
--- caller that lends `most_bytes` and goes from part to part comes to the end within `most_parts` parts, and no buffer is too short on the way.
+-- caller that lends `most_bytes` and goes from part to part comes to the end within `most_parts` parts, and no buffer is too short on the
+-- way.
 pub record Parted (table entries list : List ℕ) (regions blocks rounds part : ℕ)
     (buffer : List ℕ) (answer : Part) (buffer' : List ℕ) : Type 0 where
   pub answer-is : answer ≡ part_of table entries list regions blocks rounds part (length buffer)

@@ -5,7 +5,8 @@ use Rattle.partition.specs.Passed.{Model, Region, Branch, Finite, read_table, ro
 use Rattle.partition.specs.Instances.{region_of, graph}
 use Rattle.partition.specs.Calls.{after_graph}
 use Rattle.text.specs.Text.{line_feed, plus, colon, above, blank, decimal, field, up_to, rising, each}
-use Rattle.text.specs.Text.{regions_word, blocks_word, rounds_word, region_word, block_word, delay_word, step_word, refused_word, place_word}
+use Rattle.text.specs.Text.{regions_word, blocks_word, rounds_word, region_word, block_word}
+use Rattle.text.specs.Text.{delay_word, step_word, refused_word, place_word}
 use Rattle.rounding.specs.Rounding.{ten_thousandths}
 use Rattle.totals.specs.Totals.{TotalRecord, totals_of, total_lines}
 
@@ -179,7 +180,8 @@ abbrev pub printed : Model → List Region → List ℕ → (blocks rounds : ℕ
 printed m found list blocks rounds =
     first_line (length found) blocks rounds
     ++ (each region_line (region_records m found list)
-    ++ (each block_lines (block_records m found list blocks) ++ totals_text (region_records m found list) (block_records m found list blocks)))
+    ++ (each block_lines (block_records m found list blocks) ++ totals_text (region_records m found list)
+        (block_records m found list blocks)))
 
 abbrev pub printed_graph : Model → List Region → List ℕ
 printed_graph m found =

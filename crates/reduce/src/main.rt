@@ -2,54 +2,56 @@
 // 16,385 bytes are read, one more than a table may have, so that it is refused (1) and not cut. No contract can say what is printed. What
 // is proved is that the program is safe, prints no more of a buffer than the call says it wrote, and never stops for want of room in its
 // buffer or of steps. That it prints part after part until the call says that there are no more is read off `print_listing`; that these
-// parts are the listing is proved of the calls (`call-written`, `call-end` and `joined` of crates/listing). A read that fails ends the input.
+// parts are the listing is proved of the calls (`call-written`, `call-end` and `joined` of crates/listing). A read or a write that fails
+// ends the program with its error.
 #![tactic(auto)]
-ghost use Rattle.std.specs.Prelude.{◌≤◌, length};
+
+ghost use Rattle.std.specs.Prelude.{◌≤◌, ◌<◌, IfOk, length, take};
+ghost use Rattle.std.specs.Io.KnownBytes.{Consumes, IsAtEnd};
 ghost use Rattle.listing.specs.Parts.{Within, most_bytes, most_parts};
 ghost use Rattle.reduce.specs.Outcomes.{Tells, Whole, Last};
 
-use libc::{STDIN_FILENO, STDOUT_FILENO};
 use listing::Part;
 use partition::Reduction;
+use std::io;
+use std::io::Read;
 
 // How many parts are asked for: one more than any listing has, so that the last answer is the end.
 const STEPS: u64 = 8195;
 
-// What came of printing: the part was printed; there is no such part, or the table is refused; the output failed; or the listing was cut,
-// which is proved not to occur.
+// What came of printing, where the output didn't fail: the part was printed; there is no such part, or the table is refused; or the listing
+// was cut, which is proved not to occur.
 #[derive(Clone, Copy)]
 enum Outcome {
     Printed,
     End,
-    Failed,
     Cut,
 }
 
 // Prints so many bytes of the buffer.
-fn print_bytes(k: usize, buffer: &[u8]) -> Outcome
+fn print_bytes(rt: &impl Print, k: usize, buffer: &[u8]) -> io::Result<Outcome>
     requires { k ≤ length buffer.now }
-    ensures { Whole result }
+    ensures { IfOk result Whole }
 {
-    if io::write_all(STDOUT_FILENO, &buffer[..k]) {
-        return Outcome::Printed;
-    }
-    Outcome::Failed
+    rt.write_all(&buffer[..k])?;
+    Ok(Outcome::Printed)
 }
 
 // Prints what a call wrote into the buffer.
-fn print(answer: Part, buffer: &[u8]) -> Outcome
+fn print(rt: &impl Print, answer: Part, buffer: &[u8]) -> io::Result<Outcome>
     requires { Within answer (length buffer.now) }
-    ensures { Tells answer result }
+    ensures { IfOk result (Tells answer) }
 {
     match answer {
-        Part::Written(k) => print_bytes(k, buffer),
-        Part::Short(_) => Outcome::Cut,
-        _ => Outcome::End,
+        Part::Written(k) => print_bytes(rt, k, buffer),
+        Part::Short(_) => Ok(Outcome::Cut),
+        _ => Ok(Outcome::End),
     }
 }
 
 // Prints a part of the listing.
 fn print_part(
+    rt: &impl Print,
     table: &[u8],
     entries: &[u8],
     list: &[u64],
@@ -58,16 +60,17 @@ fn print_part(
     rounds: u64,
     part: u64,
     buffer: &mut [u8],
-) -> Outcome
+) -> io::Result<Outcome>
     requires { most_bytes ≤ length buffer.old }
-    ensures { Whole result × (most_parts ≤ part → Last result) }
+    ensures { IfOk result (λ o. Whole o × (most_parts ≤ part → Last o)) }
 {
     let answer = listing::write_part(table, entries, list, regions, blocks, rounds, part, buffer);
-    print(answer, buffer)
+    print(rt, answer, buffer)
 }
 
 // Prints the listing, part by part, until the call says that there are no more.
 fn print_listing(
+    rt: &impl Print,
     table: &[u8],
     entries: &[u8],
     list: &[u64],
@@ -75,43 +78,42 @@ fn print_listing(
     blocks: u64,
     rounds: u64,
     buffer: &mut [u8],
-) -> Outcome
+) -> io::Result<Outcome>
     requires { most_bytes ≤ length buffer.old }
-    ensures { Whole result × Last result }
+    ensures { IfOk result (λ o. Whole o × Last o) }
 {
     let mut part = 0;
     while part < STEPS {
-        let outcome = print_part(table, entries, list, regions, blocks, rounds, part, buffer);
+        let outcome = print_part(
+            rt, table, entries, list, regions, blocks, rounds, part, buffer,
+        )?;
         match outcome {
             Outcome::Printed => {
                 part = part + 1;
             }
             Outcome::End => {
-                return Outcome::End;
-            }
-            Outcome::Failed => {
-                return Outcome::Failed;
+                return Ok(Outcome::End);
             }
             Outcome::Cut => {
-                return Outcome::Cut;
+                return Ok(Outcome::Cut);
             }
         }
     }
-    Outcome::Cut
+    Ok(Outcome::Cut)
 }
 
 // Prints the line of a refusal.
-fn print_refusal(number: u64, place: u64, buffer: &mut [u8]) -> Outcome
+fn print_refusal(rt: &impl Print, number: u64, place: u64, buffer: &mut [u8]) -> io::Result<Outcome>
     requires { most_bytes ≤ length buffer.old }
-    ensures { Whole result }
+    ensures { IfOk result Whole }
 {
     let answer = listing::refusal_line(number, place, buffer);
-    print(answer, buffer)
+    print(rt, answer, buffer)
 }
 
 // Reduces a table, and prints what that comes to.
-fn run(table: &[u8]) -> Outcome
-    ensures { Whole result }
+fn run(rt: &impl Print, table: &[u8]) -> io::Result<Outcome>
+    ensures { IfOk result Whole }
 {
     let mut entries = [0u8; 18432];
     let mut first = [0u64; 2048];
@@ -120,13 +122,14 @@ fn run(table: &[u8]) -> Outcome
     let reduction = partition::reduce_table(table, &mut entries, &mut first, &mut second);
     match reduction {
         Reduction::Refused { number, place } => {
-            print_refusal(number as u64, place as u64, &mut buffer)
+            print_refusal(rt, number as u64, place as u64, &mut buffer)
         }
         Reduction::Blocks {
             regions,
             blocks,
             rounds,
         } => print_listing(
+            rt,
             table,
             &entries,
             &first,
@@ -138,8 +141,26 @@ fn run(table: &[u8]) -> Outcome
     }
 }
 
-fn main() {
+// Reads until the buffer is full or the input ends, and returns how many bytes were read.
+fn read_full<R: Read>(from: &mut R, buffer: &mut [u8]) -> io::Result<usize>
+    ensures within { IfOk result (λ n. n ≤ length buffer.new) }
+    ensures bytes { IfOk result (λ n. Consumes (R.remaining from.old) (R.remaining from.new) (take n buffer.new)) }
+    ensures full { IfOk result (λ n. n < length buffer.new → IsAtEnd (R.remaining from.new)) }
+{
+    let mut done = 0;
+    while done < buffer.len() {
+        let n = from.read(&mut buffer[done..])?;
+        if n == 0 {
+            break;
+        }
+        done = done + n;
+    }
+    Ok(done)
+}
+
+fn main(rt: HostRuntime) -> io::Result<()> {
     let mut table = [0u8; 16385];
-    let n = io::read_full(STDIN_FILENO, &mut table);
-    run(&table[..n]);
+    let n = read_full(&mut rt.stdin(), &mut table)?;
+    run(&rt, &table[..n])?;
+    Ok(())
 }

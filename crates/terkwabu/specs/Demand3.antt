@@ -6,7 +6,8 @@
 --
 -- A premise `ReduceCall table entries first second answer entries' first' second'` (Calls) is what the contract of terkwabu_reduce
 -- (src/calls.rt) says of every call with these that answers `answer` and leaves entries', first' and second'. `answer.refusal ≡ 0` says
--- that the list found no refusal (Demand1), so that the model is accepted; `read_table table ≡ accepted m` says which model it is. With this
+-- that the list found no refusal (Demand1), so that the model is accepted; `read_table table ≡ accepted m` says which model it is. With
+-- this
 -- file five say what is claimed:
 --   Demand2                           `BlockNumbers`: document 01's block numbers
 --   States, Placing (of states)       states with fractions as clock values, and how they move; the region of a state (`placed`, by which

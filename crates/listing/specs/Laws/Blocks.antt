@@ -1,7 +1,9 @@
 -- Blocks in a list of block numbers, one turn of a loop at a time: the lowest region of a block, its size, and the next block that
 -- some regions have.
-use Rattle.std.specs.Prelude.{ℕ, suc, ◌+◌, ◌-◌, ◌≤◌, ◌<◌, ◌≡◌, refl, Bool, true, false, cond, not, ◌&&◌, ◌||◌, List, [], ◌∷◌, ◌++◌, eqb, leb, ltb, length, get_or, take}
-use Rattle.std.proofs.Common.{arith, add-one, sym, ◌∙◌, ap, true≢false, take-suc, take_all, eq-eqb, ne_eqb, le-leb, leb-true, ltb-true, ltb-false}
+use Rattle.std.specs.Prelude.{ℕ, suc, ◌+◌, ◌-◌, ◌≤◌, ◌<◌, ◌≡◌, refl, Bool, true, false, cond, not, ◌&&◌}
+use Rattle.std.specs.Prelude.{◌||◌, List, [], ◌∷◌, ◌++◌, eqb, leb, ltb, length, get_or, take}
+use Rattle.std.proofs.Common.{arith, add-one, sym, ◌∙◌, ap, true≢false, take-suc, take_all}
+use Rattle.std.proofs.Common.{eq-eqb, ne_eqb, le-leb, leb-true, ltb-true, ltb-false}
 use Rattle.std.proofs.Math.Decide.{dec_lt}
 use Rattle.listing.specs.Printed.{lowest_from, size_below, is_among}
 use Rattle.listing.specs.Slices.{Next}

@@ -7,7 +7,8 @@ use Rattle.std.proofs.Common.{arith, inl, inr, sym, ◌∙◌, subst, eq-eqb, ne
 use Rattle.std.proofs.Math.Path.{ap, ap₂}
 use mathlib.Core.List.{List, [], ◌∷◌, ◌++◌, map}
 use Rattle.std.proofs.Math.Seq.{take-append_seam}
-use Rattle.partition.specs.Passed.{Model, Region, Answer, refusal, accepted, read_table, rounds, last_blocks, room_for, max_entries, entry_bytes}
+use Rattle.partition.specs.Passed.{Model, Region, Answer, refusal, accepted, read_table, rounds}
+use Rattle.partition.specs.Passed.{last_blocks, room_for, max_entries, entry_bytes}
 use Rattle.partition.specs.Instances.{graph}
 use Rattle.partition.specs.Calls.{reduce_of}
 use Rattle.partition.specs.Promises.{Reduced}

@@ -2,7 +2,8 @@
 -- the text of the totals from both lists of labels.
 use Rattle.std.specs.Prelude.{ℕ, ◌+◌, ◌-◌, ◌≤◌, ◌<◌, ◌≡◌, List, [], ◌∷◌, ◌++◌, length, get_or, take, set}
 use Rattle.std.proofs.Math.Decide.{ℕ_discrete}
-use Rattle.std.proofs.Common.{add-one, arith, sym, ◌∙◌, ap, ap₂, subst, length-set, take_all, take-suc-set, get_or-set_same, get_or-set_other, ext_get_or}
+use Rattle.std.proofs.Common.{add-one, arith, sym, ◌∙◌, ap, ap₂, subst, length-set, take_all}
+use Rattle.std.proofs.Common.{take-suc-set, get_or-set_same, get_or-set_other, ext_get_or}
 use Rattle.partition.specs.Passed.{Model, max_entries, listed}
 use Rattle.partition.specs.Instances.{graph}
 use Rattle.partition.specs.Laws.View.{listed-length}

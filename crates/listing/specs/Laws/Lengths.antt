@@ -1,9 +1,11 @@
 -- How long texts are: a local array of 128 bytes holds the first line and a refusal's, one of 256 a region's, and one of 65,536 the
 -- lines of a block. The bounds are generous: what counts is that they hold for whatever the code can be given.
-use Rattle.std.specs.Prelude.{ℕ, zero, suc, ◌+◌, ◌*◌, ◌≤◌, ◌<◌, ◌≡◌, refl, Bool, true, false, cond, not, ◌&&◌, ◌||◌, List, [], ◌∷◌, ◌++◌, eqb, length, get_or}
+use Rattle.std.specs.Prelude.{ℕ, zero, suc, ◌+◌, ◌*◌, ◌≤◌, ◌<◌, ◌≡◌, refl, Bool, true, false, cond}
+use Rattle.std.specs.Prelude.{not, ◌&&◌, ◌||◌, List, [], ◌∷◌, ◌++◌, eqb, length, get_or}
 use Rattle.std.proofs.Common.{arith, sym, ap, subst, length-append, eqb-true, ne_eqb}
 use Rattle.text.specs.Text.{line_feed, blank, decimal, field, up_to, rising, each}
-use Rattle.text.specs.Text.{plus, above, regions_word, blocks_word, rounds_word, region_word, block_word, delay_word, step_word, refused_word}
+use Rattle.text.specs.Text.{plus, above, regions_word, blocks_word, rounds_word, region_word}
+use Rattle.text.specs.Text.{block_word, delay_word, step_word, refused_word}
 use Rattle.text.specs.Text.{place_word}
 use Rattle.listing.specs.Printed.{ShareRecord, StepRecord, first_line, rank_text, clock_field, region_line, block_line, delay_line_of}
 use Rattle.listing.specs.Printed.{share_field, step_line, refusal_line, is_among, targets_of, weight_into, other_blocks, shares_of}
@@ -170,7 +172,8 @@ module _ (list rows : List ℕ) (small : (i : ℕ) → get_or rows i 0 < 65536) 
   weight-most c at (suc k) = go (eqb (get_or list (get_or rows (at + 1) 0) 0) c) (weight-most c (at + 2) k)
     where
       go : (t : Bool) → weight_into list c (branches_from rows (at + 2) k) ≤ 65536 * k
-          → cond t (get_or rows at 0 + weight_into list c (branches_from rows (at + 2) k)) (weight_into list c (branches_from rows (at + 2) k))
+          → cond t (get_or rows at 0 + weight_into list c (branches_from rows (at + 2) k))
+              (weight_into list c (branches_from rows (at + 2) k))
           ≤ 65536 * suc k
       go true rest = omega (arith, rest, small at)
       go false rest = omega (arith, rest)

@@ -14,12 +14,14 @@ use Rattle.partition.specs.declared.view.Showing.{Showing}
 use Rattle.partition.specs.declared.view.Showing.TheVariants as S
 use Rattle.partition.specs.declared.view.Entry.{Entry}
 use Rattle.text.specs.Text.{up_to, each}
-use Rattle.listing.specs.Printed.{ClockRecord, RegionRecord, StepRecord, step_of, step_line, first_line, region_line, block_line, delay_line_of}
+use Rattle.listing.specs.Printed.{ClockRecord, RegionRecord, StepRecord, step_of, step_line}
+use Rattle.listing.specs.Printed.{first_line, region_line, block_line, delay_line_of}
 use Rattle.listing.specs.Printed.{other_blocks, lowest_of, size_below, region_record, block_record, block_lines}
 use Rattle.listing.specs.Printed.{region_records, block_records, totals_text}
 use Rattle.listing.specs.Slices.{step_at, step_text_at, row_room}
 use Rattle.text.specs.Writing.{Adds}
-use Rattle.listing.specs.Parts.{line_part, part_text, is_borne, text_from, text_of, part_from, part_of, fitted, buffer_after, Within, most_bytes}
+use Rattle.listing.specs.Parts.{line_part, part_text, is_borne, text_from, text_of, part_from}
+use Rattle.listing.specs.Parts.{part_of, fitted, buffer_after, Within, most_bytes}
 use Rattle.listing.specs.Parts.{most_parts, Fits, Past, Gives, Parted}
 use Rattle.listing.specs.Laws.Lengths.{region-fits}
 use Rattle.text.specs.Laws.Texts.{each_append}
@@ -140,8 +142,10 @@ module _ (F : Finite) (list : List ℕ) (count b : ℕ) (delays delays' rows : L
       let head : ℕ → List ℕ =
       λ l. block_line (record { number = b; label = l; size = size_below list b (length list); delays = []; steps = [] }) in
       ap (λ (l : ℕ). head l ++ (delay_line_of b (other_blocks list count b reached) ++ up_to (step_text_at list rows count b) edges)) el
-      ∙ ap (λ (r : List ℕ). head (F.label low) ++ (delay_line_of b (other_blocks list count b r) ++ up_to (step_text_at list rows count b) edges)) er
-      ∙ ap (λ (k : ℕ). head (F.label low) ++ (delay_line_of b (other_blocks list count b (F.delays low)) ++ up_to (step_text_at list rows count b) k)) ee
+      ∙ ap (λ (r : List ℕ). head (F.label low) ++ (delay_line_of b (other_blocks list count b r) ++ up_to (step_text_at list rows count b)
+          edges)) er
+      ∙ ap (λ (k : ℕ). head (F.label low) ++ (delay_line_of b (other_blocks list count b (F.delays low)) ++ up_to
+          (step_text_at list rows count b) k)) ee
       ∙ ap (λ (t : List ℕ). head (F.label low) ++ (delay_line_of b (other_blocks list count b (F.delays low)) ++ t))
       (sym (all-steps F.edges (omega arith)))
 
@@ -292,7 +296,8 @@ module _ (m : Model) (found : List Region) (list : List ℕ) (blocks : ℕ) wher
         ne_eqb (x - length found) blocks (λ same. omega (arith, e, past, same)),
       ) refl
 
-  pub part-first : (n rounds part : ℕ) → n ≡ length found → part ≡ 0 → first_line n blocks rounds ≡ part_text m found list blocks rounds part
+  pub part-first : (n rounds part : ℕ) → n ≡ length found → part ≡ 0
+      → first_line n blocks rounds ≡ part_text m found list blocks rounds part
   part-first n rounds part e z =
       ap (λ (k : ℕ). first_line k blocks rounds) e ∙ rw (eq-eqb part 0 z) refl
 

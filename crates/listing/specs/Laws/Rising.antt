@@ -1,7 +1,8 @@
 -- The loops of a block's lines: the numbers that pass a test, found one after the other and put one after the other; and the branches
 -- of a row, gone through from either end.
 use Rattle.std.specs.Prelude.{ℕ, zero, suc, ◌+◌, ◌-◌, ◌*◌, ◌≤◌, ◌<◌, ◌≡◌, refl, Bool, true, cond, length, get_or, take, set}
-use Rattle.std.proofs.Common.{arith, eq-or-lt_of_le, sym, ◌∙◌, ap, ap₂, subst, inl, inr, length-take-le, take_all, take-suc-set, eq-eqb, ne_eqb}
+use Rattle.std.proofs.Common.{arith, eq-or-lt_of_le, sym, ◌∙◌, ap, ap₂, subst, inl, inr}
+use Rattle.std.proofs.Common.{length-take-le, take_all, take-suc-set, eq-eqb, ne_eqb}
 use mathlib.Core.List.{List, [], ◌∷◌, ◌++◌, append-nil, cons-ne-nil}
 use Rattle.partition.specs.Passed.{Branch}
 use Rattle.text.specs.Text.{line_feed, delay_word, field, up_to, rising, each}

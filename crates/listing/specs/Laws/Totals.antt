@@ -145,7 +145,8 @@ module _ {table : List ℕ} {cap n b k : ℕ} {entries list : List ℕ} (left : 
 
   -- "Print after the listing": the lines are those of before, and after them come the totals.
   pub totals-close : listing table cap
-      ≡ (first_line n b k ++ (each region_line printed_regions ++ each block_lines printed_blocks)) ++ (each label_line totals ++ all_line n b)
+      ≡ (first_line n b k ++ (each region_line printed_regions ++ each block_lines printed_blocks))
+          ++ (each label_line totals ++ all_line n b)
   totals-close =
       listing-left left
       ∙ ap (λ (l : List ℕ). printed model found l b k) (sym left.list-holds)
@@ -185,7 +186,8 @@ module _ {table : List ℕ} {cap n b k : ℕ} {entries list : List ℕ} (left : 
 
   -- The label of a block is that of each of its regions.
   pub totals-shared : (x : ℕ) → x < n
-      → (region_record model found (take n list) x).label ≡ (block_record (graph model found) (take n list) b (get_or (take n list) x 0)).label
+      → (region_record model found (take n list) x).label ≡ (block_record (graph model found) (take n list) b
+          (get_or (take n list) x 0)).label
   totals-shared x h =
       let (low, is) = block-has left (get_or (take n list) x 0) (left_below left x h) in
       left-labels left x (lowest_of (take n list) (get_or (take n list) x 0)) h low (sym is)

@@ -200,7 +200,8 @@ module _ (table : List ℕ) (cap : ℕ) (first second : List ℕ) where
     unfolding pair_list_after
     pair-lists list =
         on-accepted (λ number place. list)
-        (λ m found. cond (is_short (length found) first second) list (cond (is_asked_past (length found) r s) list (numbered_in list m found)))
+        (λ m found. cond (is_short (length found) first second) list
+            (cond (is_asked_past (length found) r s) list (numbered_in list m found)))
         table cap pair-accepted
         ∙ rw (said.0, said.1) refl
 
@@ -261,12 +262,14 @@ module _ (first second : List ℕ) (m : Model) (found : List Region) where
       nineteen e = rw (long, e) refl
 
       pub pair-list-past : (list : List ℕ) → is_asked_past (length found) r s ≡ true
-          → list ≡ cond (is_short (length found) first second) list (cond (is_asked_past (length found) r s) list (numbered_in list m found))
+          → list ≡ cond (is_short (length found) first second) list
+              (cond (is_asked_past (length found) r s) list (numbered_in list m found))
       pair-list-past list e = rw (long, e) refl
 
       module _ (below : is_asked_past (length found) r s ≡ false) where
         pub pair-list-numbered : (list list' : List ℕ) → list' ≡ numbered_in list m found
-            → list' ≡ cond (is_short (length found) first second) list (cond (is_asked_past (length found) r s) list (numbered_in list m found))
+            → list' ≡ cond (is_short (length found) first second) list
+                (cond (is_asked_past (length found) r s) list (numbered_in list m found))
         pair-list-numbered list list' e = rw (long, below) e
 
         -- The numbers of the two regions are looked up in a list that holds the blocks.

@@ -72,7 +72,8 @@ of-graph : (s : State) → place_in printed_model printed_regions s < 5 → Reac
 of-graph s h = (call-placed printed 5 printed_regions printed-whole printed_model printed-read s).0 h
 
 -- All three lie in regions of the graph.
-pub printed-reached : Reached printed_model (region_in printed_model clock_at_zero) × Reached printed_model (region_in printed_model clock_at_half)
+pub printed-reached : Reached printed_model (region_in printed_model clock_at_zero)
+    × Reached printed_model (region_in printed_model clock_at_half)
     × Reached printed_model (region_in printed_model clock_at_one)
 printed-reached = (
   of-graph clock_at_zero (omega (arith, places.0)),
@@ -116,7 +117,8 @@ printed-reduced =
     ∙ ap₂ (λ (b k : ℕ). Blocks 5 b k) counts.0 counts.1
 
 -- Regions 0 and 1 share a block, regions 0 and 2 do not.
-pub printed-pairs : (pair_of printed 5 five_zeros five_zeros 0 1 ≡ Shared true) × (pair_of printed 5 five_zeros five_zeros 0 2 ≡ Shared false)
+pub printed-pairs : (pair_of printed 5 five_zeros five_zeros 0 1 ≡ Shared true)
+    × (pair_of printed 5 five_zeros five_zeros 0 2 ≡ Shared false)
 unfolding printed-accepted
 printed-pairs =
     let says = pair-succeeds printed 5 printed-accepted five_zeros five_zeros (omega arith) (omega arith) in (

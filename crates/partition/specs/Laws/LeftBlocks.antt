@@ -81,7 +81,8 @@ module _ {table : List ℕ} {cap n b k : ℕ} {entries list : List ℕ} (left : 
 
   pub left-bisimulation : Bisimulation left_structure (λ x y. get_or list x 0 ≡ get_or list y 0)
   left-bisimulation =
-      bisimulation-agree left_structure (left-closed left) (λ x y. related (last_blocks F) x y ≡ true) (λ x y. get_or list x 0 ≡ get_or list y 0)
+      bisimulation-agree left_structure (left-closed left) (λ x y. related (last_blocks F) x y ≡ true)
+          (λ x y. get_or list x 0 ≡ get_or list y 0)
       (λ x y hx hy. let same = same_number x y (outside x hx) (outside y hy) in (same.1, same.0)) (last-bisimulation F (left-closed left))
 
   -- Whatever one relates, at any level, has one number.

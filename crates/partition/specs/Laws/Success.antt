@@ -58,7 +58,8 @@ module _ (table : List ℕ) (cap : ℕ) (a : Accepted table cap) (first second :
   pub reduce-holds : (list : List ℕ) → list_after table cap first second list ≡ numbered_in list a.model a.found
   unfolding list_after
   reduce-holds list =
-      on-accepted (λ number place. list) (λ m found. cond (is_short (length found) first second) list (numbered_in list m found)) table cap a
+      on-accepted (λ number place. list) (λ m found. cond (is_short (length found) first second) list (numbered_in list m found)) table cap
+          a
       ∙ rw not_short refl
 
   -- The pair call, where moreover both numbers are those of regions.

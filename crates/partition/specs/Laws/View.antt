@@ -1,5 +1,6 @@
 -- What the region layer says of one region is what the layer above is told of an item of the graph.
-use Rattle.std.specs.Prelude.{ℕ, zero, suc, ◌+◌, ◌*◌, ◌≤◌, ◌<◌, ◌≡◌, refl, Bool, true, false, cond, List, [], ◌∷◌, ◌++◌, map, eqb, ltb, length, get_or, drop}
+use Rattle.std.specs.Prelude.{ℕ, zero, suc, ◌+◌, ◌*◌, ◌≤◌, ◌<◌, ◌≡◌, refl, Bool, true, false}
+use Rattle.std.specs.Prelude.{cond, List, [], ◌∷◌, ◌++◌, map, eqb, ltb, length, get_or, drop}
 use Rattle.std.proofs.Common.{arith, sym, ◌∙◌, ap, ap₂, subst, lt-ltb, le-leb}
 use Rattle.regions.specs.Passed.{Model, Answer, refusal, accepted, read_table, edge_of, Branch as ModelBranch, Region}
 use Rattle.regions.specs.Graph.{available, first}
@@ -152,8 +153,10 @@ entry-small es small x = go (ltb x max_entries)
     go : (b : Bool) → ((cond b (region_at es x) no_region).location < 256)
         × ((i : ℕ) → get_or (cond b (region_at es x) no_region).whole i 0 < 256)
         × ((i : ℕ) → get_or (cond b (region_at es x) no_region).rank i 0 < 256)
-    go false = (omega arith, four-small 0 0 0 0 (omega arith) (omega arith) (omega arith) (omega arith), four-small 0 0 0 0 (omega arith) (omega arith) (omega arith) (omega arith))
-    go true = (small _, four-small _ _ _ _ (small _) (small _) (small _) (small _), four-small _ _ _ _ (small _) (small _) (small _) (small _))
+    go false = (omega arith, four-small 0 0 0 0 (omega arith) (omega arith) (omega arith) (omega arith), four-small 0 0 0 0 (omega arith)
+        (omega arith) (omega arith) (omega arith))
+    go true = (small _, four-small _ _ _ _ (small _) (small _) (small _) (small _), four-small _ _ _ _ (small _) (small _) (small _)
+        (small _))
 
 -- A table that is not refused was read as a model.
 pub read-model : (table : List ℕ) (clocks : ℕ) → C.Read clocks ≡ checked_of (read_table table)
@@ -205,7 +208,8 @@ same-model table m k e f = ap model (sym e ∙ f)
 -- What is said of an item that is seen.
 pub item-shown : (m : Model) (es : List ℕ) (n x : ℕ) (seen : Bool) → seen ≡ true → (label reached edges : ℕ)
     → S.Item label reached edges ≡ showing_of seen es n x (accepted m)
-    → (label ≡ (graph m (listed es n)).label x) × (reached ≡ length ((graph m (listed es n)).delays x)) × (edges ≡ (graph m (listed es n)).edges)
+    → (label ≡ (graph m (listed es n)).label x) × (reached ≡ length ((graph m (listed es n)).delays x))
+        × (edges ≡ (graph m (listed es n)).edges)
 item-shown m es n x seen can label reached edges e =
     let is : S.Item label reached edges
     ≡ S.Item ((graph m (listed es n)).label x) (length ((graph m (listed es n)).delays x)) (graph m (listed es n)).edges =

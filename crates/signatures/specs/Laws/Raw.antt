@@ -99,7 +99,8 @@ module _ (edges raw : List ℕ) (name count : ℕ) where
           ∙ go (eqb (get_or raw (1 + i) 0) name)
           ∙ sym (ap (λ (k : ℕ). sum + mass_of name (raw_branches edges raw i k)) next) ∙ is
         where
-          go : (b : Bool) → (cond b (low_of edges (raw_edge raw) i) 0 + sum) + mass_of name (raw_branches edges raw (suc i) (count - (i + 1)))
+          go : (b : Bool) → (cond b (low_of edges (raw_edge raw) i) 0 + sum) + mass_of name
+              (raw_branches edges raw (suc i) (count - (i + 1)))
               ≡ sum + cond b (low_of edges (raw_edge raw) i + mass_of name (raw_branches edges raw (suc i) (count - (i + 1))))
               (mass_of name (raw_branches edges raw (suc i) (count - (i + 1))))
           go true = omega arith

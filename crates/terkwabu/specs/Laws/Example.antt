@@ -64,7 +64,8 @@ printed-place = record { answer-is = sym (ap of_placing half); entries-are = ref
 -- So number 1 of the list is its block.
 pub printed-block : get_or numbers 1 0 ≡ block_in printed_model (listed left 5) (state_asked printed_model 0 1 0 0 0 2)
 printed-block =
-    let (is, below, at, one, two) = demand-3.place printed printed_model printed-read lent five_zeros five_zeros (result_as 5 3 1) left numbers
+    let (is, below, at, one, two) = demand-3.place printed printed_model printed-read lent five_zeros five_zeros (result_as 5 3 1) left
+        numbers
     numbers printed-reduce refl lent 0 1 0 0 0 2 (result_as 1 0 0) left printed-place refl in
     one
 

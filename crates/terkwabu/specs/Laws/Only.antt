@@ -146,7 +146,8 @@ reduce-only all (reduce-row-16 e _) (reduce-result f _) = absurd (long-or-short 
 reduce-only all (reduce-result f _) (reduce-row-16 e _) = absurd (long-or-short f e)
 reduce-only all (reduce-result _ _) (reduce-result _ _) = refl
 
-pub pair-only : {first second : List ℕ} {r s : ℕ} {first' second' first'' second'' : List ℕ} {m : Model} {found : List Region} {a b : Answer}
+pub pair-only : {first second : List ℕ} {r s : ℕ} {first' second' first'' second'' : List ℕ} {m : Model} {found : List Region}
+    {a b : Answer}
     → AllRegions m found → PairRows first second r s first' second' m found a → PairRows first second r s first'' second'' m found b → a ≡ b
 pair-only all (pair-row-16 _ _) (pair-row-16 _ _) = refl
 pair-only all (pair-row-16 e _) (pair-row-19 f _ _) = absurd (long-or-short f e)

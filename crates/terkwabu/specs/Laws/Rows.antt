@@ -1,6 +1,7 @@
 -- The answer of each call, and what it left in what was lent, are by document 01's list, row by row. What the graph call comes to decides
 -- rows 1 to 15 (`rows`); then come the rows of each call.
-use Rattle.std.specs.Prelude.{ℕ, zero, suc, ◌+◌, ◌*◌, ◌≤◌, ◌<◌, ◌⊎◌, ◌↔◌, ◌≡◌, Bool, true, false, not, ◌&&◌, ◌||◌, List, [], ◌∷◌, ◌++◌, eqb, leb, ltb, length, get_or, drop}
+use Rattle.std.specs.Prelude.{ℕ, zero, suc, ◌+◌, ◌*◌, ◌≤◌, ◌<◌, ◌⊎◌, ◌↔◌, ◌≡◌, Bool, true, false, not}
+use Rattle.std.specs.Prelude.{◌&&◌, ◌||◌, List, [], ◌∷◌, ◌++◌, eqb, leb, ltb, length, get_or, drop}
 use Rattle.std.proofs.Common.{arith, ◌∙◌}
 use Rattle.std.proofs.Math.Decide.{dec_lt}
 use Rattle.std.proofs.Math.Logic.{inl, inr}
@@ -27,7 +28,8 @@ use Rattle.bisimulation.specs.Bisimulations.{Bisimulation}
 use Rattle.bisimulation.specs.Finite.{structure, related, accepts, rounds, last_blocks, block_count}
 use Rattle.bisimulation.proofs.Laws.Rounds.{bisimulation-agree}
 use Rattle.partition.specs.Instances.{graph}
-use Rattle.partition.specs.Calls.{Accepted, from_outcome, after_graph, is_short, is_asked_past, blocks_of, numbered_in, reduce_of, list_after}
+use Rattle.partition.specs.Calls.{Accepted, from_outcome, after_graph, is_short, is_asked_past}
+use Rattle.partition.specs.Calls.{blocks_of, numbered_in, reduce_of, list_after}
 use Rattle.partition.specs.Calls.{shared_of, pair_of, pair_list_after, judged_of, judge_of}
 use Rattle.partition.specs.Laws.Calls.{on-accepted, on-refused, long-enough, below_both, judged-well}
 use Rattle.partition.specs.Laws.Instances.{call-closed, call-placed}
@@ -59,7 +61,8 @@ module _ (table entries entries' : List ℕ) (held : entries' ≡ entries_after 
   -- One of them is met, and the graph call says which; or none is.
   Rows : Type 0
   Rows =
-      ((number : ℕ) × (place : ℕ) × Stopped table entries entries' number place × (G.Refused number place ≡ graph_of (outcome_of table room)))
+      ((number : ℕ) × (place : ℕ) × Stopped table entries entries' number place
+          × (G.Refused number place ≡ graph_of (outcome_of table room)))
       ⊎ ((a : Accepted table room) × GraphHeld table entries entries' a.model a.found)
 
   rows : Rows
@@ -306,7 +309,8 @@ module _ (table entries first second : List ℕ) where
       ≡ cond (is_short (length a.found) first second) list (numbered_in list a.model a.found)
   unfolding list_after
   after_list list a =
-      on-accepted (λ number place. list) (λ m found. cond (is_short (length found) first second) list (numbered_in list m found)) table lent a
+      on-accepted (λ number place. list) (λ m found. cond (is_short (length found) first second) list (numbered_in list m found)) table
+          lent a
 
   reduce-own : (first' second' : List ℕ) → first' ≡ list_after table lent first second first
       → second' ≡ list_after table lent first second second → (a : Accepted table lent)

@@ -13,6 +13,7 @@ returns c =
     let slot-mask = c.slot_mask in (
       c.region_at.ensures.0 ∙ ap (λ (k : ℕ). region_at args.graph.now k slot-target.result)
           (reset-class.ensures.0 ∙ ap (reset_class args.graph.now args.class) slot-mask.ensures.0)
-          ∙ ap (region_at args.graph.now (reset_class args.graph.now args.class (slot_mask args.graph.now args.slot))) slot-target.ensures.0,
+          ∙ ap (region_at args.graph.now (reset_class args.graph.now args.class (slot_mask args.graph.now args.slot)))
+              slot-target.ensures.0,
       c.region_at.ensures.1,
     )

@@ -19,7 +19,8 @@ pub returns-then-region-eq-NOTHING : goal.returns-then-region-eq-NOTHING
 returns-then-region-eq-NOTHING c =
     let args = c.args in
     let loop = c.loop-steps in
-    (walk_ends args.graph.now args.class loop.steps loop.region c.loop-steps-test.true c.if-region-eq-NOTHING.true ∙ loop.invariant.0, omega arith)
+    (walk_ends args.graph.now args.class loop.steps loop.region c.loop-steps-test.true c.if-region-eq-NOTHING.true
+        ∙ loop.invariant.0, omega arith)
 
 pub returns-then-class_of-class : goal.returns-then-class_of-class
 returns-then-class_of-class c =
@@ -40,7 +41,8 @@ loop-steps-preserved c =
     let if1 = c.if-region-eq-NOTHING in
     let class-of = c.class_of in (
       ap (λ (x : ℕ). walk args.graph.now (4096 - (loop.steps + 1)) x args.class) c.region_link-region.ensures.0 ∙ walk-on args.graph.now
-          args.class loop.steps loop.region loop-test.true if1.false (λ e. c.if-class_of-class.false (class-of.ensures.0 ∙ e)) ∙ loop.invariant.0,
+          args.class loop.steps loop.region loop-test.true if1.false (λ e. c.if-class_of-class.false (class-of.ensures.0 ∙ e))
+              ∙ loop.invariant.0,
       c.region_link-region.ensures.1,
     )
 

@@ -7,6 +7,7 @@ use mathlib.Core.Logic.{⊎_elim}
 use lib.ListN.{get_or, take}
 use Prim.Native.Nat.{ℕ, ◌-◌, ◌+◌}
 use Rattle.listing.proofs.blocks.next_block.Goals as goal
+use Rattle.listing.proofs.blocks.next_block.Goals.{then-is_better, else-is_better}
 
 pub loop-i-init : goal.loop-i-init
 loop-i-init c =
@@ -25,17 +26,17 @@ loop-i-preserved c =
     let on : ℕ → Type 0 = λ k.
     Next (λ b. is_among args.list.now b (take (loop.i + 1) args.regions.now)) args.from args.count k
     in
-    ⊎_elim
-    (λ p.
+    elim c.if-is_better.branch [
+      then-is_better p ↦
     let better = better-yes args.from v.result loop.best (sym is-better.ensures ∙ p.if-is_better.true) in
     subst on (sym p.best-is)
     (next-better args.list.now args.regions.now args.from args.count loop.best loop.i v.result inside is loop.invariant
-    better.0 better.1))
-    (λ p.
+    better.0 better.1)
+    | else-is_better p ↦
     let worse = better-no args.from v.result loop.best (sym is-better.ensures ∙ p.if-is_better.false) in
     subst on (sym p.best-is)
-    (next-same args.list.now args.regions.now args.from args.count loop.best loop.i v.result inside is loop.invariant worse))
-    c.if-is_better.branch-raw
+    (next-same args.list.now args.regions.now args.from args.count loop.best loop.i v.result inside is loop.invariant worse)
+    ]
 
 pub returns : goal.returns
 returns c =

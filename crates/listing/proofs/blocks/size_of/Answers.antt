@@ -7,6 +7,7 @@ use mathlib.Core.Logic.{⊎_elim}
 use lib.ListN.{length}
 use Prim.Native.Nat.{ℕ, ◌-◌}
 use Rattle.listing.proofs.blocks.size_of.Goals as goal
+use Rattle.listing.proofs.blocks.size_of.Goals.{then-block_at-b, else-block_at-b}
 
 pub loop-x-init : goal.loop-x-init
 loop-x-init c = (refl, omega arith, omega arith)
@@ -17,18 +18,20 @@ loop-x-preserved c =
     let loop = c.loop-x in
     let inside = c.loop-x-test.true in
     let block_at = c.block_at in
-    ⊎_elim
-    (λ p. (
+    elim c.if-block_at-b.branch [
+      then-block_at-b p ↦
+    (
       p.size-is ∙ size-hit args.list.now args.b loop.x loop.size loop.invariant.0 (sym block_at.ensures ∙ p.if-block_at-b.true),
       omega (arith, p.size-is, loop.invariant.1),
       omega (arith, inside),
-    ))
-    (λ p. (
+    )
+    | else-block_at-b p ↦
+    (
       p.size-is ∙ size-miss args.list.now args.b loop.x loop.size loop.invariant.0 (λ e. p.if-block_at-b.false (block_at.ensures ∙ e)),
       omega (arith, p.size-is, loop.invariant.1),
       omega (arith, inside),
-    ))
-    c.if-block_at-b.branch-raw
+    )
+    ]
 
 pub returns : goal.returns
 returns c =

@@ -28,5 +28,6 @@ pub returns : goal.returns
 returns c =
     let args = c.args in
     let loop = c.loop-i in
-    filled-all (λ j. args.label) loop.labels loop.i (length args.labels.now) loop.invariant.1 (omega (arith, c.loop-i-test.false, loop.invariant.1))
+    filled-all (λ j. args.label) loop.labels loop.i (length args.labels.now) loop.invariant.1
+        (omega (arith, c.loop-i-test.false, loop.invariant.1))
     loop.invariant.2 loop.invariant.0

@@ -43,4 +43,5 @@ returns c =
     let args = c.args in
     let loop = c.loop-x in
     λ m is. filled-all (λ x. (graph m (listed args.entries.now (length args.labels.now))).label x) loop.labels loop.x
-    (length args.labels.now) loop.invariant.1 (omega (arith, c.loop-x-test.false, loop.invariant.1)) loop.invariant.2 (loop.invariant.0 m is)
+    (length args.labels.now) loop.invariant.1 (omega (arith, c.loop-x-test.false, loop.invariant.1)) loop.invariant.2
+        (loop.invariant.0 m is)

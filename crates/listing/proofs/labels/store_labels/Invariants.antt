@@ -10,7 +10,8 @@ use Rattle.listing.proofs.labels.store_labels.Given as goal
 
 abbrev pub invariant-loop-x : goal.invariant-loop-x
 invariant-loop-x l =
-    ((m : Model) → l.locations ≡ location_labels m 256 → take l.x l.labels ≡ labels_to (graph m (listed l.entries (length l.initial.labels))) l.x)
+    ((m : Model) → l.locations ≡ location_labels m 256 → take l.x l.labels ≡ labels_to
+        (graph m (listed l.entries (length l.initial.labels))) l.x)
     × (length l.labels ≡ length l.initial.labels) × (l.x ≤ length l.initial.labels)
 
 abbrev pub decreases-loop-x : goal.decreases-loop-x

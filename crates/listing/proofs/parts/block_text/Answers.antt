@@ -25,7 +25,8 @@ deliver-requires c =
     let known = shared-slice-known3 in
     let size = size_of in
     let room = block-fits args.list.now args.rows.now args.regions.now args.blocks args.b args.label
-    size.result args.edges [] [] pre.blocks_le_max_entries.0 pre.blocks_le_max_entries.1 fits.label.fits size.type_inv pre.blocks_le_max_entries.2 (λ i. omega (
+    size.result args.edges [] [] pre.blocks_le_max_entries.0 pre.blocks_le_max_entries.1 fits.label.fits size.type_inv
+        pre.blocks_le_max_entries.2 (λ i. omega (
       arith,
       known i,
     )) pre.by_index in
@@ -49,7 +50,8 @@ returns c =
     let known = shared-slice-known3 in
     let size = size_of in
     let room = block-fits args.list.now args.rows.now args.regions.now args.blocks args.b args.label
-    size.result args.edges [] [] pre.blocks_le_max_entries.0 pre.blocks_le_max_entries.1 fits.label.fits size.type_inv pre.blocks_le_max_entries.2 (λ i. omega (
+    size.result args.edges [] [] pre.blocks_le_max_entries.0 pre.blocks_le_max_entries.1 fits.label.fits size.type_inv
+        pre.blocks_le_max_entries.2 (λ i. omega (
       arith,
       known i,
     )) pre.by_index in

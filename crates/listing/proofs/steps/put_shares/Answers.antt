@@ -51,7 +51,8 @@ loop-c-preserved c =
     let put-share = c.put_share-now in
     let branches = branches_from args.rows.now args.from (length args.targets.now) in (
       found-one (λ b. is_among args.list.now b args.targets.now) (share_text args.list.now args.denominator branches) args.count
-          loop.c c.next_block-c-in-loop-c.result loop-test.true (loop.invariant.2 loop-test.true) c.next_block-c-in-loop-c.ensures loop.invariant.0
+          loop.c c.next_block-c-in-loop-c.result loop-test.true (loop.invariant.2 loop-test.true) c.next_block-c-in-loop-c.ensures
+              loop.invariant.0
           (share-one args.list.now args.denominator branches loop.c weigh-into.result weigh-into.ensures.0 put-share.ensures),
       c.next_block-c-in-loop-c.ensures.most,
       λ h. (c.next_block-c-in-loop-c.ensures.passes h).1,

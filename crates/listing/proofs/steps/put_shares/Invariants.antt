@@ -13,7 +13,8 @@ use Rattle.listing.proofs.steps.put_shares.Given as goal
 abbrev pub invariant-loop-c : goal.invariant-loop-c
 invariant-loop-c l =
     Adds l.initial.text l.at l.text l.now
-    (each (share_text l.list l.denominator (branches_from l.rows l.from (length l.targets))) (rising (λ b. is_among l.list b l.targets) l.c))
+    (each (share_text l.list l.denominator (branches_from l.rows l.from (length l.targets)))
+        (rising (λ b. is_among l.list b l.targets) l.c))
     × (l.c ≤ l.count)
     × (l.c < l.count → is_among l.list l.c l.targets ≡ true)
 

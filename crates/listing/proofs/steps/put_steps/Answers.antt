@@ -8,6 +8,7 @@ use Rattle.listing.specs.Slices.{step_text_at}
 use Rattle.text.specs.Laws.Writing.{adds_none, adds_same}
 use Rattle.listing.specs.Laws.Rising.{step-taken, step_left}
 use Rattle.listing.proofs.steps.put_steps.Goals as goal
+use Rattle.listing.proofs.steps.put_steps.Goals.{then-number_at-eq1, else-number_at-eq1}
 
 pub loop-e-init : goal.loop-e-init
 loop-e-init c =
@@ -48,11 +49,14 @@ loop-e-preserved c =
     let loop = c.loop-e in
     let number_at = c.number_at in
     let loop-test = c.loop-e-test in (
-      ⊎_elim
-          (λ w. step-taken args.list.now args.rows.now args.count args.own loop.e w.text-is w.now-is
-          (sym number_at.ensures.0 ∙ w.if-number_at-eq1.true) loop.invariant.0 w.put_step-now.ensures)
-          (λ w. step_left args.list.now args.rows.now args.count args.own loop.e w.text-is w.now-is
-          (λ e. w.if-number_at-eq1.false (number_at.ensures.0 ∙ e)) loop.invariant.0) c.if-number_at-eq1.branch-raw,
+      elim c.if-number_at-eq1.branch [
+      then-number_at-eq1 w ↦
+    step-taken args.list.now args.rows.now args.count args.own loop.e w.text-is w.now-is
+          (sym number_at.ensures.0 ∙ w.if-number_at-eq1.true) loop.invariant.0 w.put_step-now.ensures
+    | else-number_at-eq1 w ↦
+    step_left args.list.now args.rows.now args.count args.own loop.e w.text-is w.now-is
+          (λ e. w.if-number_at-eq1.false (number_at.ensures.0 ∙ e)) loop.invariant.0
+    ],
       omega (arith, loop-test.true),
     )
 

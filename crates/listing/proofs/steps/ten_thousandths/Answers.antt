@@ -44,4 +44,5 @@ overflow_add-result-2 c =
 pub returns : goal.returns
 returns c =
     let args = c.args in
-    ten-thousandths-half args.weight args.denominator c.if-denominator-eq0.false (omega (arith, c.if-remainder-denominator.false, c.if-denominator-remainder.false))
+    ten-thousandths-half args.weight args.denominator c.if-denominator-eq0.false
+        (omega (arith, c.if-remainder-denominator.false, c.if-denominator-remainder.false))

@@ -73,7 +73,8 @@ loop-i-preserved c =
     let number_at = c.number_at in (
       omega (arith, loop.invariant.0),
       weight-miss args.list.now args.rows.now args.c args.from args.k loop.i loop.total loop-test.true loop.invariant.0
-          (λ e. c.if-block_at-c.false (block_at.ensures ∙ ap (λ (x : ℕ). get_or args.list.now x 0) number_at.ensures.0 ∙ e)) loop.invariant.1,
+          (λ e. c.if-block_at-c.false (block_at.ensures ∙ ap (λ (x : ℕ). get_or args.list.now x 0) number_at.ensures.0 ∙ e))
+              loop.invariant.1,
       omega (arith, loop.invariant.2, loop-test.true),
     )
 

@@ -11,15 +11,15 @@ returns-then-proposal-n c =
 pub returns-then-judge : goal.returns-then-judge
 returns-then-judge c =
     let args = c.args in
-    let if1 = c.if-proposal-n in
+    let long-one = c.if-proposal-n.false in
     let judge = c.judge in
-    λ m found long held closed. judged-well m found args.proposal.now (if1.false ∙ long) (sym (judge.ensures.value _ held
+    λ m found long held closed. judged-well m found args.proposal.now (long-one ∙ long) (sym (judge.ensures.value _ held
     closed) ∙ c.if-judge.true)
 
 pub returns : goal.returns
 returns c =
     let args = c.args in
-    let if1 = c.if-proposal-n in
+    let as_long = c.if-proposal-n.false in
     let judge = c.judge in
-    λ m found long held closed. eighteen m found args.proposal.now (if1.false ∙ long) (sym (judge.ensures.value _ held
+    λ m found long held closed. eighteen m found args.proposal.now (as_long ∙ long) (sym (judge.ensures.value _ held
     closed) ∙ c.if-judge.false)

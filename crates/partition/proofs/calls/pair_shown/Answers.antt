@@ -4,7 +4,8 @@ use Prim.Native.Nat.{ℕ}
 use lib.Dec.{eqb}
 use lib.ListN.{length}
 use Rattle.partition.specs.Instances.{graph}
-use Rattle.partition.specs.Laws.Calls.{pair-sixteen, pair-list-short, nineteen, pair-list-past, pair-list-numbered, shared-is, long-enough, short-at, past-at, numbered-at-n}
+use Rattle.partition.specs.Laws.Calls.{pair-sixteen, pair-list-short, nineteen, pair-list-past, pair-list-numbered}
+use Rattle.partition.specs.Laws.Calls.{shared-is, long-enough, short-at, past-at, numbered-at-n}
 use Rattle.partition.proofs.calls.pair_shown.Goals as goal
 
 pub returns-then-is_short : goal.returns-then-is_short

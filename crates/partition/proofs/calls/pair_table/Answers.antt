@@ -11,12 +11,36 @@ use Rattle.partition.specs.declared.calls.Pairing.TheVariants.{Refused}
 use Rattle.partition.proofs.calls.pair_table.Goals as goal
 
 pub pair_shown-requires : goal.pair_shown-requires
-pair_shown-requires c = let (a, long, few) = of-regions c.args.bytes.now (room_for (length c.args.entries.now)) _ (sym c.in-Regions.is ∙ c.show_graph-shown.ensures.value) in omega (arith, few)
+pair_shown-requires c = let (a, long, few) = of-regions c.args.bytes.now (room_for (length c.args.entries.now)) _
+    (sym c.in-Regions.is ∙ c.show_graph-shown.ensures.value) in omega (arith, few)
 
 pub returns-in-Refused : goal.returns-in-Refused
 unfolding pair_of pair_list_after
-returns-in-Refused c = let e = sym c.in-Refused.is ∙ c.show_graph-shown.ensures.value in let cap = room_for (length c.args.entries.now) in record { answer-is = on-refused Refused (shared_of c.args.first.now c.args.second.now c.args.r c.args.s) c.args.bytes.now cap _ _ e; entries-are = c.show_graph-shown.ensures.entries_after; first-is = on-refused (λ number place. c.args.first.now) (λ m found. cond (is_short (length found) c.args.first.now c.args.second.now) c.args.first.now (cond (is_asked_past (length found) c.args.r c.args.s) c.args.first.now (numbered_in c.args.first.now m found))) c.args.bytes.now cap _ _ e; second_is = on-refused (λ number place. c.args.second.now) (λ m found. cond (is_short (length found) c.args.first.now c.args.second.now) c.args.second.now (cond (is_asked_past (length found) c.args.r c.args.s) c.args.second.now (numbered_in c.args.second.now m found))) c.args.bytes.now cap _ _ e }
+returns-in-Refused c = let e = sym c.in-Refused.is ∙ c.show_graph-shown.ensures.value in let cap = room_for (length c.args.entries.now) in
+    record { answer-is = on-refused Refused (shared_of c.args.first.now c.args.second.now c.args.r c.args.s) c.args.bytes.now cap _ _ e;
+    entries-are = c.show_graph-shown.ensures.entries_after; first-is =
+    on-refused (λ number place. c.args.first.now) (λ m found. cond (is_short (length found) c.args.first.now c.args.second.now)
+    c.args.first.now (cond (is_asked_past (length found) c.args.r c.args.s) c.args.first.now (numbered_in c.args.first.now m found)))
+    c.args.bytes.now cap _ _ e; second_is = on-refused (λ number place. c.args.second.now)
+    (λ m found. cond (is_short (length found) c.args.first.now c.args.second.now) c.args.second.now
+    (cond (is_asked_past (length found) c.args.r c.args.s) c.args.second.now (numbered_in c.args.second.now m found))) c.args.bytes.now cap
+    _ _ e }
 
 pub returns-in-Regions : goal.returns-in-Regions
 unfolding pair_of pair_list_after
-returns-in-Regions c = let cap = room_for (length c.args.entries.now) in let (a, long, few) = of-regions c.args.bytes.now cap _ (sym c.in-Regions.is ∙ c.show_graph-shown.ensures.value) in let shown = c.show_graph-shown.ensures.shown a.model a.found a.read a.out (roomy-made c.flag_room-flags.result c.spot_room-spots.result c.flag_room-flags.ensures c.spot_room-spots.ensures) in let held = held-for c.args.bytes.now cap a (omega arith) _ c.edge_count.result long c.edge_count.ensures c.show_graph-shown.new.labels c.show_graph-shown.new.nexts c.show_graph-shown.new.flags c.show_graph-shown.new.resets c.show_graph-shown.new.spots c.show_graph-shown.new.rows shown in let closed = call-closed c.args.bytes.now cap a.found a.out a.model a.read in let done = c.pair_shown.ensures a.model a.found long held closed in record { answer-is = done.0 ∙ sym (on-accepted Refused (shared_of c.args.first.now c.args.second.now c.args.r c.args.s) c.args.bytes.now cap a); entries-are = c.show_graph-shown.ensures.entries_after; first-is = done.1 ∙ sym (on-accepted (λ number place. c.args.first.now) (λ m found. cond (is_short (length found) c.args.first.now c.args.second.now) c.args.first.now (cond (is_asked_past (length found) c.args.r c.args.s) c.args.first.now (numbered_in c.args.first.now m found))) c.args.bytes.now cap a); second_is = done.2 ∙ sym (on-accepted (λ number place. c.args.second.now) (λ m found. cond (is_short (length found) c.args.first.now c.args.second.now) c.args.second.now (cond (is_asked_past (length found) c.args.r c.args.s) c.args.second.now (numbered_in c.args.second.now m found))) c.args.bytes.now cap a) }
+returns-in-Regions c = let cap = room_for (length c.args.entries.now) in let (a, long, few) =
+    of-regions c.args.bytes.now cap _ (sym c.in-Regions.is ∙ c.show_graph-shown.ensures.value) in let shown =
+    c.show_graph-shown.ensures.shown a.model a.found a.read a.out
+    (roomy-made c.flag_room-flags.result c.spot_room-spots.result c.flag_room-flags.ensures c.spot_room-spots.ensures) in let held =
+    held-for c.args.bytes.now cap a (omega arith) _ c.edge_count.result long c.edge_count.ensures c.show_graph-shown.new.labels
+    c.show_graph-shown.new.nexts c.show_graph-shown.new.flags c.show_graph-shown.new.resets c.show_graph-shown.new.spots
+    c.show_graph-shown.new.rows shown in let closed = call-closed c.args.bytes.now cap a.found a.out a.model a.read in let done =
+    c.pair_shown.ensures a.model a.found long held closed in record
+    { answer-is = done.0 ∙ sym (on-accepted Refused (shared_of c.args.first.now c.args.second.now c.args.r c.args.s) c.args.bytes.now cap
+    a); entries-are = c.show_graph-shown.ensures.entries_after; first-is = done.1
+    ∙ sym (on-accepted (λ number place. c.args.first.now) (λ m found. cond (is_short (length found) c.args.first.now c.args.second.now)
+    c.args.first.now (cond (is_asked_past (length found) c.args.r c.args.s) c.args.first.now (numbered_in c.args.first.now m found)))
+    c.args.bytes.now cap a); second_is = done.2 ∙ sym (on-accepted (λ number place. c.args.second.now)
+    (λ m found. cond (is_short (length found) c.args.first.now c.args.second.now) c.args.second.now
+    (cond (is_asked_past (length found) c.args.r c.args.s) c.args.second.now (numbered_in c.args.second.now m found))) c.args.bytes.now cap
+    a) }

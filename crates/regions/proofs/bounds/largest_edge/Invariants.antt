@@ -9,7 +9,8 @@ use Rattle.regions.specs.Graph.{largest_of, edge_constant}
 use Rattle.regions.proofs.bounds.largest_edge.Given as goal
 
 abbrev pub invariant-loop-i : goal.invariant-loop-i
-invariant-loop-i l = (m : Model) → read_table l.bytes ≡ accepted m → l.count ≡ length m.edges → Placed m l.places → max l.best (largest_of edge_constant (drop l.i m.edges)) ≡ largest_of edge_constant m.edges
+invariant-loop-i l = (m : Model) → read_table l.bytes ≡ accepted m → l.count ≡ length m.edges → Placed m l.places
+    → max l.best (largest_of edge_constant (drop l.i m.edges)) ≡ largest_of edge_constant m.edges
 
 abbrev pub decreases-loop-i : goal.decreases-loop-i
 decreases-loop-i l = l.count - l.i

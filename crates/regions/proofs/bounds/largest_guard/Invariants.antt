@@ -8,7 +8,8 @@ use Rattle.regions.specs.Graph.{largest_of, guard_constant}
 use Rattle.regions.proofs.bounds.largest_guard.Given as goal
 
 abbrev pub invariant-loop-i : goal.invariant-loop-i
-invariant-loop-i l = (m : Model) (e : ℕ) → ReadsEdge l.bytes l.place m e → max l.best (largest_of guard_constant (drop l.i (edge_of m e).guards)) ≡ largest_of guard_constant (edge_of m e).guards
+invariant-loop-i l = (m : Model) (e : ℕ) → ReadsEdge l.bytes l.place m e
+    → max l.best (largest_of guard_constant (drop l.i (edge_of m e).guards)) ≡ largest_of guard_constant (edge_of m e).guards
 
 abbrev pub decreases-loop-i : goal.decreases-loop-i
 decreases-loop-i l = l.count - l.i

@@ -8,7 +8,8 @@ use Rattle.regions.specs.Graph.{largest_of, constant_of}
 use Rattle.regions.proofs.bounds.largest_invariant.Given as goal
 
 abbrev pub invariant-loop-i : goal.invariant-loop-i
-invariant-loop-i l = (m : Model) → Reads l.bytes l.shape m → max l.best (largest_of constant_of (drop l.i m.invariants)) ≡ largest_of constant_of m.invariants
+invariant-loop-i l = (m : Model) → Reads l.bytes l.shape m → max l.best (largest_of constant_of (drop l.i m.invariants)) ≡ largest_of
+    constant_of m.invariants
 
 abbrev pub decreases-loop-i : goal.decreases-loop-i
 decreases-loop-i l = l.count - l.i

@@ -23,7 +23,7 @@ returns-then-not-meets_invariant c =
     let start : first_of.result ≡ first m = first_of.ensures m (counts-read args.bytes.now args.shape m reads).initial in
     let out = breaks (room_for (length args.entries.now)) args.entries.now m
     (ap₂ (λ (x : Bounds) (q : Region). meets x m.invariants q) (sym same) (sym start)
-    ∙ sym (meets-invariant.ensures m limited) ∙ not-true meets-invariant.result c.if-not-meets_invariant.true-raw) in
+    ∙ sym (meets-invariant.ensures m limited) ∙ c.if-not-meets_invariant.true) in
     (sym (ap graph_of out), sym (ap (entries_after args.entries.now) out))
 
 pub returns-then-met : goal.returns-then-met
@@ -38,7 +38,7 @@ returns-then-met c =
     let start : first_of.result ≡ first m = first_of.ensures m (counts-read args.bytes.now args.shape m reads).initial in
     is_cut (room_for (length args.entries.now)) args.entries.now m
     (ap₂ (λ (x : Bounds) (q : Region). meets x m.invariants q) (sym same) (sym start)
-    ∙ sym (meets-invariant.ensures m limited) ∙ not-false meets-invariant.result if1.false-raw)
+    ∙ sym (meets-invariant.ensures m limited) ∙ if1.false)
     explore-all.new.entries
     explore-all.result.count explore-all.ensures.left
     (ap₂ (λ (k : ℕ) (q : Region). explore same_region (next_of m) k q) (sym whole-entries.ensures) (sym start)
@@ -57,7 +57,7 @@ returns c =
     let start : first_of.result ≡ first m = first_of.ensures m (counts-read args.bytes.now args.shape m reads).initial in
     is_whole (room_for (length args.entries.now)) args.entries.now m
     (ap₂ (λ (x : Bounds) (q : Region). meets x m.invariants q) (sym same) (sym start)
-    ∙ sym (meets-invariant.ensures m limited) ∙ not-false meets-invariant.result if1.false-raw)
+    ∙ sym (meets-invariant.ensures m limited) ∙ if1.false)
     explore-all.new.entries
     explore-all.result.count explore-all.ensures.left
     (ap₂ (λ (k : ℕ) (q : Region). explore same_region (next_of m) k q) (sym whole-entries.ensures) (sym start)

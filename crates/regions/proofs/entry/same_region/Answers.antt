@@ -8,7 +8,7 @@ pub returns-then-a-b : goal.returns-then-a-b
 returns-then-a-b c = tells-not (λ e. c.if-a-b.true (ap (λ r. r.location) e))
 
 pub returns-then-not-same_four : goal.returns-then-not-same_four
-returns-then-not-same_four c = tells-not (λ e. c.same_four.ensures.fails (not-true _ c.if-not-same_four.true-raw) (ap (λ r. r.whole) e))
+returns-then-not-same_four c = tells-not (λ e. c.same_four.ensures.fails c.if-not-same_four.true (ap (λ r. r.whole) e))
 
 pub returns : goal.returns
 returns c =
@@ -17,4 +17,4 @@ returns c =
     let if1 = c.if-a-b in
     let same-four = c.same_four in
     let if2 = c.if-not-same_four in
-    region-rest args.a args.b same-four2.result if1.false (same-four.ensures.holds (not-false _ if2.false-raw)) same-four2.ensures
+    region-rest args.a args.b same-four2.result if1.false (same-four.ensures.holds if2.false) same-four2.ensures

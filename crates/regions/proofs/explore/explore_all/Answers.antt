@@ -22,20 +22,20 @@ returns-then-cap-lt1 c =
 pub add-requires : goal.add-requires
 add-requires c =
     let pre = c.requires in
-    let if1 = c.if-cap-lt1 in 
+    let some = c.if-cap-lt1 in 
     record {
       index = index-zeros _ _;
-      n_lt_max_entries = (omega arith, omega (arith, pre.1, if1.false), omega (arith, length-replicate {A = ℕ} 4096 0));
+      n_lt_max_entries = (omega arith, omega (arith, pre.1, some.false), omega (arith, length-replicate {A = ℕ} 4096 0));
     }
 
 pub explore_listed-requires : goal.explore_listed-requires
 explore_listed-requires c =
     let args = c.args in
     let add = c.add in
-    let if1 = c.if-cap-lt1 in
+    let one = c.if-cap-lt1 in
     let pre = c.requires in
     (first-listed args.cap args.entries.now (replicate 4096 0) (replicate 4096 0) add.new.entries add.new.head
-    add.new.next args.start (omega (arith, if1.false)) pre.0 pre.1
+    add.new.next args.start (omega (arith, one.false)) pre.0 pre.1
     (omega (arith, pre.0, length-replicate {A = ℕ} 4096 0)) add.ensures).0
 
 pub shape_of-entries : goal.shape_of-entries
@@ -49,7 +49,7 @@ returns c =
     let explore-listed = c.explore_listed in
     let add = c.add in
     let args = c.args in
-    let if1 = c.if-cap-lt1 in
+    let room = c.if-cap-lt1 in
     let pre = c.requires in
     let long = explore-listed.ensures.kept.entries ∙ add.ensures.entries in 
     record {
@@ -61,9 +61,9 @@ returns c =
       };
       start_value = λ m reads limited placed linked same. explored (next_of m) args.cap args.start add.new.entries
           explore-listed.new.entries
-          explore-listed.result (omega (arith, if1.false))
+          explore-listed.result (omega (arith, room.false))
           (first-listed args.cap args.entries.now (replicate 4096 0) (replicate 4096 0) add.new.entries add.new.head
-          add.new.next args.start (omega (arith, if1.false)) pre.0 pre.1
+          add.new.next args.start (omega (arith, room.false)) pre.0 pre.1
           (omega (arith, pre.0, length-replicate {A = ℕ} 4096 0)) add.ensures).1
           (explore-listed.ensures.entries_value m args.start reads limited placed linked same);
     }

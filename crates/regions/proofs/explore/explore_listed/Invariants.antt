@@ -13,8 +13,10 @@ use Rattle.regions.proofs.explore.explore_listed.Given as goal
 
 abbrev pub invariant-loop-i : goal.invariant-loop-i
 invariant-loop-i l = Kept l.cap 1 l.initial.entries l.initial.heads l.initial.nexts l.entries l.heads l.nexts l.count
-    × ((m : Model) (d : Region) → Reads l.bytes l.shape m → Limited m l.limits → Placed m l.places → Linked m l.starts l.follows → l.bounds ≡ bounds_of m
-    → explore_from same_region (next_of m) (suc l.cap) l.cap d (listed l.initial.entries 1) 0 ≡ explore_from same_region (next_of m) (suc l.cap - l.i) l.cap d (listed l.entries l.count) l.i)
+    × ((m : Model) (d : Region) → Reads l.bytes l.shape m → Limited m l.limits → Placed m l.places → Linked m l.starts l.follows
+        → l.bounds ≡ bounds_of m
+    → explore_from same_region (next_of m) (suc l.cap) l.cap d (listed l.initial.entries 1) 0 ≡ explore_from same_region (next_of m)
+        (suc l.cap - l.i) l.cap d (listed l.entries l.count) l.i)
 
 abbrev pub decreases-loop-i : goal.decreases-loop-i
 decreases-loop-i l = l.cap - l.i

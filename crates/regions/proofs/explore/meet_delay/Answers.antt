@@ -41,7 +41,7 @@ returns-then-not-meets_invariant c =
           ∙ not-false _ if1.false)
           (ap (λ (x : Bounds). meets x m.invariants (delayed x args.r).region) (sym same)
           ∙ ap (λ (x : Moved). meets args.bounds m.invariants x.region) (sym delay.ensures)
-          ∙ sym (meets-invariant.ensures m limited) ∙ not-true meets-invariant.result c.if-not-meets_invariant.true-raw));
+          ∙ sym (meets-invariant.ensures m limited) ∙ c.if-not-meets_invariant.true));
     }
 
 pub meet_one-requires : goal.meet_one-requires
@@ -65,7 +65,7 @@ returns c =
           ∙ ap (λ (x : Moved). x.any) (sym delay.ensures) ∙ not-false _ if1.false)
           (ap (λ (x : Bounds). meets x m.invariants (delayed x args.r).region) (sym same)
           ∙ ap (λ (x : Moved). meets args.bounds m.invariants x.region) (sym delay.ensures)
-          ∙ sym (meets-invariant.ensures m limited) ∙ not-false meets-invariant.result if2.false-raw)
+          ∙ sym (meets-invariant.ensures m limited) ∙ if2.false)
           ∙ ap (λ (x : Bounds). (delayed x args.r).region ∷ []) (sym same) ∙ ap (λ (x : Moved). x.region ∷ []) (sym delay.ensures))
           ∙ meet_one.ensures.all_met;
     }

@@ -15,6 +15,7 @@ use Rattle.regions.specs.Graph.{edge_next}
 use Rattle.regions.specs.Laws.Graph.{edge-elsewhere}
 use Rattle.regions.specs.Explore.{kept-none, kept_on, loop-on, loop-past, loop-full, loop-over}
 use Rattle.regions.proofs.explore.meet_edges.Goals as goal
+use Rattle.regions.proofs.explore.meet_edges.Goals.{then-link-i+else-met, else-link-i}
 
 pub loop-i-init : goal.loop-i-init
 loop-i-init c =
@@ -115,8 +116,8 @@ loop-i-preserved c =
     let args = c.args in
     let loop = c.loop-i in
     let loop-test = c.loop-i-test in
-    ⊎_elim
-    (λ w.
+    elim c.if-link-i.branch [
+      then-link-i+else-met w ↦
     let met = w.meet_edge-met in
     rw (w.entries-is, w.heads-is, w.nexts-is, w.tested-is, w.visited-is, w.listed-is, w.link-is) (
       kept_on args.cap args.n args.entries.now args.heads.now args.nexts.now loop.entries loop.heads loop.nexts
@@ -135,14 +136,16 @@ loop-i-preserved c =
                 loop.i here;
           } in
           let one = met.ensures.all_met m loop.i limited edge (sym mine) same in (
-            w.edge_link-link-then-link-i.ensures ∙ linked.follow loop.i here ∙ ap (λ (k : ℕ). link_from m k (suc loop.i)) mine ∙ ap (link_from m
+            w.edge_link-link-then-link-i.ensures ∙ linked.follow loop.i here ∙ ap (λ (k : ℕ). link_from m k (suc loop.i)) mine
+                ∙ ap (link_from m
                 args.r.location) (sym (add-one loop.i)),
             loop-on (edge_next m args.r) m.edges loop.i no_edge args.cap args.n loop.listed args.entries.now loop.entries all here
                 met.new.entries
                 met.result w.if-met.false one,
           ),
-    ))
-    (λ w. rw (w.entries-is, w.heads-is, w.nexts-is, w.tested-is, w.visited-is, w.listed-is, w.link-is) (
+    )
+    | else-link-i w ↦
+    rw (w.entries-is, w.heads-is, w.nexts-is, w.tested-is, w.visited-is, w.listed-is, w.link-is) (
       loop.invariant.0,
       loop.invariant.1,
       loop.invariant.2,
@@ -154,8 +157,8 @@ loop-i-preserved c =
             loop-past (edge_next m args.r) m.edges loop.i no_edge args.cap args.n loop.listed args.entries.now loop.entries all here
                 (edge-elsewhere m (edge_of m loop.i) args.r other),
           ),
-    ))
-    c.if-link-i.branch-raw
+    )
+    ]
 
 pub shape_of-entries : goal.shape_of-entries
 shape_of-entries c = c.loop-i.invariant.0.entries

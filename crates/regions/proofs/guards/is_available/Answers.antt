@@ -27,7 +27,7 @@ returns-then-not-meets_guards c =
           (not-guards m (edge_of m e) args.r (sym from ∙ if1.false)
           (ap (λ (x : Bounds). every (satisfies x args.r) (edge_of m e).guards) (sym same) ∙ sym
           (c.meets_guards.ensures m e edge)
-          ∙ not-true _ c.if-not-meets_guards.true-raw));
+          ∙ c.if-not-meets_guards.true));
     }
 
 pub lands_all-requires : goal.lands_all-requires
@@ -54,5 +54,5 @@ returns c =
           ∙ ap (λ (x : Bounds). lands x m.invariants (edge_of m e) args.r) same
           ∙ sym (when-fits m (edge_of m e) args.r (sym from ∙ if1.false)
           (ap (λ (x : Bounds). every (satisfies x args.r) (edge_of m e).guards) (sym same) ∙ sym (meets-guards.ensures m e edge)
-          ∙ not-false _ if2.false-raw));
+          ∙ if2.false));
     }

@@ -43,7 +43,7 @@ returns-then-not-meets_target c =
           e).branches
           loop.i no_branch (omega (arith, loop-test.true))
           (ap (λ (b : Branch). meets args.bounds m.invariants (landing args.bounds args.r b))
-          (sym (branch-at.ensures.value_2 m e edge)) ∙ sym (meets-target.ensures.value m limited) ∙ not-true _ c.if-not-meets_target.true-raw));
+          (sym (branch-at.ensures.value_2 m e edge)) ∙ sym (meets-target.ensures.value m limited) ∙ c.if-not-meets_target.true));
     }
 
 pub loop-i-preserved : goal.loop-i-preserved
@@ -60,7 +60,7 @@ loop-i-preserved c =
           e).branches
           loop.i no_branch (omega (arith, loop-test.true))
           (ap (λ (b : Branch). meets args.bounds m.invariants (landing args.bounds args.r b))
-          (sym (branch-at.ensures.value_2 m e edge)) ∙ sym (meets-target.ensures.value m limited) ∙ not-false _ c.if-not-meets_target.false-raw),
+          (sym (branch-at.ensures.value_2 m e edge)) ∙ sym (meets-target.ensures.value m limited) ∙ c.if-not-meets_target.false),
     )
 
 pub shape_of-tested : goal.shape_of-tested

@@ -24,7 +24,7 @@ returns-then-not-is_satisfied c =
     (loop.invariant m e reads ∙ every-fails (satisfies args.bounds args.r) (edge_of m e).guards loop.i no_guard
     (omega (arith, loop-test.true))
     (sym (ap (satisfies args.bounds args.r) (guard-at.ensures.value_2 m e reads)) ∙ sym is-satisfied.ensures
-    ∙ not-true is-satisfied.result c.if-not-is_satisfied.true-raw))
+    ∙ c.if-not-is_satisfied.true))
 
 pub loop-i-preserved : goal.loop-i-preserved
 loop-i-preserved c =
@@ -37,7 +37,7 @@ loop-i-preserved c =
     λ m e reads. let few = guard-count.ensures.value_2 m e reads in loop.invariant m e reads
     ∙ every-on (satisfies args.bounds args.r) (edge_of m e).guards loop.i no_guard (omega (arith, loop-test.true))
     (sym (ap (satisfies args.bounds args.r) (guard-at.ensures.value_2 m e reads)) ∙ sym is-satisfied.ensures
-    ∙ not-false is-satisfied.result c.if-not-is_satisfied.false-raw)
+    ∙ c.if-not-is_satisfied.false)
 
 pub returns : goal.returns
 returns c =

@@ -8,7 +8,8 @@ use Rattle.regions.specs.Graph.{satisfies, every}
 use Rattle.regions.proofs.guards.meets_guards.Given as goal
 
 abbrev pub invariant-loop-i : goal.invariant-loop-i
-invariant-loop-i l = (m : Model) (e : ℕ) → ReadsEdge l.bytes l.place m e → every (satisfies l.bounds l.r) (edge_of m e).guards ≡ every (satisfies l.bounds l.r) (drop l.i (edge_of m e).guards)
+invariant-loop-i l = (m : Model) (e : ℕ) → ReadsEdge l.bytes l.place m e
+    → every (satisfies l.bounds l.r) (edge_of m e).guards ≡ every (satisfies l.bounds l.r) (drop l.i (edge_of m e).guards)
 
 abbrev pub decreases-loop-i : goal.decreases-loop-i
 decreases-loop-i l = l.count - l.i

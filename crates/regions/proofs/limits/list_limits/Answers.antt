@@ -4,7 +4,8 @@ use native.Mathlib.Omega.{arith}
 use mathlib.Core.Path.{refl, sym, ◌∙◌, ap, subst}
 use lib.ListN.{length, take, length-replicate}
 use Rattle.table.proofs.Laws.Reads.{counts-read, sound-read}
-use Rattle.regions.specs.Limits.{no_limit, Holding, holding-none, holding-next, holding-all, stored-as-long, limit_place, limit_in, limit_by}
+use Rattle.regions.specs.Limits.{no_limit, Holding, holding-none, holding-next, holding-all}
+use Rattle.regions.specs.Limits.{stored-as-long, limit_place, limit_in, limit_by}
 use Rattle.regions.proofs.limits.list_limits.Goals as goal
 
 pub loop-i-init : goal.loop-i-init
@@ -23,7 +24,8 @@ loop-i-preserved c =
       λ m reads none. let
           few = (counts-read args.bytes.now args.shape m reads).invariants in holding-next m (sound-read args.bytes.now
           args.shape m reads) loop.limits loop.i (omega (arith, loop-test.true, few)) invariant-at.result
-          (invariant-at.ensures.value_2 m reads) (loop.invariant.0 ∙ ap length none ∙ length-replicate 1024 no_limit) (loop.invariant.1 m reads
+          (invariant-at.ensures.value_2 m reads) (loop.invariant.0 ∙ ap length none ∙ length-replicate 1024 no_limit)
+              (loop.invariant.1 m reads
           none) lower.new.limits lower.ensures,
     )
 

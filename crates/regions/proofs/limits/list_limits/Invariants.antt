@@ -8,7 +8,8 @@ use Rattle.regions.specs.Limits.{no_limit, Holding}
 use Rattle.regions.proofs.limits.list_limits.Given as goal
 
 abbrev pub invariant-loop-i : goal.invariant-loop-i
-invariant-loop-i l = (length l.limits ≡ length l.initial.limits) × ((m : Model) → Reads l.bytes l.shape m → l.initial.limits ≡ replicate 1024 no_limit → Holding (take l.i m.invariants) l.limits)
+invariant-loop-i l = (length l.limits ≡ length l.initial.limits)
+    × ((m : Model) → Reads l.bytes l.shape m → l.initial.limits ≡ replicate 1024 no_limit → Holding (take l.i m.invariants) l.limits)
 
 abbrev pub decreases-loop-i : goal.decreases-loop-i
 decreases-loop-i l = l.count - l.i

@@ -33,7 +33,7 @@ returns-then-not-meets_invariant c =
           args.r (ap (λ (x : Bounds). (delayed x args.r).any) (sym same) ∙ ap (λ (x : Moved). x.any) (sym
           delay.ensures) ∙ not-false _ if1.false) (ap (λ (x : Bounds). meets x m.invariants (delayed x args.r
           ).region) (sym same) ∙ ap (λ (x : Moved). meets args.bounds m.invariants x.region) (sym delay.ensures) ∙
-          sym (meets-invariant.ensures m limited) ∙ not-true _ c.if-not-meets_invariant.true-raw));
+          sym (meets-invariant.ensures m limited) ∙ c.if-not-meets_invariant.true));
     }
 
 pub returns-in-At : goal.returns-in-At
@@ -52,7 +52,7 @@ returns-in-At c =
           : Bounds). (delayed x args.r).any) (sym same) ∙ ap (λ (x : Moved). x.any) (sym delay.ensures) ∙ not-false _
           if1.false) (ap (λ (x : Bounds). meets x m.invariants (delayed x args.r).region) (sym same) ∙ ap (λ (x :
           Moved). meets args.bounds m.invariants x.region) (sym delay.ensures) ∙ sym (meets-invariant.ensures m
-          limited) ∙ not-false _ if2.false-raw)) _ at.0 (at.1 ∙ ap (λ (x : Moved). x.region) delay.ensures ∙ ap (λ (x :
+          limited) ∙ if2.false)) _ at.0 (at.1 ∙ ap (λ (x : Moved). x.region) delay.ensures ∙ ap (λ (x :
           Bounds). (delayed x args.r).region) same);
     }
 
@@ -72,6 +72,6 @@ returns-in-Nothing c =
           args.r (ap (λ (x : Bounds). (delayed x args.r).any) (sym same) ∙ ap (λ (x : Moved). x.any) (sym
           delay.ensures) ∙ not-false _ if1.false) (ap (λ (x : Bounds). meets x m.invariants (delayed x args.r
           ).region) (sym same) ∙ ap (λ (x : Moved). meets args.bounds m.invariants x.region) (sym delay.ensures) ∙
-          sym (meets-invariant.ensures m limited) ∙ not-false _ if2.false-raw)) x h is (λ j less at. none j less (at ∙ sym (ap
+          sym (meets-invariant.ensures m limited) ∙ if2.false)) x h is (λ j less at. none j less (at ∙ sym (ap
           (λ (x : Moved). x.region) delay.ensures ∙ ap (λ (x : Bounds). (delayed x args.r).region) same))));
     }

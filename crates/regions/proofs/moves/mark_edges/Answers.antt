@@ -14,6 +14,7 @@ use Rattle.regions.specs.Shown.{open_below}
 use Rattle.regions.specs.Laws.Graph.{not-source}
 use Rattle.regions.specs.Laws.Filling.{run_on, before-none, before_on, open-past}
 use Rattle.regions.proofs.moves.mark_edges.Goals as goal
+use Rattle.regions.proofs.moves.mark_edges.Goals.{then-link-e, else-link-e}
 
 pub loop-e-init : goal.loop-e-init
 unfolding open_below
@@ -75,9 +76,11 @@ loop-e-preserved c =
     let l : ℕ = args.r.location in
     let at : ℕ = args.base + e in
     let room : at < length loop.flags = omega (arith, loop-test.true, loop.invariant.0.as_long, pre.1) in
-    ⊎_elim
-    (λ w. rw (w.tested-is, w.last-is, w.link-is) (
-      before_on args.base at w.open_after-last.result args.flags.now loop.flags (set loop.flags at w.open_after-last.result) (omega arith) refl
+    elim c.if-link-e.branch [
+      then-link-e w ↦
+    rw (w.tested-is, w.last-is, w.link-is) (
+      before_on args.base at w.open_after-last.result args.flags.now loop.flags (set loop.flags at w.open_after-last.result) (omega arith)
+          refl
           loop.invariant.0,
       w.open_after-last.ensures.tested,
       λ m answer limited placed linked same few.
@@ -90,14 +93,18 @@ loop-e-preserved c =
             place_is = w.number_at-place.ensures ∙ placed e
                 here;
           } in
-          let now-last : w.open_after-last.result ≡ open_below p (suc e) = w.open_after-last.ensures.value m limited edge (sym mine) same old in (
-            w.edge_link-link-then-link-e.ensures ∙ linked.follow e here ∙ ap (λ (k : ℕ). link_from m k (suc e)) mine ∙ ap (link_from m l) (sym (add-one e)),
+          let now-last : w.open_after-last.result ≡ open_below p (suc e) =
+              w.open_after-last.ensures.value m limited edge (sym mine) same old in (
+            w.edge_link-link-then-link-e.ensures ∙ linked.follow e here ∙ ap (λ (k : ℕ). link_from m k (suc e)) mine
+                ∙ ap (link_from m l) (sym (add-one e)),
             now-last ∙ ap (open_below p) (sym (add-one e)),
-            run_on args.base e (λ j v. v ≡ open_below p (suc j)) loop.flags (set loop.flags at w.open_after-last.result) w.open_after-last.result room
+            run_on args.base e (λ j v. v ≡ open_below p (suc j)) loop.flags (set loop.flags at w.open_after-last.result)
+                w.open_after-last.result room
                 refl run now-last,
           ),
-    ))
-    (λ w. rw (w.tested-is, w.last-is, w.link-is) (
+    )
+    | else-link-e w ↦
+    rw (w.tested-is, w.last-is, w.link-is) (
       before_on args.base at loop.last args.flags.now loop.flags (set loop.flags at loop.last) (omega arith) refl loop.invariant.0,
       loop.invariant.1,
       λ m answer limited placed linked same few.
@@ -111,8 +118,8 @@ loop-e-preserved c =
             run_on args.base e (λ j v. v ≡ open_below p (suc j)) loop.flags (set loop.flags at loop.last) loop.last room refl run
                 now-last,
           ),
-    ))
-    if1.branch-raw
+    )
+    ]
 
 pub shape_of-flags : goal.shape_of-flags
 shape_of-flags c = c.loop-e.invariant.0.as_long

@@ -15,7 +15,8 @@ use Rattle.regions.proofs.moves.show_flags.Given as goal
 
 abbrev pub invariant-loop-x : goal.invariant-loop-x
 invariant-loop-x l = (length l.flags ≡ length l.initial.flags) × ((m : Model) →
-    read_table l.bytes ≡ accepted m → Limited m l.limits → Placed m l.places → Linked m l.starts l.follows → l.bounds ≡ bounds_of m → l.edges ≡ length m.edges →
+    read_table l.bytes ≡ accepted m → Limited m l.limits → Placed m l.places → Linked m l.starts l.follows → l.bounds ≡ bounds_of m
+        → l.edges ≡ length m.edges →
     Blocks 128 l.edges l.x (λ y j v. v ≡ open_below (λ f. available m (edge_of m f) (region_at l.entries y)) (suc j)) l.flags)
 
 abbrev pub decreases-loop-x : goal.decreases-loop-x

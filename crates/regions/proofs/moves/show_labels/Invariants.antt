@@ -9,7 +9,8 @@ use Rattle.regions.specs.View.{label_of}
 use Rattle.regions.proofs.moves.show_labels.Given as goal
 
 abbrev pub invariant-loop-x : goal.invariant-loop-x
-invariant-loop-x l = (length l.labels ≡ length l.initial.labels) × ((m : Model) → Reads l.bytes l.shape m → (y : ℕ) → y < l.x → get_or l.labels y 0 ≡ label_of m (region_at l.entries y))
+invariant-loop-x l = (length l.labels ≡ length l.initial.labels)
+    × ((m : Model) → Reads l.bytes l.shape m → (y : ℕ) → y < l.x → get_or l.labels y 0 ≡ label_of m (region_at l.entries y))
 
 abbrev pub decreases-loop-x : goal.decreases-loop-x
 decreases-loop-x l = l.n - l.x

@@ -13,7 +13,9 @@ use Rattle.regions.specs.Order.{AllRegions}
 use Rattle.regions.proofs.moves.show_nexts.Given as goal
 
 abbrev pub invariant-loop-x : goal.invariant-loop-x
-invariant-loop-x l = (length l.nexts ≡ length l.initial.nexts) × ((m : Model) → AllRegions m (listed l.entries l.n) → Limited m l.limits → l.bounds ≡ bounds_of m → (y : ℕ) → y < l.x → delay_numbers m (listed l.entries l.n) (region_at l.entries y) ≡ followers l.n (get_or l.nexts y 0))
+invariant-loop-x l = (length l.nexts ≡ length l.initial.nexts)
+    × ((m : Model) → AllRegions m (listed l.entries l.n) → Limited m l.limits → l.bounds ≡ bounds_of m → (y : ℕ) → y < l.x
+    → delay_numbers m (listed l.entries l.n) (region_at l.entries y) ≡ followers l.n (get_or l.nexts y 0))
 
 abbrev pub decreases-loop-x : goal.decreases-loop-x
 decreases-loop-x l = l.n - l.x

@@ -22,7 +22,8 @@ loop-i-init c =
     let store = c.store in (
       omega arith,
       refl,
-      λ m limited same. reaching-start m args.entries.now args.n pre.n_le_max_entries.0 args.r args.delays.now store.new.list number_by.result
+      λ m limited same. reaching-start m args.entries.now args.n pre.n_le_max_entries.0 args.r args.delays.now store.new.list
+          number_by.result
           (omega (arith, pre.n_le_max_entries.1)) store.ensures number_by.ensures.0 number_by.ensures.1,
     )
 
@@ -81,7 +82,7 @@ returns-then-not-meets_invariant c =
     λ m limited same. reaching-none m args.entries.now args.n pre.n_le_max_entries.0 args.r loop.at loop.i store.new.list loop.delays
     (loop.invariant.2 m limited same) args.delays.now (number_by.result % 65536) store.ensures loop-test.true
     (moved-breaks m args.bounds same loop.at delay.result delay.ensures (not-false _ if1.false)
-    (sym (meets-invariant.ensures m limited) ∙ not-true _ c.if-not-meets_invariant.true-raw))
+    (sym (meets-invariant.ensures m limited) ∙ c.if-not-meets_invariant.true))
 
 pub overflow_add-i : goal.overflow_add-i
 overflow_add-i c =
@@ -119,7 +120,7 @@ loop-i-preserved c =
           (loop.invariant.2 m limited same) (delay.result).region number-by2.result store2.new.list loop-test.true
           (omega (arith, pre.n_le_max_entries.1, stored-as-long args.delays.now store.new.list 0 (number_by.result % 65536) store.ensures))
           (moved-some m args.bounds same loop.at delay.result delay.ensures (not-false _ if1.false)
-          (sym (meets-invariant.ensures m limited) ∙ not-false _ if2.false-raw))
+          (sym (meets-invariant.ensures m limited) ∙ if2.false))
           number-by2.ensures.0 number-by2.ensures.1 store2.ensures,
     )
 

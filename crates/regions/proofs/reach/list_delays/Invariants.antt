@@ -12,7 +12,8 @@ use Rattle.regions.proofs.reach.list_delays.Given as goal
 
 abbrev pub invariant-loop-i : goal.invariant-loop-i
 invariant-loop-i l = (l.i ≤ l.n) × (length l.delays ≡ length l.initial.delays)
-    × ((m : Model) → Limited m l.limits → l.bounds ≡ bounds_of m → Reaching m (listed l.entries l.n) l.n l.initial.at l.at l.i l.initial.delays l.delays)
+    × ((m : Model) → Limited m l.limits → l.bounds ≡ bounds_of m
+        → Reaching m (listed l.entries l.n) l.n l.initial.at l.at l.i l.initial.delays l.delays)
 
 abbrev pub decreases-loop-i : goal.decreases-loop-i
 decreases-loop-i l = l.n - l.i

@@ -5,6 +5,7 @@ use mathlib.Core.Path.{sym, ◌∙◌}
 use mathlib.Core.Logic.{⊎_elim}
 use Rattle.regions.specs.Laws.Reach.{lowest_start, lowest-falls, lowest-here, lowest-past, lowest-number}
 use Rattle.regions.proofs.reach.number_by.Goals as goal
+use Rattle.regions.proofs.reach.number_by.Goals.{then-same_region, else-same_region}
 
 pub link_at-link-requires : goal.link_at-link-requires
 link_at-link-requires c =
@@ -51,12 +52,14 @@ loop-link-preserved c =
     let read-entry = c.read_entry in
     let if1 = c.if-same_region in
     rw c.link_at-link-in-loop-link.ensures
-    (⊎_elim
-    (λ was. lowest-here args.entries.now args.heads.now args.links.now args.n args.q pre loop.link loop.best loop.invariant
-    loop-test.true if1.best was.best-is (sym (same-region.ensures.holds was.if-same_region.true ∙ read-entry.ensures)))
-    (λ was. lowest-past args.entries.now args.heads.now args.links.now args.n args.q pre loop.link loop.best loop.invariant
-    loop-test.true if1.best was.best-is (λ e. same-region.ensures.fails was.if-same_region.false (sym (read-entry.ensures ∙ e))))
-    if1.branch-raw)
+    (elim c.if-same_region.branch [
+      then-same_region was ↦
+    lowest-here args.entries.now args.heads.now args.links.now args.n args.q pre loop.link loop.best loop.invariant
+    loop-test.true if1.best was.best-is (sym (same-region.ensures.holds was.if-same_region.true ∙ read-entry.ensures))
+    | else-same_region was ↦
+    lowest-past args.entries.now args.heads.now args.links.now args.n args.q pre loop.link loop.best loop.invariant
+    loop-test.true if1.best was.best-is (λ e. same-region.ensures.fails was.if-same_region.false (sym (read-entry.ensures ∙ e)))
+    ])
 
 pub returns : goal.returns
 returns c =

@@ -7,7 +7,9 @@ use Rattle.regions.specs.Filling.{Before, Fitting, RowTo}
 use Rattle.regions.proofs.rows.show_row.Given as goal
 
 abbrev pub invariant-loop-i : goal.invariant-loop-i
-invariant-loop-i l = Before l.at l.initial.rows l.rows × (l.i ≤ l.branches) × ((m : Model) (e : ℕ) → ReadsEdge l.bytes l.place m e → Fitting (edge_of m e) → l.action ≡ (edge_of m e).action → l.denominator ≡ (edge_of m e).denominator → RowTo (edge_of m e) l.at l.i l.rows)
+invariant-loop-i l = Before l.at l.initial.rows l.rows × (l.i ≤ l.branches)
+    × ((m : Model) (e : ℕ) → ReadsEdge l.bytes l.place m e → Fitting (edge_of m e) → l.action ≡ (edge_of m e).action
+    → l.denominator ≡ (edge_of m e).denominator → RowTo (edge_of m e) l.at l.i l.rows)
 
 abbrev pub decreases-loop-i : goal.decreases-loop-i
 decreases-loop-i l = l.branches - l.i

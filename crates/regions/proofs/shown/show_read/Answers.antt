@@ -33,7 +33,8 @@ returns-in-Regions c =
         answer,
         done.1,
       );
-      shown = λ m found reads is room. let done = graph-of.ensures m reads in let answer = sym c.in-Regions.is ∙ done.0 in subst (λ (k : List Region). Shown m k show-found.new.labels show-found.new.nexts
+      shown = λ m found reads is room. let done = graph-of.ensures m reads in let answer = sym c.in-Regions.is ∙ done.0 in
+          subst (λ (k : List Region). Shown m k show-found.new.labels show-found.new.nexts
             show-found.new.flags show-found.new.resets show-found.new.spots
             show-found.new.rows) (list-found args.bytes.now args.entries.now graph-of.new.entries m
             (room_for (length args.entries.now)) reads.answer _ answer done.1 found is) (show-found.ensures.shown m reads

@@ -24,7 +24,8 @@ list_step-requires c =
     let loop = c.loop-e in 
     record {
       index = pre.index;
-      n_le_max_entries = (pre.n_le_max_entries.0, omega (arith, loop-test.true, loop.invariant.0, pre.n_le_max_entries.1, pre.n_le_max_entries.2));
+      n_le_max_entries = (pre.n_le_max_entries.0, omega (arith, loop-test.true, loop.invariant.0, pre.n_le_max_entries.1,
+          pre.n_le_max_entries.2));
     }
 
 pub overflow_add-e : goal.overflow_add-e

@@ -14,7 +14,8 @@ use Rattle.regions.specs.Sight.{Stepping}
 use Rattle.regions.proofs.sight.list_steps.Given as goal
 
 abbrev pub invariant-loop-e : goal.invariant-loop-e
-invariant-loop-e l = (length l.rows ≡ length l.initial.rows) × ((m : Model) → read_table l.bytes ≡ accepted m → Limited m l.limits → Placed m l.places → Lists m l.list → ((j : ℕ) → j < length m.edges → Fitting (edge_of m j)) → l.bounds ≡ bounds_of m
+invariant-loop-e l = (length l.rows ≡ length l.initial.rows) × ((m : Model) → read_table l.bytes ≡ accepted m → Limited m l.limits
+    → Placed m l.places → Lists m l.list → ((j : ℕ) → j < length m.edges → Fitting (edge_of m j)) → l.bounds ≡ bounds_of m
     → l.edges ≡ length m.edges → (j : ℕ) → j < l.e → Stepping m (listed l.entries l.n) l.r j l.rows)
 
 abbrev pub decreases-loop-e : goal.decreases-loop-e

@@ -12,7 +12,8 @@ use Rattle.regions.proofs.sight.list_ways.Given as goal
 abbrev pub invariant-loop-i : goal.invariant-loop-i
 invariant-loop-i l = Before (l.at + 3) l.initial.rows l.rows × (l.i ≤ l.count) × ((m
     : Model)
-    (e : ℕ) → ReadsEdge l.bytes l.place m e → Fitting (edge_of m e) → l.bounds ≡ bounds_of m → WaysTo m (listed l.entries l.n) l.r e l.at l.i
+    (e : ℕ) → ReadsEdge l.bytes l.place m e → Fitting (edge_of m e) → l.bounds ≡ bounds_of m
+        → WaysTo m (listed l.entries l.n) l.r e l.at l.i
     l.rows)
 
 abbrev pub decreases-loop-i : goal.decreases-loop-i

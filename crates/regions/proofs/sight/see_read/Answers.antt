@@ -12,7 +12,7 @@ pub returns-then-not-is_seen : goal.returns-then-not-is_seen
 returns-then-not-is_seen c =
     let is_seen = c.is_seen in
     let args = c.args in
-    let out = sym is_seen.ensures ∙ not-true _ c.if-not-is_seen.true-raw in 
+    let out = sym is_seen.ensures ∙ c.if-not-is_seen.true in 
     record {
       value = λ m reads. sight-unseen m args.entries.now args.n args.x _ out;
       sighted = λ m reads seen. absurd (false≢true (sym out ∙ seen));
@@ -25,7 +25,7 @@ read_entry-location-requires c =
     let is_seen = c.is_seen in
     let h = seen_parts args.n args.x (length args.entries.now) (length args.delays.now) (length args.rows.now)
     (sym
-    is_seen.ensures ∙ not-false _ c.if-not-is_seen.false-raw) in omega (arith, h.0, h.1)
+    is_seen.ensures ∙ c.if-not-is_seen.false) in omega (arith, h.0, h.1)
 
 pub see_steps-reached-requires : goal.see_steps-reached-requires
 see_steps-reached-requires c =
@@ -34,7 +34,7 @@ see_steps-reached-requires c =
     let if1 = c.if-not-is_seen in
     let h = seen_parts args.n args.x (length args.entries.now) (length args.delays.now) (length args.rows.now)
     (sym
-    is_seen.ensures ∙ not-false _ if1.false-raw) in (h.0, h.1, h.2, h.3, h.4)
+    is_seen.ensures ∙ if1.false) in (h.0, h.1, h.2, h.3, h.4)
 
 pub returns : goal.returns
 returns c =
@@ -44,7 +44,7 @@ returns c =
     let read-entry = c.read_entry-location in
     let label_at = c.label_at-label in
     let see-steps = c.see_steps-reached in
-    let seen = sym is_seen.ensures ∙ not-false _ if1.false-raw in 
+    let seen = sym is_seen.ensures ∙ if1.false in 
     record {
       value = λ m reads. sight-seen m args.entries.now args.n args.x _ seen read-entry.result label_at.result
           see-steps.result args.shape.edges read-entry.ensures (label_at.ensures.value_2 m reads) (see-steps.ensures m

@@ -28,5 +28,6 @@ pub returns : goal.returns
 returns c =
     let loop = c.loop-i in
     let args = c.args in
-    λ m r. labels-all m loop.labels loop.i (length args.labels.now) loop.invariant.1 (omega (arith, c.loop-i-test.false, loop.invariant.1)) loop.invariant.2
+    λ m r. labels-all m loop.labels loop.i (length args.labels.now) loop.invariant.1 (omega (arith, c.loop-i-test.false, loop.invariant.1))
+        loop.invariant.2
     (loop.invariant.0 m r)

@@ -9,7 +9,8 @@ use Rattle.regions.proofs.sight.store_location_labels.Given as goal
 
 abbrev pub invariant-loop-i : goal.invariant-loop-i
 invariant-loop-i l =
-    ((m : Model) → Reads l.bytes l.shape m → take l.i l.labels ≡ location_labels m l.i) × (length l.labels ≡ length l.initial.labels) × (l.i ≤ length l.initial.labels)
+    ((m : Model) → Reads l.bytes l.shape m → take l.i l.labels ≡ location_labels m l.i) × (length l.labels ≡ length l.initial.labels)
+        × (l.i ≤ length l.initial.labels)
 
 abbrev pub decreases-loop-i : goal.decreases-loop-i
 decreases-loop-i l = length l.initial.labels - l.i

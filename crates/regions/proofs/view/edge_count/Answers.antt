@@ -11,4 +11,5 @@ returns-in-Refused c =
     sym (ap edges_read (refusal-of args.bytes.now _ _ (sym c.in-Refused.is ∙ read.ensures)))
 
 pub returns-in-Accepted : goal.returns-in-Accepted
-returns-in-Accepted c = let (m, reads) = reads_of c.args.bytes.now _ (sym c.in-Accepted.is ∙ c.read-reading.ensures) in (counts-read c.args.bytes.now _ m reads).edges ∙ sym (ap edges_read reads.answer)
+returns-in-Accepted c = let (m, reads) = reads_of c.args.bytes.now _ (sym c.in-Accepted.is ∙ c.read-reading.ensures) in
+    (counts-read c.args.bytes.now _ m reads).edges ∙ sym (ap edges_read reads.answer)

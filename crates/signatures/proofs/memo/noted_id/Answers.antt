@@ -16,7 +16,8 @@ returns-then-is_noted c =
     let pre = c.requires in
     let is-noted = c.is_noted in
     let if1 = c.if-is_noted in
-    notes-hit (raw_step args.edges.now) args.raw.now args.index.now args.numbers.now args.memo.now cell-of.result c.load.result pre.dictionary
+    notes-hit (raw_step args.edges.now) args.raw.now args.index.now args.numbers.now args.memo.now cell-of.result c.load.result
+        pre.dictionary
     pre.noted cell-of.ensures (is-noted.ensures.holds if1.true) c.load.ensures.0
 
 pub note-requires : goal.note-requires

@@ -21,7 +21,8 @@ returns c =
     let fits : list-delays.result ≤ length list-delays.new.list = omega (arith, size, list-delays.ensures.1, pre.names_bound.1) in
     record {
       interns = subst (λ (l : List ℕ). Interns l args.index.now args.numbers.now intern.new.index intern.new.numbers intern.result)
-          (part-behind 130 (length args.list.now - 130) list-delays.result args.list.now list-delays.new.list (omega (arith, pre.names_bound.1))
+          (part-behind 130 (length args.list.now - 130) list-delays.result args.list.now list-delays.new.list
+              (omega (arith, pre.names_bound.1))
           fits ∙ list-delays.ensures.0) intern.ensures;
       x_len_bound = (
         omega (

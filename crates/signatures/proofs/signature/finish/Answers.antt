@@ -16,7 +16,8 @@ close-requires c =
     c.in-Id.id (rw c.in-Id.is at delay-id.ensures.interns) in
     record {
       dictionary = delay-id.ensures.interns.kept;
-      len_bound = (pre.len_bound.0, omega (arith, delay-id.ensures.x_len_bound.1, pre.len_bound.2), omega (arith, name-at.ensures.1), omega (arith, id));
+      len_bound = (pre.len_bound.0, omega (arith, delay-id.ensures.x_len_bound.1, pre.len_bound.2), omega (arith, name-at.ensures.1), omega
+          (arith, id));
     }
 
 pub shape_of-index-in-Id : goal.shape_of-index-in-Id
@@ -46,7 +47,8 @@ returns-in-Id c =
     let pre = c.requires in
     finished-closed args.names.now args.x args.len args.index.now args.numbers.now args.list.now delay-id.new.index delay-id.new.numbers
     delay-id.new.list delay-id.ensures.x_len_bound.0 delay-id.ensures.x_len_bound.1 c.in-Id.id name-at.result close.new.index
-    close.new.numbers close.new.list close.result pre.len_bound.0 pre.len_bound.2 delay-id.ensures.x_len_bound.2 (rw c.in-Id.is at delay-id.ensures.interns)
+    close.new.numbers close.new.list close.result pre.len_bound.0 pre.len_bound.2 delay-id.ensures.x_len_bound.2
+        (rw c.in-Id.is at delay-id.ensures.interns)
     name-at.ensures.0 close.ensures.list_len_unchanged close.ensures.interns
 
 pub shape_of-index-in-Full : goal.shape_of-index-in-Full

@@ -12,7 +12,8 @@ use Rattle.signatures.proofs.signature.list_delays.Given as goal
 abbrev pub invariant-loop-i : goal.invariant-loop-i
 invariant-loop-i l =
     Walked (names_of l.names (chain_from (jump_of l.names) (items_in l.names) (items_in l.names) l.x)) (take l.len l.list)
-    (names_of l.names (chain_from (jump_of l.names) (items_in l.names) (items_in l.names - l.i) l.y)) × (l.len ≤ l.i) × (length l.list ≡ length l.initial.list)
+    (names_of l.names (chain_from (jump_of l.names) (items_in l.names) (items_in l.names - l.i) l.y)) × (l.len ≤ l.i)
+        × (length l.list ≡ length l.initial.list)
     × (l.i ≤ items_in l.names)
 
 abbrev pub decreases-loop-i : goal.decreases-loop-i

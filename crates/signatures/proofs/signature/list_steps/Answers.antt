@@ -59,7 +59,8 @@ insert-len-requires c =
     let id = id-small (step_at args.graph.now args.edges.now args.names.now class-of.result edge_at'.result) loop.index loop.numbers
     step-id.new.index step-id.new.numbers c.in-Id.id (rw c.in-Id.is at step-id.ensures.interns) in
     record {
-      v_bound = (omega (arith, id), omega (arith, loop.invariant.part.short, loop-test.true, IsEdge-count.ensures.1, loop.invariant.size, pre.in_bounds));
+      v_bound = (omega (arith, id), omega (arith, loop.invariant.part.short, loop-test.true, IsEdge-count.ensures.1, loop.invariant.size,
+          pre.in_bounds));
       rising = subst Rising (sym loop.invariant.part.put) (set-rises loop.invariant.part.ids);
     }
 
@@ -101,8 +102,10 @@ returns-in-Full c =
       kept = step-id.ensures.interns.kept;
       noted = step-id.ensures.noted;
       size = loop.invariant.size;
-      answered = steps-full (items_in args.names.now) args.graph.now args.edges.now args.names.now args.x loop.invariant.part IsEdge-count.result
-          (IsEdge-count.ensures.0 ∙ ap (edge_count args.graph.now) location-of.ensures.0) loop-test.true (loop.invariant.here loop-test.true)
+      answered = steps-full (items_in args.names.now) args.graph.now args.edges.now args.names.now args.x loop.invariant.part
+          IsEdge-count.result
+          (IsEdge-count.ensures.0 ∙ ap (edge_count args.graph.now) location-of.ensures.0) loop-test.true
+              (loop.invariant.here loop-test.true)
           (entries_of step-id.new.index step-id.new.numbers) (subst (λ (l : List ℕ). Told l (entries_of loop.index loop.numbers)
           (entries_of step-id.new.index step-id.new.numbers) Full) (ap₂ (step_at args.graph.now args.edges.now args.names.now)
           class-of.ensures.0 (edge_at'.ensures.0 ∙ ap (λ (l : ℕ). edge_at args.graph.now l loop.rank) location-of.ensures.0))
@@ -141,14 +144,17 @@ loop-rank-preserved c =
       kept = step-id.ensures.interns.kept;
       noted = step-id.ensures.noted;
       size = insert.ensures.size ∙ loop.invariant.size;
-      part = steps-turn (items_in args.names.now) args.graph.now args.edges.now args.names.now args.x loop.invariant.part IsEdge-count.result
-          (IsEdge-count.ensures.0 ∙ ap (edge_count args.graph.now) location-of.ensures.0) loop-test.true (loop.invariant.here loop-test.true)
+      part = steps-turn (items_in args.names.now) args.graph.now args.edges.now args.names.now args.x loop.invariant.part
+          IsEdge-count.result
+          (IsEdge-count.ensures.0 ∙ ap (edge_count args.graph.now) location-of.ensures.0) loop-test.true
+              (loop.invariant.here loop-test.true)
           (entries_of step-id.new.index step-id.new.numbers) insert.new.list insert.result c.in-Id.id
           c.next_available-rank-in-loop-rank.result (subst (λ (l : List ℕ). Told l (entries_of loop.index loop.numbers)
           (entries_of step-id.new.index step-id.new.numbers) (Id c.in-Id.id))
           (ap₂ (step_at args.graph.now args.edges.now args.names.now) class-of.ensures.0
           (edge_at'.ensures.0 ∙ ap (λ (l : ℕ). edge_at args.graph.now l loop.rank) location-of.ensures.0))
-          (rw c.in-Id.is at step-id.ensures.interns).told) insert.ensures.put insert.ensures.short c.next_available-rank-in-loop-rank.ensures;
+          (rw c.in-Id.is at step-id.ensures.interns).told) insert.ensures.put insert.ensures.short
+              c.next_available-rank-in-loop-rank.ensures;
       within = c.next_available-rank-in-loop-rank.ensures.within;
       here = c.next_available-rank-in-loop-rank.ensures.here;
     }
@@ -182,6 +188,7 @@ returns c =
       kept = loop.invariant.kept;
       noted = loop.invariant.noted;
       size = loop.invariant.size;
-      answered = steps-end (items_in args.names.now) args.graph.now args.edges.now args.names.now args.x loop.invariant.part IsEdge-count.result
+      answered = steps-end (items_in args.names.now) args.graph.now args.edges.now args.names.now args.x loop.invariant.part
+          IsEdge-count.result
           (IsEdge-count.ensures.0 ∙ ap (edge_count args.graph.now) location-of.ensures.0) c.loop-rank-test.false loop.invariant.within;
     }

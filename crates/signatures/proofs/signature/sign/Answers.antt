@@ -17,7 +17,7 @@ returns-then-not-is_roomy c =
     record {
       tells = record {
         holds = λ e. absurd (false≢true e);
-        fails = λ e roomy. c.is_roomy.ensures.fails (not-true _ c.if-not-is_roomy.true-raw) roomy;
+        fails = λ e roomy. c.is_roomy.ensures.fails c.if-not-is_roomy.true roomy;
       };
       passed = (λ e. absurd (false≢true e), λ e. (refl, refl, refl, refl));
     }
@@ -26,13 +26,13 @@ pub clear-requires : goal.clear-requires
 clear-requires c =
     let is-roomy = c.is_roomy in
     let if1 = c.if-not-is_roomy in
-    let roomy = is-roomy.ensures.holds (not-false _ if1.false-raw) in (roomy.indexed, roomy.numbered)
+    let roomy = is-roomy.ensures.holds if1.false in (roomy.indexed, roomy.numbered)
 
 pub clear_memo-requires : goal.clear_memo-requires
 clear_memo-requires c =
     let is-roomy = c.is_roomy in
     let if1 = c.if-not-is_roomy in
-    (is-roomy.ensures.holds (not-false _ if1.false-raw)).memoed
+    (is-roomy.ensures.holds if1.false).memoed
 
 pub sign_all-requires : goal.sign_all-requires
 unfolding items_in
@@ -42,7 +42,7 @@ sign_all-requires c =
     let clear = c.clear in
     let args = c.args in
     let clear-memo = c.clear_memo in
-    let roomy = is-roomy.ensures.holds (not-false _ if1.false-raw) in
+    let roomy = is-roomy.ensures.holds if1.false in
     record {
       empty = clear.ensures;
       noted = noted-none (raw_step args.edges.now) (entries_of clear.new.index args.numbers.now) clear-memo.new.memo clear-memo.ensures.0
@@ -55,7 +55,7 @@ returns c =
     let is-roomy = c.is_roomy in
     let if1 = c.if-not-is_roomy in
     let sign-all = c.sign_all in
-    let roomy = is-roomy.ensures.holds (not-false _ if1.false-raw) in
+    let roomy = is-roomy.ensures.holds if1.false in
     record {
       tells = record { holds = λ e. roomy; fails = λ e k. false≢true (sym e) };
       passed = (λ e. sign-all.ensures.passed, λ e. absurd (false≢true (sym e)));

@@ -37,6 +37,7 @@ returns c =
     record {
       interns = subst (λ (l : List ℕ). Interns l args.index.now args.numbers.now noted-id.new.index noted-id.new.numbers noted-id.result)
           (landed-step list-landed.ensures.landed args.edges.now
-          (omega (arith, list-landed.ensures.landed.few, list-landed.ensures.raw_len_unchanged, length-replicate {A = ℕ} 9 0))) noted-id.ensures.interns;
+          (omega (arith, list-landed.ensures.landed.few, list-landed.ensures.raw_len_unchanged, length-replicate {A = ℕ} 9 0)))
+              noted-id.ensures.interns;
       noted = noted-id.ensures.noted;
     }

@@ -29,7 +29,8 @@ loop-i-preserved c =
     let insert = c.insert-len in
     let name-at = c.name_at in
     let loop-test = c.loop-i-test in (
-      gather-on args.raw.now (length args.raw.now - 1) loop.list loop.len loop.i loop.invariant.0 insert.new.list insert.result name-at.result
+      gather-on args.raw.now (length args.raw.now - 1) loop.list loop.len loop.i loop.invariant.0 insert.new.list insert.result
+          name-at.result
           loop-test.true name-at.ensures.0 insert.ensures.put,
       omega (arith, insert.ensures.short, loop.invariant.1),
       insert.ensures.size ∙ loop.invariant.2,

@@ -29,7 +29,8 @@ loop-i-preserved c =
     let branch-count = c.branch_count-count in
     let pre = c.requires in
     let on = landed-on args.graph.now args.names.now args.edge args.class loop.raw loop.i c.landed_at.result
-    (omega (arith, loop.invariant.2, length-set args.raw.now 0 args.edge, loop-test.true, branch-count.ensures.1, pre.1)) loop.invariant.0 loop.invariant.1
+    (omega (arith, loop.invariant.2, length-set args.raw.now 0 args.edge, loop-test.true, branch-count.ensures.1, pre.1)) loop.invariant.0
+        loop.invariant.1
     c.landed_at.ensures.0 in
     (on.0, on.1, length-set loop.raw (1 + loop.i) c.landed_at.result ∙ loop.invariant.2, omega (arith, loop-test.true))
 

@@ -9,7 +9,8 @@ use Rattle.signatures.proofs.steps.list_landed.Given as goal
 
 abbrev pub invariant-loop-i : goal.invariant-loop-i
 invariant-loop-i l =
-    (raw_edge l.raw ≡ l.edge) × ((j : ℕ) → j < l.i → get_or l.raw (1 + j) 0 ≡ name_of l.names (landing_of l.graph l.class (branch_slot l.graph l.edge j)))
+    (raw_edge l.raw ≡ l.edge) × ((j : ℕ) → j < l.i → get_or l.raw (1 + j) 0 ≡ name_of l.names
+        (landing_of l.graph l.class (branch_slot l.graph l.edge j)))
     × (length l.raw ≡ length l.initial.raw) × (l.i ≤ l.count)
 
 abbrev pub decreases-loop-i : goal.decreases-loop-i

@@ -60,7 +60,8 @@ returns c =
     let pre = c.requires in
     let whole : loop.j ≡ length args.names.now = omega (arith, loop.invariant.3, c.loop-j-test.false) in (
       loop.invariant.0 ∙ ap (λ (l : List ℕ). take 1 args.list.now ++ shares_over (λ m. mass_of m (raw_branches args.edges.now args.raw.now 0
-          (length args.raw.now - 1))) (denominator_of args.edges.now (raw_edge args.raw.now)) l) (ap (λ (k : ℕ). take k args.names.now) whole
+          (length args.raw.now - 1))) (denominator_of args.edges.now (raw_edge args.raw.now)) l)
+              (ap (λ (k : ℕ). take k args.names.now) whole
           ∙ take-length args.names.now),
       omega (arith, loop.invariant.1, loop.invariant.3, pre.2),
       loop.invariant.2,

@@ -50,4 +50,5 @@ returns c =
     λ m reads few. let counts = counts-read args.bytes.now args.shape m reads in twenty-one _ args.n
     number_of.result _ (sym (is-not-taken.ensures.value m counts.locations counts.clocks) ∙ if1.false)
     ((number_of.ensures few) ∙ ap (number_in (listed args.entries.now args.n)) (region-at.ensures ∙ ap (λ (b :
-    Bounds). placed b (asked args.location args.v0 args.v1 args.v2 args.v3 args.d)) (bounds-read.ensures ∙ ap bounds_read reads.answer))) c.if-number-n.false
+    Bounds). placed b (asked args.location args.v0 args.v1 args.v2 args.v3 args.d)) (bounds-read.ensures ∙ ap bounds_read reads.answer)))
+        c.if-number-n.false

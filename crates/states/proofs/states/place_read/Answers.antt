@@ -15,7 +15,8 @@ returns-in-Refused c =
     let explore-table = c.explore_table-graph in
     let args = c.args in
     λ m reads. let done = explored args.bytes.now args.entries.now explore-table.new.entries
-    explore-table.result m (room_for (length args.entries.now)) reads.answer explore-table.ensures.value explore-table.ensures.entries_after in (
+    explore-table.result m (room_for (length args.entries.now)) reads.answer explore-table.ensures.value
+        explore-table.ensures.entries_after in (
       place-refused m (asked args.location args.v0 args.v1
           args.v2 args.v3 args.d) (from_answer (room_for (length args.entries.now)) (accepted m)) _ _ (sym
           c.in-Refused.is ∙ done.0),
@@ -27,7 +28,8 @@ returns-in-Regions c =
     let explore-table = c.explore_table-graph in
     let args = c.args in
     λ m reads. let done = explored args.bytes.now args.entries.now explore-table.new.entries
-    explore-table.result m (room_for (length args.entries.now)) reads.answer explore-table.ensures.value explore-table.ensures.entries_after in let cap = room_for (length args.entries.now) in let room : cap
+    explore-table.result m (room_for (length args.entries.now)) reads.answer explore-table.ensures.value
+        explore-table.ensures.entries_after in let cap = room_for (length args.entries.now) in let room : cap
     ≤ max_entries = omega arith in let answer = sym c.in-Regions.is ∙ done.0 in let few = place-few args.bytes.now
     args.entries.now explore-table.new.entries m cap reads.answer room _ answer done.1 in (
       place-regions

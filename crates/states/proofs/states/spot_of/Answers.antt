@@ -7,7 +7,8 @@ use borrow.Author.Rules.{rules}
 use Rattle.states.proofs.states.spot_of.Goals as goal
 
 pub overflow_mul-most : goal.overflow_mul-most
-overflow_mul-most c = let byte : c.byte_of.result < 256 = search rules in omega (arith, product_small c.byte_of.result c.args.d byte c.requires.1)
+overflow_mul-most c = let byte : c.byte_of.result < 256 = search rules in
+    omega (arith, product_small c.byte_of.result c.args.d byte c.requires.1)
 
 pub returns-then-most-v : goal.returns-then-most-v
 returns-then-most-v c =
@@ -18,10 +19,15 @@ returns-then-most-v c =
     byte_of.ensures c.if-most-v.true) refl refl
 
 pub overflow_cast-result : goal.overflow_cast-result
-overflow_cast-result c = let byte : c.byte_of.result < 256 = search rules in omega (arith, whole-small c.args.bounds c.args.d c.args.i c.args.v c.requires.0 (subst (λ (x : ℕ). x < 256) c.byte_of.ensures byte) (subst (λ (x : ℕ). c.args.v ≤ x * c.args.d) c.byte_of.ensures c.if-most-v.false))
+overflow_cast-result c = let byte : c.byte_of.result < 256 = search rules in
+    omega (arith, whole-small c.args.bounds c.args.d c.args.i c.args.v c.requires.0 (subst (λ (x : ℕ). x < 256) c.byte_of.ensures byte)
+    (subst (λ (x : ℕ). c.args.v ≤ x * c.args.d) c.byte_of.ensures c.if-most-v.false))
 
 pub returns-then-i-count : goal.returns-then-i-count
-returns-then-i-count c = let byte : c.byte_of.result < 256 = search rules in let low = subst (λ (x : ℕ). c.args.v ≤ x * c.args.d) c.byte_of.ensures c.if-most-v.false in spot-at c.args.bounds c.args.d c.args.i c.args.v _ c.if-i-count.true low (whole-small c.args.bounds c.args.d c.args.i c.args.v c.requires.0 (subst (λ (x : ℕ). x < 256) c.byte_of.ensures byte) low) refl refl
+returns-then-i-count c = let byte : c.byte_of.result < 256 = search rules in let low =
+    subst (λ (x : ℕ). c.args.v ≤ x * c.args.d) c.byte_of.ensures c.if-most-v.false in
+    spot-at c.args.bounds c.args.d c.args.i c.args.v _ c.if-i-count.true low
+    (whole-small c.args.bounds c.args.d c.args.i c.args.v c.requires.0 (subst (λ (x : ℕ). x < 256) c.byte_of.ensures byte) low) refl refl
 
 pub returns : goal.returns
 returns c =

@@ -27,7 +27,7 @@ returns-then-not-is_edge c =
     let loop = c.loop-i in
     let whole = list_over args.table.now args.shape.edges args.shape.first_edge room_for.result loop.at loop.i
     no_edges.result loop.edges no_edges.ensures room_for.ensures
-    (inr (eqb-false _ 4 (sym c.is_edge.ensures ∙ not-true _ c.if-not-is_edge.true-raw))) loop.invariant in 
+    (inr (eqb-false _ 4 (sym c.is_edge.ensures ∙ c.if-not-is_edge.true))) loop.invariant in 
     record {
       value = whole;
       lists = λ m reads. edge-listed args.table.now m
@@ -38,7 +38,7 @@ pub listed_at-requires : goal.listed_at-requires
 listed_at-requires c =
     let args = c.args in
     let loop = c.loop-i in
-    inside args.table.now loop.at 4 (eqb-true _ 4 (sym c.is_edge.ensures ∙ not-false _ c.if-not-is_edge.false-raw))
+    inside args.table.now loop.at 4 (eqb-true _ 4 (sym c.is_edge.ensures ∙ c.if-not-is_edge.false))
     (omega arith)
 
 pub offset_bounds-edges-i : goal.offset_bounds-edges-i
@@ -76,7 +76,7 @@ loop-i-preserved c =
     rw c.next_edge-at.ensures
     (comes-on args.table.now room_for.result args.shape.first_edge (read_edge args.table.now) no_edges.result
     loop.at loop.i loop.edges (set loop.edges loop.i listed_at.result) loop-test.true
-    (eqb-true _ 4 (sym is-edge.ensures ∙ not-false _ c.if-not-is_edge.false-raw))
+    (eqb-true _ 4 (sym is-edge.ensures ∙ c.if-not-is_edge.false))
     (ap (set loop.edges loop.i) listed_at.ensures) loop.invariant)
 
 pub returns : goal.returns

@@ -26,7 +26,7 @@ returns-then-not-is_edge c =
     let shared-slice-known = c.type_inv.table in
     let loop = c.loop-i in
     let whole = places-over args.table.now args.shape.edges args.shape.first_edge args.places.now loop.at loop.i
-    loop.places (inr (eqb-false _ 4 (sym c.is_edge.ensures ∙ not-true _ c.if-not-is_edge.true-raw))) loop.invariant.0 in 
+    loop.places (inr (eqb-false _ 4 (sym c.is_edge.ensures ∙ c.if-not-is_edge.true))) loop.invariant.0 in 
     record {
       places_after = whole;
       places_after_2 = λ m reads. whole
@@ -55,7 +55,7 @@ loop-i-preserved c =
     let put = c.put in
     rw c.next_edge-at.ensures (
       comes-on args.table.now args.shape.edges args.shape.first_edge (λ p. p) args.places.now loop.at loop.i
-          loop.places put.new.list loop-test.true (eqb-true _ 4 (sym is-edge.ensures ∙ not-false _ if1.false-raw))
+          loop.places put.new.list loop-test.true (eqb-true _ 4 (sym is-edge.ensures ∙ if1.false))
           put.ensures loop.invariant.0,
       put.auto.list ∙ loop.invariant.1,
     )

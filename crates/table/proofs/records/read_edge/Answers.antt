@@ -19,7 +19,8 @@ pub returns-then-denominator-gt-MAX_DENOMINATOR : goal.returns-then-denominator-
 returns-then-denominator-gt-MAX_DENOMINATOR c =
     let if1 = c.if-p-lt-IN_INVARIANTS in
     let if2 = c.if-p-source in
-    simp (le-ltb _ _ if1.false, lt-leb _ _ if2.false, ne_eqb _ _ c.if-denominator-eq0.false, lt-ltb _ _ c.if-denominator-gt-MAX_DENOMINATOR.true)
+    simp (le-ltb _ _ if1.false, lt-leb _ _ if2.false, ne_eqb _ _ c.if-denominator-eq0.false, lt-ltb _ _
+        c.if-denominator-gt-MAX_DENOMINATOR.true)
 
 pub returns-then-p-ge-MAX_EDGES : goal.returns-then-p-ge-MAX_EDGES
 returns-then-p-ge-MAX_EDGES c =

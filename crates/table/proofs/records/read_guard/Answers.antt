@@ -21,7 +21,7 @@ returns-then-not-is_comparison c =
       eq-eqb _ _ if1.false,
       lt-leb _ _ if2.false,
       lt-ltb _ _
-          (leb-false args.g.comparison 4 (sym is-comparison.ensures ∙ not-true is-comparison.result c.if-not-is_comparison.true-raw)),
+          (leb-false args.g.comparison 4 (sym is-comparison.ensures ∙ c.if-not-is_comparison.true)),
     )
 
 pub returns-then-g-gt-MAX_CONSTANT : goal.returns-then-g-gt-MAX_CONSTANT
@@ -35,7 +35,7 @@ returns-then-g-gt-MAX_CONSTANT c =
       eq-eqb _ _ if1.false,
       lt-leb _ _ if2.false,
       le-ltb _ _
-          (leb-true args.g.comparison 4 (sym is-comparison.ensures ∙ not-false is-comparison.result if3.false-raw)),
+          (leb-true args.g.comparison 4 (sym is-comparison.ensures ∙ if3.false)),
       lt-ltb _ _
           c.if-g-gt-MAX_CONSTANT.true,
     )
@@ -52,7 +52,7 @@ returns-then-p-ge-MAX_GUARDS c =
       eq-eqb _ _ if1.false,
       lt-leb _ _ if2.false,
       le-ltb _ _
-          (leb-true args.g.comparison 4 (sym is-comparison.ensures ∙ not-false is-comparison.result if3.false-raw)),
+          (leb-true args.g.comparison 4 (sym is-comparison.ensures ∙ if3.false)),
       le-ltb _ _ if4.false,
       le-leb _ _ c.if-p-ge-MAX_GUARDS.true,
     )
@@ -69,7 +69,7 @@ returns c =
       eq-eqb _ _ if1.false,
       lt-leb _ _ if2.false,
       le-ltb _ _
-          (leb-true args.g.comparison 4 (sym is-comparison.ensures ∙ not-false is-comparison.result if3.false-raw)),
+          (leb-true args.g.comparison 4 (sym is-comparison.ensures ∙ if3.false)),
       le-ltb _ _ if4.false,
       lt-leb _ _ c.if-p-ge-MAX_GUARDS.false,
     )

@@ -29,7 +29,7 @@ returns-then-not-is_bound c =
       lt-leb _ _ if2.false,
       lt-leb _ _ if3.false,
       lt-ltb _ _
-          (leb-false args.a.comparison 1 (sym is_bound.ensures ∙ not-true is_bound.result c.if-not-is_bound.true-raw)),
+          (leb-false args.a.comparison 1 (sym is_bound.ensures ∙ c.if-not-is_bound.true)),
     )
 
 pub returns-then-a-gt-MAX_CONSTANT : goal.returns-then-a-gt-MAX_CONSTANT
@@ -45,7 +45,7 @@ returns-then-a-gt-MAX_CONSTANT c =
       lt-leb _ _ if2.false,
       lt-leb _ _ if3.false,
       le-ltb _ _
-          (leb-true args.a.comparison 1 (sym is_bound.ensures ∙ not-false is_bound.result if4.false-raw)),
+          (leb-true args.a.comparison 1 (sym is_bound.ensures ∙ if4.false)),
       lt-ltb _ _ c.if-a-gt-MAX_CONSTANT.true,
     )
 
@@ -63,7 +63,7 @@ returns-then-p-ge-MAX_INVARIANTS c =
       lt-leb _ _ if2.false,
       lt-leb _ _ if3.false,
       le-ltb _ _
-          (leb-true args.a.comparison 1 (sym is_bound.ensures ∙ not-false is_bound.result if4.false-raw)),
+          (leb-true args.a.comparison 1 (sym is_bound.ensures ∙ if4.false)),
       le-ltb _ _ if5.false,
       le-leb _
           _ c.if-p-ge-MAX_INVARIANTS.true,
@@ -84,7 +84,7 @@ returns c =
       lt-leb _ _ if2.false,
       lt-leb _ _ if3.false,
       le-ltb _ _
-          (leb-true args.a.comparison 1 (sym is_bound.ensures ∙ not-false is_bound.result if4.false-raw)),
+          (leb-true args.a.comparison 1 (sym is_bound.ensures ∙ if4.false)),
       le-ltb _ _ if5.false,
       lt-leb _
           _ c.if-p-ge-MAX_INVARIANTS.false,

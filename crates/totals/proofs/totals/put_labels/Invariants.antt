@@ -11,7 +11,8 @@ use Rattle.totals.proofs.totals.put_labels.Given as goal
 
 abbrev pub invariant-loop-label : goal.invariant-loop-label
 invariant-loop-label l =
-    ((ls ks : List ℕ) → LabelCounts ls l.regions → LabelCounts ks l.blocks → Adds l.initial.text l.at l.text l.now (each label_line (totals_below ls ks l.label)))
+    ((ls ks : List ℕ) → LabelCounts ls l.regions → LabelCounts ks l.blocks
+    → Adds l.initial.text l.at l.text l.now (each label_line (totals_below ls ks l.label)))
     × (length l.text ≡ length l.initial.text) × (l.label ≤ 256)
 
 abbrev pub decreases-loop-label : goal.decreases-loop-label

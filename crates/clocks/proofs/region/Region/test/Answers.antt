@@ -58,5 +58,7 @@ returns-in-4 c =
 pub returns-in_default : goal.returns-in_default
 returns-in_default c =
     let args = c.args in
-    sym (atom-other args.comparison args.constant (cell_of (clock_at args.bounds args.self args.clock)) c.in_default.in_default-own.rest.0.0.0.0.1
-    c.in_default.in_default-own.rest.0.0.0.1 c.in_default.in_default-own.rest.0.0.1 c.in_default.in_default-own.rest.0.1 c.in_default.in_default-own.rest.1)
+    sym (atom-other args.comparison args.constant (cell_of (clock_at args.bounds args.self args.clock))
+        c.in_default.in_default-own.rest.0.0.0.0.1
+    c.in_default.in_default-own.rest.0.0.0.1 c.in_default.in_default-own.rest.0.0.1 c.in_default.in_default-own.rest.0.1
+        c.in_default.in_default-own.rest.1)
