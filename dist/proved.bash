@@ -4,10 +4,10 @@
 dist=dist/x86_64-linux
 
 # Prints the digest of the sources: crates.txt, and what rt reads of src/, specs/ and proofs/ of each crate. Refuses symbolic links: what
-# they lead to would not be seen.
+# they lead to would not be seen. What rt makes is in the out/ of each crate, and is not looked at.
 sources_digest() {
   local link
-  link=$(find crates.txt crates -type l -print -quit 2>/dev/null) || return 1
+  link=$(find crates.txt crates -type d -regex 'crates/[^/]*/out' -prune -o -type l -print -quit 2>/dev/null) || return 1
   if [[ -n $link ]]; then
     printf '%s: a symbolic link among the sources\n' "$link" >&2
     return 1
@@ -47,18 +47,25 @@ write_manifest() {
   } >"$made" && chmod 644 "$made" && mv -f -- "$made" "$manifest"
 }
 
-# Proves crates with rt, and tells on standard error how far that has come. Crates that were proved before and have not changed since are
-# taken as they are, unless target/ was removed first. What rt prints is shown where the proofs fail. The caller sets pipefail.
-#   prove_crates CRATE ...
+# Proves crates with rt, each with those beneath it, and tells on standard error how far that has come. `check` takes crates that were
+# proved before and have not changed since as they are; `verdict` proves each from nothing, and takes nothing that earlier runs left. What
+# rt prints is shown where the proofs fail. The caller sets pipefail.
+#   prove_crates check|verdict CRATE ...
 prove_crates() {
-  local log=build/proving.log last=build/proving.seconds began=$SECONDS expected line status=0
+  local log=build/proving.log last=build/proving.seconds began=$SECONDS verb=$1 crate expected line name='' status=0
+  shift
   expected=$(cat "$last" 2>/dev/null) || expected=600
   printf 'proving from the sources; about %d s if nothing was proved before\n' "$expected" >&2
   : >"$log"
-  rt check "$@" </dev/null 2>&1 | while IFS= read -r line || [[ -n $line ]]; do
+  for crate; do (cd "crates/$crate" && rt "$verb") || exit; done </dev/null 2>&1 | while IFS= read -r line || [[ -n $line ]]; do
     printf '%s\n' "$line" >>"$log"
-    [[ $line == "rt: "*" proved ("*" s)" ]] || continue
-    printf '  %s; %d s so far, of about %d\n' "${line#rt: }" $((SECONDS - began)) "$expected" >&2
+    case $line in
+      # These two name the crate, and the last line that is said of it follows.
+      "rt: chose --jobs "*" for "*) name=${line##* } ;;
+      "fn "*"::"*": proved") name=${line#fn } name=${name%%::*} ;;
+      "logic=proved tests="*) ;;
+      "logic=proved "*) printf '  %s proved; %d s so far, of about %d\n' "$name" $((SECONDS - began)) "$expected" >&2 ;;
+    esac
   done || status=$?
   if ((status != 0)); then
     tail -n 40 "$log" >&2
@@ -66,4 +73,14 @@ prove_crates() {
   fi
   # What took long proved most crates: the next estimate goes by it.
   if ((SECONDS - began > 60)); then printf '%d\n' $((SECONDS - began)) >"$last"; fi
+}
+
+# Has rt build a crate that was proved, into its out/: `lib` the archive out/lib*.a, `run` a program out/*, which it also runs, here on no
+# input. rt takes what was proved before as it is, and proves the rest. What it prints is shown where it fails.
+#   build_crate lib|run CRATE
+build_crate() {
+  (cd "crates/$2" && rt "$1") </dev/null >build/proving.log 2>&1 || {
+    tail -n 40 build/proving.log >&2
+    return 1
+  }
 }

@@ -1,4 +1,4 @@
-"""Makes a copy of the project in which nothing is proved: its rt is a stub, which writes down how it was called.
+"""Makes a copy of the project in which nothing is proved: its rt is a stub, which writes down where and how it was called.
 
 The programs that dist/ has there, and that the stub builds, only say where they are from, and the archives have one symbol that does.
 """
@@ -14,28 +14,55 @@ PARTS = ["crates", "crates.txt", "dist", "include", "models", "library", "reduce
 DIST = "dist/x86_64-linux"
 SOURCE = "crates/table/src/lib.rt"  # is changed where any source would do
 PROVER = "stub 1"
+GATE = """\
+rt: table proved
+rt: ok; handles allowed: none; must-fail edits: 3 refused; every proof and must-fail edit was done in this run
+4 passed, 0 failed
+"""
+SAID = """\
+rt: chose --jobs 2 for table
+fn table::read::read_all: proved
+logic=proved functions=1
+rt: chose to run the two checks side by side
+logic=proved tests=1 functions=2
+fn clocks::region::Region::delay: proved
+crate clocks: modules loaded=1 checked=0
+logic=proved functions=1
+rt: chose --jobs 2 for rounding
+logic=proved functions=0
+"""
 STUB = """\
 #!/bin/sh
 here=${0%/*}
-echo "$*" >>"$here/calls"
-if [ "$1" = version ]; then
-  cat "$here/version"
-  exit
-fi
-echo "rt: table proved (27 s)"
-echo "rt: clocks proved (unchanged since it was last proved)"
+echo "${PWD##*/}: $*" >>"$here/calls"
+case $1 in
+  version)
+    cat "$here/version"
+    exit
+    ;;
+  ci)
+    cat "$here/gate"
+    exit "$(cat "$here/ends")"
+    ;;
+esac
+cat <<'END'
+SAID
+END
 if [ "$(cat "$here/fails")" = "$1" ]; then
   printf 'rt: the stub fails' >&2
-  [ "$1" = check ] || echo >&2 # a proof that fails leaves its last line without an end
+  case $1 in check | verdict) ;; *) echo >&2 ;; esac # a proof that fails leaves its last line without an end
   exit 1
 fi
-if [ -e "$here/meanwhile" ]; then echo "// meanwhile" >>SOURCE; fi
-mkdir -p target/bin target/staticlib
+if [ -e "$here/meanwhile" ]; then echo "// meanwhile" >>"$here/../project/SOURCE"; fi
 case $1 in
-  check) if [ -e "$here/reduce" ]; then cp "$here/reduce" target/bin/reduce; fi ;;
-  staticlib) cp "$here/libterkwabu.a" target/staticlib/libterkwabu.a ;;
+  run) made=reduce ;;
+  lib) made=libterkwabu.a ;;
+  *) exit ;;
 esac
-""".replace("SOURCE", SOURCE)
+mkdir -p out
+if [ -e "$here/$made" ]; then cp "$here/$made" "out/$made"; fi
+if [ "$1" = run ]; then echo "refused 2 place 0"; fi
+""".replace("SOURCE", SOURCE).replace("SAID\n", SAID)
 
 
 def program(place):
@@ -49,6 +76,11 @@ def archive(place):
     for words in ["gcc", "-c", "-o", "place.o", "place.c"], ["ar", "rcs", f"{place}.a", "place.o"]:
         hold(str(words), call(words), Did(0, b"", ""))
     return read(f"{place}.a")
+
+
+def leave_out(folder, names):
+    """Leaves out what rt made in a crate."""
+    return [name for name in names if name == "out" and os.path.dirname(folder) == os.path.join(ROOT, "crates")]
 
 
 def digest(data):
@@ -66,14 +98,20 @@ class Project:
         self.archives = {place: archive(place) for place in ("dist", "build")}
         os.mkdir(self.root)
         for name in PARTS:
-            copy = shutil.copytree if os.path.isdir(os.path.join(ROOT, name)) else shutil.copy2
-            copy(os.path.join(ROOT, name), self.at(name))
+            if os.path.isdir(os.path.join(ROOT, name)):
+                shutil.copytree(os.path.join(ROOT, name), self.at(name), ignore=leave_out)
+            else:
+                shutil.copy2(os.path.join(ROOT, name), self.at(name))
 
     # Files.
 
     def at(self, name):
         """Finds a file of the copy."""
         return os.path.join(self.root, name)
+
+    def made(self):
+        """Finds the folders in which rt keeps what it makes."""
+        return [self.at(f"crates/{name}/out") for name in os.listdir(self.at("crates"))]
 
     def put(self, name, data, mode=0o644):
         """Writes a file of the copy."""
@@ -82,7 +120,7 @@ class Project:
 
     def begin_anew(self):
         """Takes away what was built, and makes dist/ of the sources as they are."""
-        for folder in self.at("build"), self.at("target"), self.stub:
+        for folder in self.at("build"), *self.made(), self.stub:
             shutil.rmtree(folder, ignore_errors=True)
         os.mkdir(self.stub)
         self.tell_stub("rt", STUB)
@@ -90,6 +128,8 @@ class Project:
         self.tell_stub("version", PROVER + "\n")
         self.tell_stub("calls")
         self.tell_stub("fails")
+        self.tell_stub("gate", GATE)
+        self.tell_stub("ends", "0")
         self.tell_stub("reduce", program("build"))
         self.tell_stub("libterkwabu.a", self.archives["build"])
         self.put(f"{DIST}/reduce", program("dist"), 0o755)
@@ -97,7 +137,7 @@ class Project:
         self.put("dist/MANIFEST", self.manifest("dist"))
 
     def tell_stub(self, name, data=b""):
-        """Writes a file that the stub looks at: what it is and builds, the word with which it fails, and whether a source changes."""
+        """Writes a file that the stub looks at: what it builds, the word with which it fails, what `rt ci` does, whether a source changes."""
         write(os.path.join(self.stub, name), data.encode() if isinstance(data, str) else data, 0o755)
 
     # Digests.
@@ -126,7 +166,7 @@ class Project:
         return did._replace(message=re.sub(r"; \d+ s so far", "; N s so far", did.message))
 
     def called(self):
-        """Tells how rt was called since this was last asked."""
+        """Tells in which folders and how rt was called since this was last asked."""
         calls = read(os.path.join(self.stub, "calls")).decode().splitlines()
         self.tell_stub("calls")
         return calls

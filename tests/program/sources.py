@@ -9,23 +9,27 @@ import re
 import shutil
 
 from calls import CALLS, Did, header_version, hold, hold_own, link_tools, read
-from project import DIST, PROVER, SOURCE, Project, program
+from project import DIST, GATE, PROVER, SAID, SOURCE, Project, digest, program
 
-CHECK_REDUCE = ["check reduce", "version"]
-CHECK_LIBRARY = ["check terkwabu", "staticlib terkwabu", "version"]
-RELEASE = ["check terkwabu reduce", "staticlib terkwabu", "version"]
+CHECK_REDUCE = ["reduce: check", "reduce: run", "project: version"]
+CHECK_LIBRARY = ["terkwabu: check", "terkwabu: lib", "project: version"]
+RELEASE = ["terkwabu: check", "reduce: check", "terkwabu: lib", "reduce: run", "project: version"]
 SCRIPTS = [("reduce", 2), ("library", 1), ("release", 1)]  # with the status of each where it fails
 FILES = [f"{DIST}/reduce", f"{DIST}/libterkwabu.a", "dist/MANIFEST"]
 COMMENT = b"// A comment.\n"
 PROGRESS = """\
 proving from the sources; about 600 s if nothing was proved before
-  table proved (27 s); N s so far, of about 600
+  table proved; N s so far, of about 600
+  clocks proved; N s so far, of about 600
+  rounding proved; N s so far, of about 600
 """
-FAILURE = """\
-rt: table proved (27 s)
-rt: clocks proved (unchanged since it was last proved)
-rt: the stub fails
-"""
+BOTH = PROGRESS + PROGRESS[PROGRESS.index("  table") :]  # of two crates
+FAILURE = SAID + "rt: the stub fails\n"
+
+
+def from_nothing(calls):
+    """Gives the calls where all is proved from nothing."""
+    return [words.replace("check", "verdict") for words in calls]
 
 
 @contextlib.contextmanager
@@ -64,7 +68,7 @@ def hold_version(what, project, third):
 def hold_digest(project):
     """Changes sources in each way, and files that are none: the former are seen in the digest, the latter are not."""
     gate, unproved = f"proved by the gate with rt {PROVER}", "not proved yet; the next use proves"
-    for name in SOURCE, "crates.txt", "crates/table/specs/Lib.antt", "crates/reduce/proofs/print/Proof.antt":
+    for name in SOURCE, "crates.txt", "crates/table/specs/Lib.antt", "crates/reduce/proofs/print_listing/Invariants.antt":
         with changed(project, name):
             hold_version(f"{name} changed", project, unproved)
     for name in "crates/table/specs/Added.antt", "crates/table/src/added.rt":
@@ -75,9 +79,12 @@ def hold_digest(project):
     os.rename(project.at(SOURCE), project.at(SOURCE + ".rt"))
     hold_version("a source with another name", project, unproved)
     os.rename(project.at(SOURCE + ".rt"), project.at(SOURCE))
-    for name in "crates/table/README.md", "crates/table/src/notes", "crates/table/must-fail/added.edit", "models/added.antt":
+    others = ["crates/table/README.md", "crates/table/src/notes", "crates/table/must-fail/added.edit", "models/added.antt"]
+    for name in *others, "crates/table/out/added.rt", "crates/table/out/rlib/added.antt":
         project.put(name, b"added")
         hold_version(f"{name} added", project, gate)
+    os.symlink("/dev/null", project.at("crates/table/out/link"))
+    hold_version("a link in what rt made", project, gate)
     hold("rt, for --version", project.called(), [])
 
 
@@ -153,20 +160,19 @@ def hold_damaged(project):
 
 
 def hold_prove(project):
-    """Proves from nothing where that is asked for, though dist/ is of the sources. Other calls take dist/ again, and leave target/."""
-    stamp = "target/stamp"
+    """Proves from nothing where that is asked for, though dist/ is of the sources; other calls take dist/ again. What rt kept stays."""
+    stamps = ["crates/table/out/stamp", "crates/reduce/out/stamp", "crates/terkwabu/out/stamp"]
+    for name in stamps:
+        project.put(name, b"")
     for what in "--prove", "--prove, again":
         for hold_one, calls in (project.hold_reduce, CHECK_REDUCE), (project.hold_library, CHECK_LIBRARY):
-            project.put(stamp, b"")
-            hold_one(what, "build", calls, "--prove", message=PROGRESS)
-            hold("target/ before the proof", os.path.exists(project.at(stamp)), False)
-    project.put(stamp, b"")
+            hold_one(what, "build", from_nothing(calls), "--prove", message=PROGRESS)
     project.hold_reduce("without --prove", "dist", [])
     project.hold_library("without --prove", "dist", [])
     with changed(project):
         project.hold_reduce("changed sources", "build", CHECK_REDUCE, message=PROGRESS)
         project.hold_library("changed sources", "build", CHECK_LIBRARY, message=PROGRESS)
-    hold("target/ without --prove", os.path.exists(project.at(stamp)), True)
+    hold("what rt kept", [name for name in stamps if not os.path.exists(project.at(name))], [])
 
 
 # What fails.
@@ -176,12 +182,16 @@ def hold_failures(project):
     """Lets rt fail: nothing is printed, run or kept, and the next call tries again."""
     with changed(project):
         for what in "rt fails", "rt fails again":
-            project.tell_stub("fails", "check")
-            message = f"{PROGRESS}{FAILURE}reduce: the program is not proved, and nothing is run\n"
-            project.hold_failure(what, "reduce", 2, message, ["check reduce"])
-            message = f"{PROGRESS}{FAILURE}library: the library is not proved, and nothing is built\n"
-            project.hold_failure(what, "library", 1, message, ["check terkwabu"])
-            project.tell_stub("fails", "staticlib")
+            for verb, words in ("check", []), ("verdict", ["--prove"]):
+                project.tell_stub("fails", verb)
+                message = f"{PROGRESS}{FAILURE}reduce: the program is not proved, and nothing is run\n"
+                project.hold_failure(what, "reduce", 2, message, [f"reduce: {verb}"], *words)
+                message = f"{PROGRESS}{FAILURE}library: the library is not proved, and nothing is built\n"
+                project.hold_failure(what, "library", 1, message, [f"terkwabu: {verb}"], *words)
+            project.tell_stub("fails", "run")
+            message = f"{PROGRESS}{FAILURE}reduce: the program is not built, and nothing is run\n"
+            project.hold_failure(what, "reduce", 2, message, CHECK_REDUCE[:2])
+            project.tell_stub("fails", "lib")
             message = f"{PROGRESS}{FAILURE}library: the library is not built\n"
             project.hold_failure(what, "library", 1, message, CHECK_LIBRARY[:2])
         hold("what is kept", os.listdir(project.at("build")), ["proving.log"])
@@ -193,14 +203,14 @@ def hold_programs(project):
     project.tell_stub("reduce", "#!/bin/sh\necho regions 1\nkill -9 $$\n")
     hold_own("a program that is stopped", project.call("reduce", "--prove"), stopped)
     os.remove(os.path.join(project.stub, "reduce"))
-    shutil.rmtree(project.at("target"))
+    shutil.rmtree(project.at("crates/reduce/out"))
     hold_own("no program", project.call("reduce", "--prove"), Did(2, b"", "reduce: the program cannot be kept in build/\n"))
 
 
 def hold_meanwhile(project):
     """Changes a source while rt proves: what was built may be of either text, and is not kept."""
     for name, status, calls, message in (
-        ("reduce", 2, ["check reduce"], "a source changed meanwhile, and nothing is run"),
+        ("reduce", 2, CHECK_REDUCE[:2], "a source changed meanwhile, and nothing is run"),
         ("library", 1, CHECK_LIBRARY[:2], "a source changed meanwhile, and nothing is built"),
     ):
         project.begin_anew()
@@ -213,7 +223,6 @@ def hold_meanwhile(project):
 def hold_missing(project):
     """Takes rt, and then gcc, from the PATH. What was proved before stays."""
     tools = link_tools("tools")
-    project.put("target/stamp", b"")
     missing = "rt (the Rattle kit) is not on the PATH"
     with changed(project):
         message = f"reduce: {missing}, and without it only the program of unchanged sources can be run\n"
@@ -227,17 +236,18 @@ def hold_missing(project):
     project.hold_library("with gcc", "dist", [])
     done = Did(0, b"build/libterkwabu.a\nbuild/libterkwabu.so\n", "")
     hold("./library, no gcc and nothing to do for it", project.call("library", path=tools), done)
-    hold("target/ where rt is missing", os.path.exists(project.at("target/stamp")), True)
 
 
 def hold_unreadable(project):
     """Puts a link among the sources, which is refused, since nobody sees a change of what it leads to; then takes the sources away."""
-    link = "crates/table/must-fail/link"
-    os.symlink("/dev/null", project.at(link))
-    for name, status in SCRIPTS:
-        message = f"{link}: a symbolic link among the sources\n{name}: the sources cannot be read\n"
-        project.hold_failure("a link", name, status, message, [])
-    os.remove(project.at(link))
+    os.mkdir(project.at("crates/table/src/out"))
+    for link in "crates/table/must-fail/link", "crates/table/src/out/link", "crates/table/out":
+        os.symlink("/dev/null", project.at(link))
+        for name, status in SCRIPTS:
+            message = f"{link}: a symbolic link among the sources\n{name}: the sources cannot be read\n"
+            project.hold_failure("a link", name, status, message, [])
+        os.remove(project.at(link))
+    os.rmdir(project.at("crates/table/src/out"))
     os.rename(project.at("crates"), project.at("crates.away"))
     for name, status in SCRIPTS:
         project.hold_failure("no sources", name, status, f"{name}: the sources cannot be read\n", [])
@@ -262,12 +272,13 @@ def hold_no_release(project):
     before = [read(project.at(name)) for name in FILES]
     with changed(project):
         for told, word, calls, output, message in (
-            ("fails", "check", RELEASE[:1], FAILURE, "the sources are not proved, and dist/ stays as it is"),
-            ("fails", "staticlib", RELEASE[:2], FAILURE, "the library is not built"),
-            ("meanwhile", "", RELEASE[:2], "", "a source changed meanwhile; dist/ stays as it is"),
+            ("fails", "check", RELEASE[:1], PROGRESS + FAILURE, "the sources are not proved, and dist/ stays as it is"),
+            ("fails", "lib", RELEASE[:3], BOTH + FAILURE, "the library is not built"),
+            ("fails", "run", RELEASE[:4], BOTH + FAILURE, "the program is not built"),
+            ("meanwhile", "", RELEASE[:4], BOTH, "a source changed meanwhile; dist/ stays as it is"),
         ):
             project.tell_stub(told, word)
-            project.hold_failure(message, "release", 1, f"{PROGRESS}{output}release: {message}\n", calls)
+            project.hold_failure(message, "release", 1, f"{output}release: {message}\n", calls)
             project.tell_stub("fails")
             hold(f"dist/, {message}", [read(project.at(name)) for name in FILES], before)
 
@@ -275,11 +286,9 @@ def hold_no_release(project):
 def hold_release(project):
     """Writes dist/ anew, from nothing where that is asked for."""
     with changed(project):
-        for words, left in ([], True), (["--prove"], False):
-            project.put("target/stamp", b"")
+        for words, calls in ([], RELEASE), (["--prove"], from_nothing(RELEASE)):
             did = project.call("release", *words)
-            hold(f"./release {words}", (did, project.called()), (Did(0, project.manifest("build"), PROGRESS), RELEASE))
-            hold(f"target/ after ./release {words}", os.path.exists(project.at("target/stamp")), left)
+            hold(f"./release {words}", (did, project.called()), (Did(0, project.manifest("build"), BOTH), calls))
             hold("dist/MANIFEST", read(project.at("dist/MANIFEST")), project.manifest("build"))
         project.hold_reduce("after ./release", "build", [])
         project.hold_library("after ./release", "build", [])
@@ -299,12 +308,43 @@ def hold_test(project):
         hold(f"./test, {name} changed", (did.status, did.message), (1, ""))
         hold(f"./test, {name} changed: the last line", did.output.decode().rstrip("\n").endswith(f"FAILED: {message}"), True)
         hold(f"./test, {name} changed: a count", re.findall(r"\d+ passed", did.output.decode()), [])
-        hold(f"./test, {name} changed: rt", [words for words in project.called() if words != "version"], [])
+        hold(f"./test, {name} changed: rt", [words for words in project.called() if words != "project: version"], [])
+
+
+def hold_gate(project):
+    """Lets `rt ci` fail, be stopped, end without its count or tell of bad edits, while the steps beside it go on: ./test stops then."""
+    edits = "must-fail edits: 3 refused"
+    some_bad = f"{edits}, 1 of them only by a limit, 10 bad"
+    uncounted, beside = GATE[: GATE.index("4 passed")], "rt ci, or one of the steps beside it"
+    unsure, bad, none = "rt ci did not pass: no line begins with rt: ok", "must-fail edits are bad: ", "rt ci ended without its count"
+    project.put("tests/vectors/none.jsonl", b"")
+    project.put("tests/vectors/SHA256SUMS", f"{digest(b'')}  none.jsonl\n".encode())
+    for what, seconds, gate, ends, wanted in (
+        ("a crate that is not proved", 60, "rt: FAILED: table\n4 passed, 1 failed\n", "1", [unsure, beside]),
+        ("a status other than its count", 60, GATE, "1", [beside]),
+        ("a gate that is stopped", 60, uncounted, "143", [none, beside]),
+        ("no count", 60, uncounted, "0", [none, beside]),
+        ("a count that is not the gate's", 60, GATE.replace("failed", "failed (table alone: not the gate)"), "0", [none, beside]),
+        ("no line that says that all is well", 60, "rt: table proved\n4 passed, 0 failed\n", "0", [unsure, beside]),
+        ("a bad edit", 60, GATE.replace(edits, f"{edits}, 1 bad"), "0", [bad + "1", beside]),
+        ("bad edits, and one refused by a limit", 60, GATE.replace(edits, some_bad), "0", [bad + "10", beside]),
+        ("a gate that passes, and then a step that fails", 1, GATE.replace(edits, f"{edits}, 0 bad"), "0", [beside]),
+    ):
+        project.put("tests/models/run", f"#!/bin/sh\nsleep {seconds}\nexit 1\n".encode(), 0o755)
+        project.put("build/models/kept", b"")
+        project.tell_stub("gate", gate)
+        project.tell_stub("ends", ends)
+        did = project.call("test")
+        output = did.output.decode()
+        hold(f"./test, {what}", (did.status, did.message, re.findall(r"FAILED: (?!table)(.*)", output)), (1, "", wanted))
+        hold(f"./test, {what}: a count", re.findall(r"\d+ passed", output), [])
+        hold(f"./test, {what}: rt", project.called(), ["project: version", "project: ci"])
+        hold(f"./test, {what}: what is in build/", os.listdir(project.at("build")), ["models"])
 
 
 STEPS = [hold_unchanged, hold_digest, hold_proved, hold_estimate, hold_replaced, hold_damaged, hold_prove]
 STEPS += [hold_failures, hold_programs, hold_meanwhile, hold_missing, hold_unreadable, hold_calls]
-STEPS += [hold_no_release, hold_release, hold_test]
+STEPS += [hold_no_release, hold_release, hold_test, hold_gate]
 
 
 def hold_sources():
