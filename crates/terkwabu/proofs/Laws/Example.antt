@@ -19,7 +19,8 @@ use Rattle.partition.specs.Laws.Example.{five_zeros, printed-reduced, printed-pa
 use Rattle.terkwabu.specs.Answers.{result_as, of_graph, of_placing, of_reduction, of_pairing}
 use Rattle.terkwabu.specs.Calls.{GraphCall, PlaceCall, ReduceCall, PairCall}
 use Rattle.terkwabu.specs.Rows.{state_asked}
-use Rattle.terkwabu.specs.Demand3.{IsNumber, NoneRelates, demand-3}
+use Rattle.terkwabu.specs.Demand3.{IsNumber, NoneRelates}
+use Rattle.terkwabu.proofs.Demand3.{demand-3}
 
 -- Room for five entries.
 abbrev lent : List ℕ

@@ -18,8 +18,8 @@ use Rattle.listing.specs.Laws.Joined.{joined-most, parts-answer, parts-end, part
 use Rattle.listing.specs.declared.parts.Part.TheVariants as T
 use Rattle.terkwabu.specs.Answers.{result_as, of_reduction, of_part}
 use Rattle.terkwabu.specs.Calls.{ReduceCall, PartCall, LineCall}
-use Rattle.terkwabu.specs.Laws.Host.{value-part}
-use Rattle.terkwabu.specs.Laws.Bridges.{reduced-of}
+use Rattle.terkwabu.proofs.Laws.Host.{value-part}
+use Rattle.terkwabu.proofs.Laws.Bridges.{reduced-of}
 use Rattle.terkwabu.specs.declared.answer.Answer.{Answer}
 
 module _ (table entries first second : List ℕ) (answer : Answer) (entries' first' second' : List ℕ)

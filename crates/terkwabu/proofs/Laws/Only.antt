@@ -18,7 +18,7 @@ use Rattle.terkwabu.specs.Rows.{Stopped, row-1-13, row-14, row-15, GraphHeld, By
 use Rattle.terkwabu.specs.Rows.{GraphRows, graph-result, PlaceRows, place-row-20, place-row-21, place-result}
 use Rattle.terkwabu.specs.Rows.{ReduceRows, reduce-row-16, reduce-result, PairRows, pair-row-16, pair-row-19, pair-shared, pair-apart}
 use Rattle.terkwabu.specs.Rows.{JudgeRows, judge-row-17, judge-row-18, judge-result}
-use Rattle.terkwabu.specs.Laws.States.{read_one}
+use Rattle.terkwabu.proofs.Laws.States.{read_one}
 use Rattle.terkwabu.specs.declared.answer.Answer.{Answer}
 
 -- ---- What reading says

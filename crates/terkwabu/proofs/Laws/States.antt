@@ -20,8 +20,8 @@ use Rattle.partition.specs.Laws.LeftStates.{left-entry, left-lies, left-lies-one
 use Rattle.partition.specs.Laws.LeftStates.{left-given, left-equal, left-differ, left-zero}
 use Rattle.terkwabu.specs.Calls.{PlaceCall}
 use Rattle.terkwabu.specs.Rows.{state_asked}
-use Rattle.terkwabu.specs.Laws.Rows.{asked_is}
-use Rattle.terkwabu.specs.Laws.Bridges.{place_found}
+use Rattle.terkwabu.proofs.Laws.Rows.{asked_is}
+use Rattle.terkwabu.proofs.Laws.Bridges.{place_found}
 use Rattle.terkwabu.specs.declared.answer.Answer.{Answer}
 
 -- ---- A table is read as one model

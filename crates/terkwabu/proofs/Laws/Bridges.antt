@@ -40,8 +40,8 @@ use Rattle.partition.specs.declared.calls.Reduction.TheVariants as B
 use Rattle.partition.specs.declared.calls.Pairing.TheVariants as S
 use Rattle.terkwabu.specs.Answers.{of_graph, of_placing, of_reduction, one_if, of_pairing}
 use Rattle.terkwabu.specs.Calls.{GraphCall, PlaceCall, ReduceCall, PairCall}
-use Rattle.terkwabu.specs.Laws.Rows.{placed_in, place_after}
-use Rattle.terkwabu.specs.Laws.Host.{zero-whole, value-whole, zero-placed, zero-reduced, zero-paired}
+use Rattle.terkwabu.proofs.Laws.Rows.{placed_in, place_after}
+use Rattle.terkwabu.proofs.Laws.Host.{zero-whole, value-whole, zero-placed, zero-reduced, zero-paired}
 use Rattle.terkwabu.specs.declared.answer.Answer.{Answer}
 
 -- ---- The graph call
