@@ -1,7 +1,7 @@
 -- At most one answer fits document 01's list (`only-answer`, and `graph-answer` to `pair-answer` for each call): rows 1 to 15 exclude one
 -- another and the graph (`stopped-one`, `not-both`), the model and its regions are one (`held_one`), and so do the rows of each call. So an
 -- answer with refusal 0 says that the list found none (`stopped-some`).
-use Rattle.std.specs.Prelude.{ℕ, ◌≤◌, ◌<◌, ◌⊎◌, ◌↔◌, ◌≡◌, refl, Bool, true, false, length, get_or}
+use Rattle.std.specs.Prelude.{ℕ, ◌≤◌, ◌<◌, ◌⊎◌, ◌≡◌, refl, true, false, length}
 use Rattle.std.proofs.Common.{arith, inl, inr, ⊎_elim, sym, ◌∙◌, ap, ap₂, subst, length-append}
 use Rattle.std.proofs.lemmas.Bool.{false≢true}
 use mathlib.Core.List.Memᴰ
