@@ -1,5 +1,5 @@
 -- Demand 1: "The answer to every call, on any bytes and numbers, is the first refusal that document 01's list finds or, where it finds
--- none, the result; every lent table then holds what document 01 says." One closed statement, and its theorem.
+-- none, the result; every lent table then holds what document 01 says." One closed statement; proofs/Demand1.antt has its theorem.
 --
 -- A premise `GraphCall table entries answer entries'` (Calls) is what the contract of terkwabu_graph says of every call with this table and
 -- these entries that answers `answer` and leaves entries' (src/calls.rt). With this file five say what is claimed:
@@ -10,13 +10,12 @@
 -- What these files rest on is named in their first lines. The part call and the line of a refusal are no calls of document 01's list, which
 -- makes a listing in parts a choice of the library: the part call meets rows 1 to 13, and prints what is lent. (terkwabu_version takes
 -- nothing, and answers the version.)
-use Rattle.std.specs.Prelude.{ℕ, ◌≡◌, refl, List, [], ◌∷◌}
+use Rattle.std.specs.Prelude.{ℕ, ◌≡◌, List, [], ◌∷◌}
 use Rattle.regions.specs.Call.{flat}
 use Rattle.listing.specs.Printed.{refusal_line}
 use Rattle.listing.specs.Parts.{text_of}
 use Rattle.terkwabu.specs.Calls.{GraphCall, PlaceCall, ReduceCall, PairCall, JudgeCall, PartCall, LineCall}
 use Rattle.terkwabu.specs.Rows.{ByList, GraphRows, PlaceRows, ReduceRows, PairRows, JudgeRows, Given, PartRows}
-use Rattle.terkwabu.specs.Laws.Rows.{graph-rows, place-rows, reduce-rows, pair-rows, judge-rows, part-rows, line-rows}
 use Rattle.terkwabu.specs.declared.answer.Answer.{Answer}
 
 pub record Demand1 : Type 0 where
@@ -52,17 +51,3 @@ pub record Demand1 : Type 0 where
   pub line : (number place : ℕ) (buffer : List ℕ) (answer : Answer) (buffer' : List ℕ)
       → LineCall number place buffer answer buffer'
       → Given (refusal_line number place) buffer buffer' answer
-
--- It holds.
-pub demand-1 : Demand1
-demand-1 =
-    record {
-      entry = λ l w₀ w₁ w₂ w₃ k₀ k₁ k₂ k₃. refl;
-      graph = graph-rows;
-      place = place-rows;
-      reduce = reduce-rows;
-      pair = pair-rows;
-      judge = judge-rows;
-      part = part-rows;
-      line = line-rows;
-    }

@@ -2,13 +2,12 @@
 -- Whenever document 01's list finds no refusal for the partition call, both block lists then hold document 01's block numbers, and those of
 -- the two regions differ exactly when no probabilistic time-abstracting bisimulation over all states of the model relates a and b. Whenever
 -- that list finds none for the pair call on these two regions, the call says in exactly the same cases that they share no block." One
--- closed statement, and its theorem; and the half that holds for relations at every level.
+-- closed statement; and the half that holds for relations at every level. proofs/Demand3.antt has the theorems.
 --
 -- A premise `ReduceCall table entries first second answer entries' first' second'` (Calls) is what the contract of terkwabu_reduce
 -- (src/calls.rt) says of every call with these that answers `answer` and leaves entries', first' and second'. `answer.refusal ≡ 0` says
 -- that the list found no refusal (Demand1), so that the model is accepted; `read_table table ≡ accepted m` says which model it is. With
--- this
--- file five say what is claimed:
+-- this file five say what is claimed:
 --   Demand2                           `BlockNumbers`: document 01's block numbers
 --   States, Placing (of states)       states with fractions as clock values, and how they move; the region of a state (`placed`, by which
 --                                     `region_in` of Alike is said)
@@ -16,8 +15,6 @@
 --   Instances (of partition)          `states m`: all states of the model as a structure
 -- What these files rest on is named in their first lines.
 use Rattle.std.specs.Prelude.{ℕ, ◌<◌, ◌≡◌, ◌↔◌, ◌⊎◌, List, get_or}
-use Rattle.std.proofs.Common.{⊎_elim}
-use mathlib.Core.Logic.Iff
 use Rattle.regions.specs.Passed.{Model, read_table, accepted, Region}
 use Rattle.regions.specs.Entries.{region_at}
 use Rattle.regions.specs.Explore.{listed}
@@ -30,12 +27,7 @@ use Rattle.bisimulation.specs.Bisimulations.{Bisimulation}
 use Rattle.partition.specs.Instances.{states, states_zero, block_in}
 use Rattle.terkwabu.specs.Calls.{PlaceCall, ReduceCall, PairCall}
 use Rattle.terkwabu.specs.Rows.{state_asked}
-use Rattle.terkwabu.specs.Laws.Bridges.{reduced-of, first-left, second-left, pair-model, pair-regions}
-use Rattle.terkwabu.specs.Laws.Bridges.{pair-first-left, pair-second-left}
-use Rattle.terkwabu.specs.Laws.Bridges.{value-first, value-second, value-together, value-apart}
-use Rattle.terkwabu.specs.Laws.States.{number_of, numbers-block, numbers-differ, numbers-given, numbers-equal}
-use Rattle.terkwabu.specs.Laws.States.{numbers-zero, place-number}
-use Rattle.terkwabu.specs.Demand2.{graph_in, BlockNumbers, both-made, demand-2}
+use Rattle.terkwabu.specs.Demand2.{graph_in, BlockNumbers}
 use Rattle.terkwabu.specs.declared.answer.Answer.{Answer}
 
 -- Number i is that of region r: it is entry i of the first n, and no other.
@@ -124,72 +116,3 @@ Demand3At =
     × ((entries first second : List ℕ) (r s : ℕ) (answer : Answer) (entries' first' second' : List ℕ)
     → PairCall table entries first second r s answer entries' first' second' → answer.refusal ≡ 0
     → region_at entries' r ≡ region_in m a → region_at entries' s ≡ region_in m b → answer.value ≡ 1)
-
--- ---- They hold
-
-pub demand-3 : Demand3
-demand-3 =
-    record {
-      lists = demand-2.blocks;
-      partition = λ table m read a b ia ib ra rb entries first second answer entries' first' second' call none.
-          let one = first-left table entries first second answer entries' first' second' call none in
-          let two = second-left table entries first second answer entries' first' second' call none in
-          let (i, hi, at, only-i) = number_of one m read a ra in
-          let (j, hj, bt, only-j) = number_of one m read b rb in (
-            i,
-            j,
-            (hi, at, only-i),
-            (hj, bt, only-j),
-            numbers-differ one m read a b ia ib i j hi at hj bt,
-            numbers-differ two m read a b ia ib i j hi at hj bt,
-          );
-      pair = λ table m read a b ia ib entries first second r s answer entries' first' second' call none at bt.
-          let left = pair-first-left table entries first second r s answer entries' first' second' call none in
-          let (hr, hs) = pair-regions table entries first second r s answer entries' first' second' call none in
-          Iff.trans (value-apart table entries first second r s answer entries' first' second' call none)
-          (numbers-differ left m read a b ia ib r s hr at hs bt);
-      pair-lists = λ table entries first second r s answer entries' first' second' call none.
-          let (m, read, all, order, one, two) =
-          both-made (pair-first-left table entries first second r s answer entries' first' second' call none)
-          (pair-second-left table entries first second r s answer entries' first' second' call none) in
-          (_, _, _, m, read, all, order, one, two);
-      agree = λ table entries first second answer entries' first' second' call none
-          entries₂ first₂ second₂ r s answer₂ entries₂' first₂' second₂' call₂ none₂.
-          let reduced = reduced-of table entries first second answer entries' first' second' call none in (
-            value-first table entries₂ first₂ second₂ r s answer₂ entries₂' first₂' second₂' call₂ none₂ entries first second
-                answer.value answer.blocks answer.rounds entries' first' second' reduced,
-            value-second table entries₂ first₂ second₂ r s answer₂ entries₂' first₂' second₂' call₂ none₂ entries first second
-                answer.value answer.blocks answer.rounds entries' first' second' reduced,
-          );
-      place = λ table m read entries first second answer entries' first' second' call none
-          entries₁ location v₀ v₁ v₂ v₃ denominator answer₁ entries₁' call₁ none₁.
-          let one = first-left table entries first second answer entries' first' second' call none in
-          let two = second-left table entries first second answer entries' first' second' call none in
-          let s : State = state_asked m location v₀ v₁ v₂ v₃ denominator in
-          let (is, h, at) =
-          place-number one entries₁ location v₀ v₁ v₂ v₃ denominator answer₁ entries₁' call₁ none₁ m read in
-          (is, h, at, numbers-block one m read s answer₁.value h at, numbers-block two m read s answer₁.value h at);
-      given = λ table m read a b ia ib entries first second answer entries' first' second' call none i j hi at hj bt.
-          ⊎_elim
-          (numbers-given (first-left table entries first second answer entries' first' second' call none) m read a b ia ib i j hi at hj bt)
-          (numbers-given (second-left table entries first second answer entries' first' second' call none) m read a b ia ib i j hi at hj
-          bt);
-      zero-delay = λ table m read a b ia ib ra rb entries first second answer entries' first' second' call none.
-          let left = first-left table entries first second answer entries' first' second' call none in
-          let (i, hi, at, only-i) = number_of left m read a ra in
-          let (j, hj, bt, only-j) = number_of left m read b rb in
-          numbers-zero left m read a b ia ib i j hi at hj bt;
-    }
-
-pub demand-3-at {ℓ} : Demand3At {ℓ}
-demand-3-at table m read a b ia ib R w q = (
-  λ entries first second answer entries' first' second' call none i j hi at hj bt. (
-    numbers-equal (first-left table entries first second answer entries' first' second' call none) m read a b ia ib i j hi at hj bt R w q,
-    numbers-equal (second-left table entries first second answer entries' first' second' call none) m read a b ia ib i j hi at hj bt R w q,
-  ),
-  λ entries first second r s answer entries' first' second' call none at bt.
-      let left = pair-first-left table entries first second r s answer entries' first' second' call none in
-      let (hr, hs) = pair-regions table entries first second r s answer entries' first' second' call none in
-      (value-together table entries first second r s answer entries' first' second' call none).1
-      (numbers-equal left m read a b ia ib r s hr at hs bt R w q),
-)

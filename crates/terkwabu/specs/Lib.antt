@@ -6,12 +6,11 @@
 --   Demand1    every call answers by the list
 --   Demand2    graph, numbers, blocks, rounds and listing are those defined; regions lead as their states do; proposals
 --   Demand3    the block numbers decide which states a bisimulation relates
--- Laws on these stand in Laws.
+-- Laws on these stand in Laws of proofs/, the theorems that the demands hold in Demand1, Demand2 and Demand3 of proofs/.
 pub mod Answers
 pub mod Version
 pub mod Calls
 pub mod Rows
-pub mod Laws
 pub mod Demand1
 pub mod Demand2
 pub mod Demand3

@@ -1,7 +1,7 @@
 -- Document 01's refusal list as each call goes through it, and what the lent memory then holds. One constructor stands for rows 1 to 13, as
 -- reading the table finds them: "the first record meeting a condition decides, and within it the lowest number". From 14 on there is one
 -- for each row, with its sentence, and one for the result, and each asks that no row before it is met: "the lowest number that fits the
--- call decides". So at most one answer fits (`only-answer` of Laws.Only).
+-- call decides". So at most one answer fits (`only-answer` of proofs/Laws/Only.antt).
 use Rattle.std.specs.Prelude.{ℕ, ◌*◌, ◌/◌, ◌≤◌, ◌<◌, min, ◌≡◌, ◌⊎◌, true, false, List, [], ◌∷◌, ◌++◌, length, get_or, take, drop}
 use Rattle.regions.specs.Passed.{Model, read_table, refusal, accepted, Region}
 use Rattle.regions.specs.Graph.{bounds_of, meets, first, Reached}

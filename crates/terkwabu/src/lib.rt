@@ -1,5 +1,6 @@
 // The calls for C hosts. A slice passes as a pointer and then a length; answers are structs of numbers, by value.
 #![tactic(auto)]
+
 mod answer;
 mod calls;
 mod version;

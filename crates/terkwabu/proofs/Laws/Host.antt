@@ -3,9 +3,9 @@
 -- of the state call: the refusal is 0 exactly where a region's number is answered, and then the value is that number. And off
 -- those of the partition call, the pair call and the judging call: the refusal is 0 exactly on success, and then the fields
 -- are what was answered. And off those of the part call: value and place say what was written.
-use Rattle.std.specs.Prelude.{ℕ, suc, ◌+◌, ◌≤◌, ◌<◌, ◌⊎◌, ◌↔◌, ◌≡◌, refl, Bool, true, false, cond, List, [], ◌∷◌, leb, length, take}
-use Rattle.std.proofs.Common.{arith, inl, inr, ◌∙◌, ap}
-use Rattle.regions.specs.Call.{Outcome, refused, cut, whole, room_for, outcome_of, graph_of}
+use Rattle.std.specs.Prelude.{ℕ, ◌≤◌, ◌⊎◌, ◌↔◌, ◌≡◌, refl, Bool, true, false, cond, List, [], ◌∷◌, leb, length}
+use Rattle.std.proofs.Common.{arith, inl, inr, ap}
+use Rattle.regions.specs.Call.{Outcome, refused, cut, whole, outcome_of, graph_of}
 use Rattle.regions.specs.Passed.{Model, read_table, accepted, Region}
 use Rattle.states.specs.States.{State, Same}
 use Rattle.states.specs.StateCall.{is_not_taken, own_state, place_of}
@@ -14,7 +14,6 @@ use Rattle.states.specs.Laws.Placed.{placed-numbers, same_place}
 use Rattle.states.specs.declared.states.Placing.{Placing}
 use Rattle.states.specs.declared.states.Placing.TheVariants as P
 use Rattle.partition.specs.Calls.{reduce_of, pair_of, judge_of}
-use Rattle.partition.specs.Promises.{Reduced}
 use Rattle.partition.specs.Laws.Numbers.{reduce-numbers, pair-numbers, judge-numbers}
 use Rattle.partition.specs.declared.calls.Reduction.{Reduction}
 use Rattle.partition.specs.declared.calls.Reduction.TheVariants as B
@@ -22,13 +21,7 @@ use Rattle.partition.specs.declared.calls.Pairing.{Pairing}
 use Rattle.partition.specs.declared.calls.Pairing.TheVariants as S
 use Rattle.partition.specs.declared.calls.Judgement.{Judgement}
 use Rattle.partition.specs.declared.calls.Judgement.TheVariants as J
-use Rattle.text.specs.Text.{up_to}
-use Rattle.text.specs.Laws.Texts.{upto-same}
-use Rattle.listing.specs.Printed.{listing}
-use Rattle.listing.specs.Parts.{part_count, text_of, part_of, fitted, bytes_in, buffer_after, most_bytes}
-use Rattle.listing.specs.Laws.Parts.{parted}
-use Rattle.listing.specs.Laws.Buffers.{fitted-written}
-use Rattle.listing.specs.Laws.Joined.{joined-most, parts-answer, parts-end, parts-some}
+use Rattle.listing.specs.Parts.{text_of, part_of, fitted, bytes_in}
 use Rattle.listing.specs.declared.parts.Part.{Part}
 use Rattle.listing.specs.declared.parts.Part.TheVariants as T
 use Rattle.terkwabu.specs.Answers.{of_graph, of_placing, of_reduction, one_if, of_pairing, of_judgement, of_part}

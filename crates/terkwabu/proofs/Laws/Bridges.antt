@@ -10,7 +10,7 @@ use Rattle.std.proofs.Math.Dec.{ltb}
 use borrow.Author.Tests.{ltb-true}
 use mathlib.Core.List.{List, map, Memᴰ}
 use Rattle.std.proofs.Math.ListN.{get_or}
-use Rattle.regions.specs.Passed.{Model, edge_of, Region}
+use Rattle.regions.specs.Passed.{edge_of, Region}
 use Rattle.regions.specs.Call.{whole, room_for, outcome_of}
 use Rattle.regions.specs.Entries.{region_at}
 use Rattle.regions.specs.Explore.{listed, listed-length, listed_at}
@@ -38,10 +38,10 @@ use Rattle.partition.specs.Laws.Left.{reduced-first, reduced-second}
 use Rattle.partition.specs.Laws.Promised.{paired-model, pair-leaves, pair-as-first, pair-as-second}
 use Rattle.partition.specs.declared.calls.Reduction.TheVariants as B
 use Rattle.partition.specs.declared.calls.Pairing.TheVariants as S
-use Rattle.terkwabu.specs.Answers.{of_graph, of_placing, of_reduction, one_if, of_pairing}
+use Rattle.terkwabu.specs.Answers.{of_placing, of_reduction, one_if, of_pairing}
 use Rattle.terkwabu.specs.Calls.{GraphCall, PlaceCall, ReduceCall, PairCall}
-use Rattle.terkwabu.specs.Laws.Rows.{placed_in, place_after}
-use Rattle.terkwabu.specs.Laws.Host.{zero-whole, value-whole, zero-placed, zero-reduced, zero-paired}
+use Rattle.terkwabu.proofs.Laws.Rows.{placed_in, place_after}
+use Rattle.terkwabu.proofs.Laws.Host.{zero-whole, value-whole, zero-placed, zero-reduced, zero-paired}
 use Rattle.terkwabu.specs.declared.answer.Answer.{Answer}
 
 -- ---- The graph call

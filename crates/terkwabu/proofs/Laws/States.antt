@@ -1,7 +1,7 @@
 -- From a state to its block: the state call's value is the number of the state's region in what a partition call left (`place-number`); the
 -- numbers of two states' regions, in the list that a call left, say whether some bisimulation over all states relates them
 -- (`numbers-differ`, `numbers-given`, `numbers-equal`).
-use Rattle.std.specs.Prelude.{ℕ, ◌<◌, ◌≡◌, refl, ◌↔◌, Bool, true, false, List, length, get_or}
+use Rattle.std.specs.Prelude.{ℕ, ◌<◌, ◌≡◌, refl, ◌↔◌, List, length, get_or}
 use Rattle.std.proofs.Common.{arith, sym, ◌∙◌, ap, subst}
 use Rattle.regions.specs.Passed.{Model, Answer as Read, refusal, read_table, accepted, Region}
 use Rattle.regions.specs.Call.{room_for}
@@ -20,8 +20,8 @@ use Rattle.partition.specs.Laws.LeftStates.{left-entry, left-lies, left-lies-one
 use Rattle.partition.specs.Laws.LeftStates.{left-given, left-equal, left-differ, left-zero}
 use Rattle.terkwabu.specs.Calls.{PlaceCall}
 use Rattle.terkwabu.specs.Rows.{state_asked}
-use Rattle.terkwabu.specs.Laws.Rows.{asked_is}
-use Rattle.terkwabu.specs.Laws.Bridges.{place_found}
+use Rattle.terkwabu.proofs.Laws.Rows.{asked_is}
+use Rattle.terkwabu.proofs.Laws.Bridges.{place_found}
 use Rattle.terkwabu.specs.declared.answer.Answer.{Answer}
 
 -- ---- A table is read as one model

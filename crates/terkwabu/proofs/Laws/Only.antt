@@ -1,7 +1,7 @@
 -- At most one answer fits document 01's list (`only-answer`, and `graph-answer` to `pair-answer` for each call): rows 1 to 15 exclude one
 -- another and the graph (`stopped-one`, `not-both`), the model and its regions are one (`held_one`), and so do the rows of each call. So an
 -- answer with refusal 0 says that the list found none (`stopped-some`).
-use Rattle.std.specs.Prelude.{ℕ, ◌≤◌, ◌<◌, ◌⊎◌, ◌↔◌, ◌≡◌, refl, Bool, true, false, length, get_or}
+use Rattle.std.specs.Prelude.{ℕ, ◌≤◌, ◌<◌, ◌⊎◌, ◌≡◌, refl, true, false, length}
 use Rattle.std.proofs.Common.{arith, inl, inr, ⊎_elim, sym, ◌∙◌, ap, ap₂, subst, length-append}
 use Rattle.std.proofs.lemmas.Bool.{false≢true}
 use mathlib.Core.List.Memᴰ
@@ -18,7 +18,7 @@ use Rattle.terkwabu.specs.Rows.{Stopped, row-1-13, row-14, row-15, GraphHeld, By
 use Rattle.terkwabu.specs.Rows.{GraphRows, graph-result, PlaceRows, place-row-20, place-row-21, place-result}
 use Rattle.terkwabu.specs.Rows.{ReduceRows, reduce-row-16, reduce-result, PairRows, pair-row-16, pair-row-19, pair-shared, pair-apart}
 use Rattle.terkwabu.specs.Rows.{JudgeRows, judge-row-17, judge-row-18, judge-result}
-use Rattle.terkwabu.specs.Laws.States.{read_one}
+use Rattle.terkwabu.proofs.Laws.States.{read_one}
 use Rattle.terkwabu.specs.declared.answer.Answer.{Answer}
 
 -- ---- What reading says

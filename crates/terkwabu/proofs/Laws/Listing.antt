@@ -2,7 +2,7 @@
 -- list that it left, what the part calls leave in the host's buffers, joined, is the listing (`host-joined`), and the host sees where the
 -- parts end (`host-end`, `host-some`). Where the partition call refused, the line of that refusal is the listing (`host-refused`).
 use Rattle.std.specs.Prelude.{ℕ, ◌≤◌, ◌<◌, ◌⊎◌, ◌≡◌, refl, List, length, take}
-use Rattle.std.proofs.Common.{arith, inl, inr, sym, ◌∙◌, ap, ap₂}
+use Rattle.std.proofs.Common.{arith, sym, ◌∙◌, ap}
 use Rattle.regions.specs.Call.{room_for}
 use Rattle.partition.specs.Calls.{reduce_of}
 use Rattle.partition.specs.Promises.{Reduced}
@@ -11,15 +11,14 @@ use Rattle.partition.specs.declared.calls.Reduction.TheVariants as B
 use Rattle.text.specs.Text.{up_to}
 use Rattle.text.specs.Laws.Texts.{upto-same}
 use Rattle.listing.specs.Printed.{refusal_line, listing}
-use Rattle.listing.specs.Parts.{part_count, text_of, part_of, fitted, bytes_in, buffer_after, most_bytes}
+use Rattle.listing.specs.Parts.{part_count, text_of, part_of, fitted, most_bytes}
 use Rattle.listing.specs.Laws.Parts.{parted}
 use Rattle.listing.specs.Laws.Buffers.{fitted-written}
 use Rattle.listing.specs.Laws.Joined.{joined-most, parts-answer, parts-end, parts-some, refused-joined}
-use Rattle.listing.specs.declared.parts.Part.TheVariants as T
 use Rattle.terkwabu.specs.Answers.{result_as, of_reduction, of_part}
 use Rattle.terkwabu.specs.Calls.{ReduceCall, PartCall, LineCall}
-use Rattle.terkwabu.specs.Laws.Host.{value-part}
-use Rattle.terkwabu.specs.Laws.Bridges.{reduced-of}
+use Rattle.terkwabu.proofs.Laws.Host.{value-part}
+use Rattle.terkwabu.proofs.Laws.Bridges.{reduced-of}
 use Rattle.terkwabu.specs.declared.answer.Answer.{Answer}
 
 module _ (table entries first second : List ℕ) (answer : Answer) (entries' first' second' : List ℕ)

@@ -1,22 +1,19 @@
 -- The answer of each call, and what it left in what was lent, are by document 01's list, row by row. What the graph call comes to decides
 -- rows 1 to 15 (`rows`); then come the rows of each call.
-use Rattle.std.specs.Prelude.{ℕ, zero, suc, ◌+◌, ◌*◌, ◌≤◌, ◌<◌, ◌⊎◌, ◌↔◌, ◌≡◌, Bool, true, false, not}
+use Rattle.std.specs.Prelude.{ℕ, zero, suc, ◌+◌, ◌≤◌, ◌<◌, ◌⊎◌, ◌↔◌, ◌≡◌, Bool, true, false, not}
 use Rattle.std.specs.Prelude.{◌&&◌, ◌||◌, List, [], ◌∷◌, ◌++◌, eqb, leb, ltb, length, get_or, drop}
 use Rattle.std.proofs.Common.{arith, ◌∙◌}
-use Rattle.std.proofs.Math.Decide.{dec_lt}
 use Rattle.std.proofs.Math.Logic.{inl, inr}
 use Rattle.std.proofs.Math.Path.{refl, sym, ap, subst}
 use Rattle.std.proofs.Math.Bool.{false≢true, cond}
 use borrow.Author.Tests.{eq-eqb, ne_eqb, eqb-true, eqb-false, ltb-true, ltb-false, le-ltb, leb-true, leb-false, le-leb, lt-leb}
 use Rattle.regions.specs.Passed.{Model, Answer as Read, read_table, refusal, accepted, Region}
 use Rattle.regions.specs.Graph.{Reached}
-use Rattle.regions.specs.Order.{Begun, FirstRegions}
 use Rattle.regions.specs.Call.{Outcome, refused, cut, whole, room_for, from_answer, outcome_of, graph_of, entries_after}
 use Rattle.regions.specs.View.{number_in}
 use Rattle.regions.specs.Laws.Call.{refused-graph, cut-graph, whole-graph}
 use Rattle.regions.specs.Laws.Order.{whole-order, cut-order}
 use Rattle.regions.specs.Laws.View.{has-number, number-listed}
-use Rattle.regions.specs.declared.call.Graph.{Graph}
 use Rattle.regions.specs.declared.call.Graph.TheVariants as G
 use Rattle.states.specs.States.{State, IsState}
 use Rattle.states.specs.Alike.{region_in}
@@ -24,7 +21,6 @@ use Rattle.states.specs.StateCall.{asked, strays, is_not_taken, own_state, numbe
 use Rattle.states.specs.Laws.Placed.{own-state}
 use Rattle.states.specs.declared.states.Placing.{Placing}
 use Rattle.states.specs.declared.states.Placing.TheVariants as P
-use Rattle.bisimulation.specs.Bisimulations.{Bisimulation}
 use Rattle.bisimulation.specs.Finite.{structure, related, accepts, rounds, last_blocks, block_count}
 use Rattle.bisimulation.proofs.Laws.Rounds.{bisimulation-agree}
 use Rattle.partition.specs.Instances.{graph}
@@ -34,11 +30,8 @@ use Rattle.partition.specs.Calls.{shared_of, pair_of, pair_list_after, judged_of
 use Rattle.partition.specs.Laws.Calls.{on-accepted, on-refused, long-enough, below_both, judged-well}
 use Rattle.partition.specs.Laws.Instances.{call-closed, call-placed}
 use Rattle.partition.specs.Laws.Bisimilar.{accepted-iff}
-use Rattle.partition.specs.declared.calls.Reduction.{Reduction}
 use Rattle.partition.specs.declared.calls.Reduction.TheVariants as B
-use Rattle.partition.specs.declared.calls.Pairing.{Pairing}
 use Rattle.partition.specs.declared.calls.Pairing.TheVariants as S
-use Rattle.partition.specs.declared.calls.Judgement.{Judgement}
 use Rattle.partition.specs.declared.calls.Judgement.TheVariants as J
 use Rattle.listing.specs.Printed.{refusal_line}
 use Rattle.listing.specs.Parts.{text_from, text_of, fitted, buffer_after, part_from, part_of}
@@ -62,7 +55,7 @@ module _ (table entries entries' : List ℕ) (held : entries' ≡ entries_after 
   Rows : Type 0
   Rows =
       ((number : ℕ) × (place : ℕ) × Stopped table entries entries' number place
-          × (G.Refused number place ≡ graph_of (outcome_of table room)))
+      × (G.Refused number place ≡ graph_of (outcome_of table room)))
       ⊎ ((a : Accepted table room) × GraphHeld table entries entries' a.model a.found)
 
   rows : Rows
@@ -310,7 +303,7 @@ module _ (table entries first second : List ℕ) where
   unfolding list_after
   after_list list a =
       on-accepted (λ number place. list) (λ m found. cond (is_short (length found) first second) list (numbered_in list m found)) table
-          lent a
+      lent a
 
   reduce-own : (first' second' : List ℕ) → first' ≡ list_after table lent first second first
       → second' ≡ list_after table lent first second second → (a : Accepted table lent)

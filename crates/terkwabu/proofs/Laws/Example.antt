@@ -2,7 +2,7 @@
 -- graph call, the state call, the partition call and the pair call refuse nothing, and demand 3 says of three states with the clock at 0,
 -- 1/2 and 1 which have one number. `printed-block`, `printed-apart` and `printed-together` are demand 3 there.
 use Rattle.std.specs.Prelude.{ℕ, ◌≡◌, refl, List, length, get_or, replicate}
-use Rattle.std.proofs.Common.{arith, sym, ◌∙◌, ap}
+use Rattle.std.proofs.Common.{sym, ◌∙◌, ap}
 use Rattle.regions.specs.Call.{room_for, from_answer, outcome_of, graph_of, entries_after}
 use Rattle.regions.specs.Explore.{same_region, listed}
 use Rattle.regions.specs.Graph.{largest_constant, bounds_of}
@@ -12,14 +12,15 @@ use Rattle.states.specs.Alike.{region_in}
 use Rattle.states.specs.Placing.{state_cell, placed}
 use Rattle.states.specs.StateCall.{asked, is_not_taken, own_state, placed_among, placed_from, place_of}
 use Rattle.states.specs.declared.states.Placing.TheVariants as P
-use Rattle.partition.specs.Instances.{states, block_in}
+use Rattle.partition.specs.Instances.{block_in}
 use Rattle.partition.specs.Calls.{list_after, pair_list_after}
 use Rattle.partition.specs.Laws.Example.{printed-whole, clock_at_zero, clock_at_half, clock_at_one, printed-states, printed-reached}
 use Rattle.partition.specs.Laws.Example.{five_zeros, printed-reduced, printed-pairs, printed-related, printed-parted}
 use Rattle.terkwabu.specs.Answers.{result_as, of_graph, of_placing, of_reduction, of_pairing}
 use Rattle.terkwabu.specs.Calls.{GraphCall, PlaceCall, ReduceCall, PairCall}
 use Rattle.terkwabu.specs.Rows.{state_asked}
-use Rattle.terkwabu.specs.Demand3.{IsNumber, NoneRelates, demand-3}
+use Rattle.terkwabu.specs.Demand3.{IsNumber}
+use Rattle.terkwabu.proofs.Demand3.{demand-3}
 
 -- Room for five entries.
 abbrev lent : List ℕ
@@ -65,7 +66,7 @@ printed-place = record { answer-is = sym (ap of_placing half); entries-are = ref
 pub printed-block : get_or numbers 1 0 ≡ block_in printed_model (listed left 5) (state_asked printed_model 0 1 0 0 0 2)
 printed-block =
     let (is, below, at, one, two) = demand-3.place printed printed_model printed-read lent five_zeros five_zeros (result_as 5 3 1) left
-        numbers
+    numbers
     numbers printed-reduce refl lent 0 1 0 0 0 2 (result_as 1 0 0) left printed-place refl in
     one
 
