@@ -1,7 +1,8 @@
 // The four clocks of a region, by value. Clocks that the model does not have count as over, and so take no part.
 ghost use Rattle.std.specs.Prelude.{ℕ, max, ◌≡◌, cond, ◌&&◌, ◌||◌, true, false, List, [], ◌∷◌, map};
 ghost use Rattle.table.specs.Model.{reset_in};
-ghost use Rattle.clocks.specs.Cells.{fraction_of, closed, close, restart, restarted, is_over, standing, leaving, all, some, leave, highest, arrive};
+ghost use Rattle.clocks.specs.Cells.{fraction_of, closed, close, restart, restarted, is_over, standing, leaving, all, some, leave};
+ghost use Rattle.clocks.specs.Cells.{highest, arrive};
 ghost use Rattle.clocks.specs.Packed.{cell_of, cells_of, four_of};
 
 use crate::clock::Clock;

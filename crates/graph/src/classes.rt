@@ -1,6 +1,7 @@
 // Clock classes: an index by buckets, and the class after each reset, noted both ways, and after a delay.
 ghost use Rattle.std.specs.Prelude.{ℕ, ◌<◌, ◌≡◌};
-ghost use Rattle.graph.specs.Readers.{reset_class, delay_class, class_head, class_link, reset_number, reset_source, reset_mask, source_head};
+ghost use Rattle.graph.specs.Readers.{reset_class, delay_class, class_head, class_link, reset_number, reset_source, reset_mask};
+ghost use Rattle.graph.specs.Readers.{source_head};
 ghost use Rattle.graph.specs.Readers.{source_link};
 ghost use Rattle.graph.specs.Writers.{with_class, with_class_delay, with_source, with_reset};
 

@@ -3,7 +3,8 @@
 // of one of its edges, this is the item of the model, and an item of zeros past the last (a choice of ours).
 ghost use Rattle.std.specs.Prelude.{ℕ, ◌+◌, ◌<◌, ◌≤◌, ◌≡◌, length, get_or};
 ghost use Rattle.table.specs.Records.{body_at};
-ghost use Rattle.table.specs.Access.{walk_to, passed, item_from, no_body, label_at, invariant_at, guards_from, branches_from, next_edge, guard_at, guard_count, branch_at, branch_count, no_invariant, no_guard, no_branch};
+ghost use Rattle.table.specs.Access.{walk_to, passed, item_from, no_body, label_at, invariant_at, guards_from, branches_from, next_edge};
+ghost use Rattle.table.specs.Access.{guard_at, guard_count, branch_at, branch_count, no_invariant, no_guard, no_branch};
 ghost use Rattle.table.specs.Model.{Model, reset_in};
 ghost use Rattle.table.specs.Reads.{Reads, ReadsEdge, edge_of};
 

@@ -1,7 +1,9 @@
 // What the reader remembers, and what each record does: the first row of its refusals that holds decides.
 ghost use Rattle.std.specs.Prelude.{ℕ, ◌+◌, ◌<◌, ◌≤◌, ◌≡◌, leb, ltb};
 ghost use Rattle.table.specs.Format.{last_bound, last_comparison};
-ghost use Rattle.table.specs.Refusals.{bit_beyond, decide, header_rows, location_rows, invariant_rows, edge_rows, guard_rows, branch_rows, end_rows, after_header, after_location, after_invariant, after_edge, after_guard, after_branch};
+ghost use Rattle.table.specs.Refusals.{bit_beyond, decide, header_rows, location_rows, invariant_rows, edge_rows, guard_rows};
+ghost use Rattle.table.specs.Refusals.{branch_rows, end_rows, after_header, after_location, after_invariant, after_edge, after_guard};
+ghost use Rattle.table.specs.Refusals.{after_branch};
 
 use crate::format::{
     MAX_BRANCHES, MAX_CLOCKS, MAX_CONSTANT, MAX_DENOMINATOR, MAX_EDGES, MAX_GUARDS, MAX_INVARIANTS,

@@ -26,7 +26,8 @@ returns-in-Refused c = let e = sym c.in-Refused.is ∙ c.show_graph-shown.ensure
           c.args.bytes.now cap _ _ e;
       second_is = on-refused (λ number place. c.args.second.now)
           (λ m found. cond (is_short (length found) c.args.first.now c.args.second.now) c.args.second.now
-          (cond (is_asked_past (length found) c.args.r c.args.s) c.args.second.now (numbered_in c.args.second.now m found))) c.args.bytes.now cap
+          (cond (is_asked_past (length found) c.args.r c.args.s) c.args.second.now (numbered_in c.args.second.now m found)))
+          c.args.bytes.now cap
           _ _ e;
     }
 
@@ -44,11 +45,13 @@ returns-in-Regions c = let cap = room_for (length c.args.entries.now) in let (a,
           a);
       entries-are = c.show_graph-shown.ensures.entries_after;
       first-is = done.1
-          ∙ sym (on-accepted (λ number place. c.args.first.now) (λ m found. cond (is_short (length found) c.args.first.now c.args.second.now)
+          ∙ sym (on-accepted (λ number place. c.args.first.now)
+          (λ m found. cond (is_short (length found) c.args.first.now c.args.second.now)
           c.args.first.now (cond (is_asked_past (length found) c.args.r c.args.s) c.args.first.now (numbered_in c.args.first.now m found)))
           c.args.bytes.now cap a);
       second_is = done.2 ∙ sym (on-accepted (λ number place. c.args.second.now)
           (λ m found. cond (is_short (length found) c.args.first.now c.args.second.now) c.args.second.now
-          (cond (is_asked_past (length found) c.args.r c.args.s) c.args.second.now (numbered_in c.args.second.now m found))) c.args.bytes.now cap
+          (cond (is_asked_past (length found) c.args.r c.args.s) c.args.second.now (numbered_in c.args.second.now m found)))
+          c.args.bytes.now cap
           a);
     }

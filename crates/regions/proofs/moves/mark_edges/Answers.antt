@@ -78,7 +78,8 @@ loop-e-preserved c =
     elim c.if-link-e.branch [
       | then-link-e w ↦
           rw (w.tested-is, w.last-is, w.link-is) (
-            before_on args.base at w.open_after-last.result args.flags.now loop.flags (set loop.flags at w.open_after-last.result) (omega arith)
+            before_on args.base at w.open_after-last.result args.flags.now loop.flags (set loop.flags at w.open_after-last.result)
+                (omega arith)
                 refl
                 loop.invariant.0,
             w.open_after-last.ensures.tested,
