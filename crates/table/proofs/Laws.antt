@@ -2,7 +2,7 @@
 --   Runs       what an accepted table went through, record by record; the fuel of a run does not matter
 --   Models     an accepted table's model is sound, its table is the one that was read, its edges' places and counts are right
 --   ReadBack   every sound model is read back from its table: the accepted tables are exactly the tables of sound models
---   Numbers    a table is refused with a number from 1 to 13, at a place within it or at its end
+--   Numbers    a table is refused with a reason of number 1 to 13, at a place within it or at its end
 --   Sized      labels and actions of a model that was read from bytes are bytes
 --   Items      on the table of a model the accessors give the items of the model
 --   Edges      what is stored from number 0 on, and the loops that list the edges and their places

@@ -1,10 +1,11 @@
--- Refusals 2 to 13 (document 01, "Refusal list"): each record's conditions are rows (number, place, condition) in
+-- Refusals 2 to 13 (document 01, "Refusal list"): each record's conditions are rows (reason, place, condition) in
 -- document 01's order, and the first row that holds decides. The numbers of a record's rows rise, so that this is "within it
 -- the lowest number" (`rows-rise`). Refusal 1, of the whole table, stands in `Reading`.
 --
 -- Readings that the rows rest on (docs/DECISIONS.md): a location too many is 5, never 11; an edge without branches is 12,
 -- since its weights sum to 0; 12 is met by the next edge or the end, after all that record's own lower numbers.
 use Rattle.std.specs.Prelude.{ℕ, ◌+◌, ◌^◌, ◌/◌, ◌≡◌, refl, Bool, true, cond, not, ◌&&◌, List, [], ◌∷◌, ◌++◌, map, eqb, leb, ltb, length}
+use Rattle.std.specs.Prelude.{Result, Ok, Err, Option, Some, None}
 use Rattle.table.specs.Format.{max_clocks, max_locations, max_constant, max_denominator, max_invariants}
 use Rattle.table.specs.Format.{max_edges, max_guards, max_branches, last_bound, last_comparison}
 use Rattle.table.specs.Records.{Record, header, location, invariant, edge, guard, branch, end, kind_at, record_at, past}
@@ -12,22 +13,30 @@ use Rattle.table.specs.declared.model.Invariant.{Invariant}
 use Rattle.table.specs.declared.model.Guard.{Guard}
 use Rattle.table.specs.declared.model.Branch.{Branch}
 use Rattle.table.specs.declared.records.Progress.{Progress}
-use Rattle.table.specs.declared.records.Step.{Step}
-use Rattle.table.specs.declared.records.Step.TheVariants.{Refused, Next, End}
+use Rattle.table.specs.Reasons.{number, refusal_at}
+use Rattle.table.specs.declared.refusals.Reason.{Reason}
+use Rattle.table.specs.declared.refusals.Reason.TheVariants.{Missing, UnknownKind, CutShort, OutOfOrder, BadHeader, UnknownName}
+use Rattle.table.specs.declared.refusals.Reason.TheVariants.{UnknownComparison, LargeConstant, BadWeight, TooMany, UnequalWeights}
+use Rattle.table.specs.declared.refusals.Reason.TheVariants.{TrailingBytes}
+use Rattle.table.specs.declared.refusals.Refusal.{Refusal}
 
--- A refusal of document 01: its number, its place, and whether its condition holds.
+-- A refusal of document 01: its reason, its place, and whether its condition holds.
 pub record Row : Type 0 where
-  pub number : ℕ
+  pub reason : Reason
   pub place : ℕ
   pub holds : Bool
 
-abbrev pub row : ℕ → ℕ → Bool → Row
-row n p b = record { number = n; place = p; holds = b }
+abbrev pub row : Reason → ℕ → Bool → Row
+row r p b = record { reason = r; place = p; holds = b }
+
+-- What a record leads to: a refusal; what is remembered for the next record; or nothing more, after the end record.
+abbrev pub Step : Type 0
+Step = Result (Option Progress) Refusal
 
 -- The first row that holds decides; where none does, the record leads to `next`.
 abbrev pub decide : List Row → Step → Step
 decide [] next = next
-decide (r ∷ rows) next = cond r.holds (Refused r.number r.place) (decide rows next)
+decide (r ∷ rows) next = cond r.holds (Err (refusal_at r.reason r.place)) (decide rows next)
 
 -- "Order: header, as many locations as it says, invariant atoms, edges, end. An edge is followed by its guard atoms,
 -- then its branches." The stage says which records may follow.
@@ -65,60 +74,60 @@ unbalanced p = not (eqb p.weights p.denominator)
 
 abbrev pub header_rows : Progress → ℕ → ℕ → ℕ → ℕ → List Row
 header_rows p at clocks locations initial =
-    row 5 at (ltb at_start p.stage)
-    ∷ row 6 at (ltb max_clocks clocks)
-    ∷ row 6 at (ltb locations 1)
-    ∷ row 6 at (ltb max_locations locations)
-    ∷ row 6 at (leb locations initial)
+    row OutOfOrder at (ltb at_start p.stage)
+    ∷ row BadHeader at (ltb max_clocks clocks)
+    ∷ row BadHeader at (ltb locations 1)
+    ∷ row BadHeader at (ltb max_locations locations)
+    ∷ row BadHeader at (leb locations initial)
     ∷ []
 
 abbrev pub location_rows : Progress → ℕ → List Row
-location_rows p at = row 5 at (not (eqb p.stage in_locations)) ∷ []
+location_rows p at = row OutOfOrder at (not (eqb p.stage in_locations)) ∷ []
 
 abbrev pub invariant_rows : Progress → ℕ → Invariant → List Row
 invariant_rows p at a =
-    row 5 at (not (eqb p.stage in_invariants))
-    ∷ row 7 at (leb p.locations a.location)
-    ∷ row 7 at (leb p.clocks a.clock)
-    ∷ row 8 at (ltb last_bound a.comparison)
-    ∷ row 9 at (ltb max_constant a.constant)
-    ∷ row 11 at (leb max_invariants p.invariants)
+    row OutOfOrder at (not (eqb p.stage in_invariants))
+    ∷ row UnknownName at (leb p.locations a.location)
+    ∷ row UnknownName at (leb p.clocks a.clock)
+    ∷ row UnknownComparison at (ltb last_bound a.comparison)
+    ∷ row LargeConstant at (ltb max_constant a.constant)
+    ∷ row TooMany at (leb max_invariants p.invariants)
     ∷ []
 
 abbrev pub edge_rows : Progress → ℕ → ℕ → ℕ → List Row
 edge_rows p at source denominator =
-    row 5 at (ltb p.stage in_invariants)
-    ∷ row 7 at (leb p.locations source)
-    ∷ row 10 at (eqb denominator 0)
-    ∷ row 10 at (ltb max_denominator denominator)
-    ∷ row 11 at (leb max_edges p.edges)
-    ∷ row 12 p.place (unbalanced p)
+    row OutOfOrder at (ltb p.stage in_invariants)
+    ∷ row UnknownName at (leb p.locations source)
+    ∷ row BadWeight at (eqb denominator 0)
+    ∷ row BadWeight at (ltb max_denominator denominator)
+    ∷ row TooMany at (leb max_edges p.edges)
+    ∷ row UnequalWeights p.place (unbalanced p)
     ∷ []
 
 abbrev pub guard_rows : Progress → ℕ → Guard → List Row
 guard_rows p at g =
-    row 5 at (not (eqb p.stage in_guards))
-    ∷ row 7 at (leb p.clocks g.clock)
-    ∷ row 8 at (ltb last_comparison g.comparison)
-    ∷ row 9 at (ltb max_constant g.constant)
-    ∷ row 11 at (leb max_guards p.guards)
+    row OutOfOrder at (not (eqb p.stage in_guards))
+    ∷ row UnknownName at (leb p.clocks g.clock)
+    ∷ row UnknownComparison at (ltb last_comparison g.comparison)
+    ∷ row LargeConstant at (ltb max_constant g.constant)
+    ∷ row TooMany at (leb max_guards p.guards)
     ∷ []
 
 abbrev pub branch_rows : Progress → ℕ → Branch → List Row
 branch_rows p at b =
-    row 5 at (ltb p.stage in_guards)
-    ∷ row 7 at (leb p.locations b.target)
-    ∷ row 7 at (bit_beyond b.mask p.clocks)
-    ∷ row 10 at (eqb b.weight 0)
-    ∷ row 11 at (leb max_branches p.branches)
+    row OutOfOrder at (ltb p.stage in_guards)
+    ∷ row UnknownName at (leb p.locations b.target)
+    ∷ row UnknownName at (bit_beyond b.mask p.clocks)
+    ∷ row BadWeight at (eqb b.weight 0)
+    ∷ row TooMany at (leb max_branches p.branches)
     ∷ []
 
 -- `size` is the table's length.
 abbrev pub end_rows : Progress → ℕ → ℕ → List Row
 end_rows p at size =
-    row 5 at (ltb p.stage in_invariants)
-    ∷ row 12 p.place (unbalanced p)
-    ∷ row 13 (at + 1) (ltb (at + 1) size)
+    row OutOfOrder at (ltb p.stage in_invariants)
+    ∷ row UnequalWeights p.place (unbalanced p)
+    ∷ row TrailingBytes (at + 1) (ltb (at + 1) size)
     ∷ []
 
 unfoldable pub rows_of : Progress → ℕ → ℕ → Record → List Row
@@ -208,21 +217,21 @@ abbrev pub after_branch : Progress → ℕ → Progress
 after_branch p w = with_edge p in_branches p.edges p.place p.denominator p.guards (p.branches + 1) (p.weights + w)
 
 unfoldable pub next_of : Progress → ℕ → Record → Step
-next_of p at (header n l i) = Next (after_header n l i)
-next_of p at (location x) = Next (after_location p)
-next_of p at (invariant a) = Next (after_invariant p)
-next_of p at (edge s a w) = Next (after_edge p at w)
-next_of p at (guard g) = Next (after_guard p)
-next_of p at (branch b) = Next (after_branch p b.weight)
-next_of p at end = End
+next_of p at (header n l i) = Ok (Some (after_header n l i))
+next_of p at (location x) = Ok (Some (after_location p))
+next_of p at (invariant a) = Ok (Some (after_invariant p))
+next_of p at (edge s a w) = Ok (Some (after_edge p at w))
+next_of p at (guard g) = Ok (Some (after_guard p))
+next_of p at (branch b) = Ok (Some (after_branch p b.weight))
+next_of p at end = Ok None
 
 -- The rows that come before a record's own: is there one, is its kind known, is it whole?
 abbrev pub outer_rows : List ℕ → ℕ → List Row
 outer_rows table at =
-    row 2 at (leb (length table) at)
-    ∷ row 3 at (ltb (kind_at table at) 1)
-    ∷ row 3 at (ltb 7 (kind_at table at))
-    ∷ row 4 at (ltb (length table) (past table at))
+    row Missing at (leb (length table) at)
+    ∷ row UnknownKind at (ltb (kind_at table at) 1)
+    ∷ row UnknownKind at (ltb 7 (kind_at table at))
+    ∷ row CutShort at (ltb (length table) (past table at))
     ∷ []
 
 -- What a record leads to. `size` is the table's length.
@@ -241,7 +250,7 @@ rising (n ∷ m ∷ l) = leb n m && rising (m ∷ l)
 
 -- "Within it the lowest number": the rows of every record stand in the order of their numbers.
 pub rows-rise : (table : List ℕ) (p : Progress) (at size : ℕ) (r : Record)
-    → rising (map (λ x. x.number) (outer_rows table at ++ rows_of p at size r)) ≡ true
+    → rising (map (λ x. number x.reason) (outer_rows table at ++ rows_of p at size r)) ≡ true
 unfolding rising rows_of
 rows-rise table p at size (header n l i) = refl
 rows-rise table p at size (location x) = refl

@@ -1,6 +1,6 @@
 // The edges by number: the edge list, which has the source, the action and the denominator of each, and the places of their
 // records.
-ghost use Rattle.std.specs.Prelude.{◌<◌, min, ◌≡◌, [], map, eqb, get_or, set, length};
+ghost use Rattle.std.specs.Prelude.{◌<◌, min, ◌≡◌, [], map, eqb, get_or, length};
 ghost use Rattle.std.proofs.lemmas.List.Edits.{sets};
 ghost use Rattle.table.specs.Format.{max_edges};
 ghost use Rattle.table.specs.Records.{kind_at};
@@ -14,35 +14,18 @@ use crate::format::{MAX_EDGES, byte_at, two_bytes};
 use crate::model::{Edge, Shape};
 use crate::reading::body_at;
 
-// Edge i of a lent edge list. A slice of structs is proved by a walk of the code, so nothing but the lookup stands here.
-pub(crate) fn edge_at(edges: &[Edge], i: usize) -> Edge
-    requires { i < length edges.now }
+// What stands past the last edge of a list.
+const NO_EDGE: Edge = Edge {
+    source: 0,
+    action: 0,
+    denominator: 0,
+};
+
+// Returns edge i of an edge list, and an edge of zeros past its end.
+pub fn edge_of(edges: &[Edge], i: usize) -> Edge
     ensures { result ≡ get_or edges.now i no_edge_struct }
 {
-    edges[i]
-}
-
-// The same of a list that is held: it is lent for the lookup.
-pub(crate) fn edge_in(edges: [Edge; 128], i: usize) -> Edge
-    requires { i < 128 }
-    ensures { result ≡ get_or edges i no_edge_struct }
-{
-    edge_at(&edges, i)
-}
-
-// Edge i of the edge list, and an edge of zeros past its end.
-pub fn edge_of(edges: [Edge; 128], i: usize) -> Edge
-    ensures { result ≡ get_or edges i no_edge_struct }
-{
-    if i < 128 {
-        edge_in(edges, i)
-    } else {
-        Edge {
-            source: 0,
-            action: 0,
-            denominator: 0,
-        }
-    }
+    edges.get(i).copied().unwrap_or(NO_EDGE)
 }
 
 // Whether the record of an edge stands at a place.
@@ -69,11 +52,7 @@ fn listed_at(table: &[u8], at: usize) -> Edge
 fn no_edges() -> [Edge; 128]
     ensures { result ≡ edge_list [] }
 {
-    [Edge {
-        source: 0,
-        action: 0,
-        denominator: 0,
-    }; 128]
+    [NO_EDGE; MAX_EDGES]
 }
 
 // How many of the edges the edge list has room for.
@@ -103,15 +82,6 @@ pub fn list_edges(table: &[u8], shape: Shape) -> [Edge; 128]
     edges
 }
 
-// Stores a number where the list has room for it.
-fn put(list: &mut [usize], i: usize, value: usize)
-    ensures { list.new ≡ set list.old i value }
-{
-    if i < list.len() {
-        list[i] = value;
-    }
-}
-
 // Fills a list with the places of the edges of the table, by number, as far as it goes. What is after them stays. A caller who
 // wants all places lends at least `shape.edges` numbers.
 pub fn list_places(table: &[u8], shape: Shape, places: &mut [usize])
@@ -126,15 +96,8 @@ pub fn list_places(table: &[u8], shape: Shape, places: &mut [usize])
         if !is_edge(table, at) {
             return;
         }
-        put(places, i, at);
+        slices::put(places, i, at);
         at = next_edge(table, at);
         i = i + 1;
     }
-}
-
-// Number i of a list of places, and 0 past its end.
-pub fn number_at(list: &[usize], i: usize) -> usize
-    ensures { result ≡ get_or list.now i 0 }
-{
-    if i < list.len() { list[i] } else { 0 }
 }

@@ -1,4 +1,4 @@
-// The table layer: reads a model table, refuses it by number and place, and hands out its parts.
+// The table layer: reads a model table, refuses it by reason and place, and hands out its parts.
 #![tactic(auto)]
 
 mod access;
@@ -7,8 +7,10 @@ mod format;
 mod model;
 mod reading;
 mod records;
+mod refusals;
 
 pub use access::{branch_at, branch_count, guard_at, guard_count, invariant_at, label_at, resets};
-pub use edges::{edge_of, list_edges, list_places, number_at};
-pub use model::{Branch, Edge, Guard, Invariant, Reading, Shape};
+pub use edges::{edge_of, list_edges, list_places};
+pub use model::{Branch, Edge, Guard, Invariant, Shape};
 pub use reading::read;
+pub use refusals::{Reason, Refusal};

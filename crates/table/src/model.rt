@@ -1,4 +1,4 @@
-// What reading a table answers, and the parts of a model that are handed out.
+// What is kept of a table that was read, and the parts of a model that are handed out.
 
 // An invariant atom: a bound on a clock at a location. Comparison 0 is <, 1 is <=.
 #[derive(Clone, Copy)]
@@ -36,13 +36,6 @@ pub struct Shape {
     pub first_location: usize,
     pub first_invariant: usize,
     pub first_edge: usize,
-}
-
-// The answer: refused, with document 01's number and place, or read.
-#[derive(Clone, Copy)]
-pub enum Reading {
-    Refused { number: u8, place: usize },
-    Accepted(Shape),
 }
 
 // An edge by its number: source, action and denominator together. Eight bytes, so that a list of 128 takes 1 KB.

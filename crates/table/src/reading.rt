@@ -8,11 +8,12 @@ ghost use Rattle.table.specs.Answer.{reading_of};
 ghost use Rattle.table.specs.Laws.Turns.{Ranged};
 
 use crate::format::{MAX_BYTES, body_length, byte_at, two_bytes};
-use crate::model::{Branch, Guard, Invariant, Reading, Shape};
+use crate::model::{Branch, Guard, Invariant, Shape};
 use crate::records::{
-    Body, Progress, Step, read_branch, read_edge, read_end, read_guard, read_header,
-    read_invariant, read_location,
+    Body, Progress, read_branch, read_edge, read_end, read_guard, read_header, read_invariant,
+    read_location,
 };
+use crate::refusals::{Reason, Refusal};
 
 // What is remembered before the first record.
 fn begin() -> Progress
@@ -56,7 +57,13 @@ fn pass(table: &[u8], at: usize) -> usize
 }
 
 // What the record of a kind leads to, whose body begins with four bytes. `size` is the table's length.
-fn read_kind(p: Progress, at: usize, size: usize, kind: u8, body: Body) -> Step
+fn read_kind(
+    p: Progress,
+    at: usize,
+    size: usize,
+    kind: u8,
+    body: Body,
+) -> Result<Option<Progress>, Refusal>
     requires at_bound { at < 65536 }
     requires ranged { Ranged p at }
     ensures { result ≡ step_of p at size (record_of kind body) }
@@ -98,23 +105,24 @@ fn read_kind(p: Progress, at: usize, size: usize, kind: u8, body: Body) -> Step
 }
 
 // What the record at a place leads to.
-fn read_record(table: &[u8], p: Progress, at: usize) -> Step
+#[tactic(auto, unfolding(crate::specs::Refusals::step_at, crate::specs::Records::record_at))]
+fn read_record(table: &[u8], p: Progress, at: usize) -> Result<Option<Progress>, Refusal>
     requires at_bound { at < 65536 }
     requires ranged { Ranged p at }
     ensures { result ≡ step_at table.now p at }
 {
     if table.len() <= at {
-        return Step::Refused(2, at);
+        return Err(Reason::Missing.at(at));
     }
     let kind = table[at];
     if kind < 1 {
-        return Step::Refused(3, at);
+        return Err(Reason::UnknownKind.at(at));
     }
     if 7 < kind {
-        return Step::Refused(3, at);
+        return Err(Reason::UnknownKind.at(at));
     }
     if table.len() < pass(table, at) {
-        return Step::Refused(4, at);
+        return Err(Reason::CutShort.at(at));
     }
     let body = body_at(table, at);
     read_kind(p, at, table.len(), kind, body)
@@ -138,34 +146,18 @@ fn shape_from(p: Progress) -> Shape
     }
 }
 
-// Reads a table: its counts and where its parts begin, or the first refusal by document 01's number and place.
-pub fn read(table: &[u8]) -> Reading
+// Reads a table: its counts and where its parts begin, or the first refusal by document 01's reason and place.
+pub fn read(table: &[u8]) -> Result<Shape, Refusal>
     ensures { result ≡ reading_of (read_table table.now) }
 {
     if MAX_BYTES < table.len() {
-        return Reading::Refused {
-            number: 1,
-            place: 0,
-        };
+        return Err(Reason::TooLong.at(0));
     }
     let mut p = begin();
     let mut at = 0;
-    loop {
-        let step = read_record(table, p, at);
-        match step {
-            Step::Refused(number, place) => {
-                return Reading::Refused {
-                    number: number,
-                    place: place,
-                };
-            }
-            Step::End => {
-                return Reading::Accepted(shape_from(p));
-            }
-            Step::Next(next) => {
-                at = pass(table, at);
-                p = next;
-            }
-        }
+    while let Some(next) = read_record(table, p, at)? {
+        at = pass(table, at);
+        p = next;
     }
+    Ok(shape_from(p))
 }

@@ -4,12 +4,14 @@ ghost use Rattle.table.specs.Format.{last_bound, last_comparison};
 ghost use Rattle.table.specs.Refusals.{bit_beyond, decide, header_rows, location_rows, invariant_rows, edge_rows, guard_rows};
 ghost use Rattle.table.specs.Refusals.{branch_rows, end_rows, after_header, after_location, after_invariant, after_edge, after_guard};
 ghost use Rattle.table.specs.Refusals.{after_branch};
+ghost use Rattle.std.specs.Prelude.{Ok, Some, None};
 
 use crate::format::{
     MAX_BRANCHES, MAX_CLOCKS, MAX_CONSTANT, MAX_DENOMINATOR, MAX_EDGES, MAX_GUARDS, MAX_INVARIANTS,
     MAX_LOCATIONS,
 };
 use crate::model::{Branch, Guard, Invariant};
+use crate::refusals::{Reason, Refusal};
 
 // The stages of the order, which say what may follow: the header; a location; an invariant atom, an edge or the end; a guard atom
 // or what the last stage allows; a branch, an edge or the end.
@@ -50,15 +52,6 @@ pub(crate) struct Progress {
     pub weights: usize,
 }
 
-// What a record leads to.
-#[derive(Clone, Copy)]
-pub(crate) enum Step {
-    // Document 01's number and place.
-    Refused(u8, usize),
-    Next(Progress),
-    End,
-}
-
 // Is this a comparison of an invariant atom?
 pub(crate) fn is_bound(comparison: u8) -> bool
     ensures { result ≡ leb comparison last_bound }
@@ -90,25 +83,31 @@ pub(crate) fn names_missing_clock(mask: u8, clocks: u8) -> bool
     }
 }
 
-pub(crate) fn read_header(p: Progress, at: usize, clocks: u8, locations: u8, initial: u8) -> Step
-    ensures { result ≡ decide (header_rows p at clocks locations initial) (Step.Next (after_header clocks locations initial)) }
+pub(crate) fn read_header(
+    p: Progress,
+    at: usize,
+    clocks: u8,
+    locations: u8,
+    initial: u8,
+) -> Result<Option<Progress>, Refusal>
+    ensures { result ≡ decide (header_rows p at clocks locations initial) (Ok (Some (after_header clocks locations initial))) }
 {
     if AT_START < p.stage {
-        return Step::Refused(5, at);
+        return Err(Reason::OutOfOrder.at(at));
     }
     if MAX_CLOCKS < clocks {
-        return Step::Refused(6, at);
+        return Err(Reason::BadHeader.at(at));
     }
     if locations < 1 {
-        return Step::Refused(6, at);
+        return Err(Reason::BadHeader.at(at));
     }
     if MAX_LOCATIONS < locations {
-        return Step::Refused(6, at);
+        return Err(Reason::BadHeader.at(at));
     }
     if locations <= initial {
-        return Step::Refused(6, at);
+        return Err(Reason::BadHeader.at(at));
     }
-    Step::Next(Progress {
+    Ok(Some(Progress {
         stage: IN_LOCATIONS,
         clocks: clocks,
         locations: locations,
@@ -121,72 +120,81 @@ pub(crate) fn read_header(p: Progress, at: usize, clocks: u8, locations: u8, ini
         guards: 0,
         branches: 0,
         weights: 0,
-    })
+    }))
 }
 
-pub(crate) fn read_location(p: Progress, at: usize) -> Step
+pub(crate) fn read_location(p: Progress, at: usize) -> Result<Option<Progress>, Refusal>
     requires { p.labels < 65536 }
-    ensures { result ≡ decide (location_rows p at) (Step.Next (after_location p)) }
+    ensures { result ≡ decide (location_rows p at) (Ok (Some (after_location p))) }
 {
     if p.stage != IN_LOCATIONS {
-        return Step::Refused(5, at);
+        return Err(Reason::OutOfOrder.at(at));
     }
     let mut next = p;
     next.labels = p.labels + 1;
     if (p.locations as usize) <= next.labels {
         next.stage = IN_INVARIANTS;
-        return Step::Next(next);
+        return Ok(Some(next));
     }
     next.stage = IN_LOCATIONS;
-    Step::Next(next)
+    Ok(Some(next))
 }
 
-pub(crate) fn read_invariant(p: Progress, at: usize, a: Invariant) -> Step
-    ensures { result ≡ decide (invariant_rows p at a) (Step.Next (after_invariant p)) }
+pub(crate) fn read_invariant(
+    p: Progress,
+    at: usize,
+    a: Invariant,
+) -> Result<Option<Progress>, Refusal>
+    ensures { result ≡ decide (invariant_rows p at a) (Ok (Some (after_invariant p))) }
 {
     if p.stage != IN_INVARIANTS {
-        return Step::Refused(5, at);
+        return Err(Reason::OutOfOrder.at(at));
     }
     if p.locations <= a.location {
-        return Step::Refused(7, at);
+        return Err(Reason::UnknownName.at(at));
     }
     if p.clocks <= a.clock {
-        return Step::Refused(7, at);
+        return Err(Reason::UnknownName.at(at));
     }
     if !is_bound(a.comparison) {
-        return Step::Refused(8, at);
+        return Err(Reason::UnknownComparison.at(at));
     }
     if MAX_CONSTANT < a.constant {
-        return Step::Refused(9, at);
+        return Err(Reason::LargeConstant.at(at));
     }
     if MAX_INVARIANTS <= p.invariants {
-        return Step::Refused(11, at);
+        return Err(Reason::TooMany.at(at));
     }
     let mut next = p;
     next.invariants = p.invariants + 1;
-    Step::Next(next)
+    Ok(Some(next))
 }
 
-pub(crate) fn read_edge(p: Progress, at: usize, source: u8, denominator: usize) -> Step
-    ensures { result ≡ decide (edge_rows p at source denominator) (Step.Next (after_edge p at denominator)) }
+pub(crate) fn read_edge(
+    p: Progress,
+    at: usize,
+    source: u8,
+    denominator: usize,
+) -> Result<Option<Progress>, Refusal>
+    ensures { result ≡ decide (edge_rows p at source denominator) (Ok (Some (after_edge p at denominator))) }
 {
     if p.stage < IN_INVARIANTS {
-        return Step::Refused(5, at);
+        return Err(Reason::OutOfOrder.at(at));
     }
     if p.locations <= source {
-        return Step::Refused(7, at);
+        return Err(Reason::UnknownName.at(at));
     }
     if denominator == 0 {
-        return Step::Refused(10, at);
+        return Err(Reason::BadWeight.at(at));
     }
     if MAX_DENOMINATOR < denominator {
-        return Step::Refused(10, at);
+        return Err(Reason::BadWeight.at(at));
     }
     if MAX_EDGES <= p.edges {
-        return Step::Refused(11, at);
+        return Err(Reason::TooMany.at(at));
     }
     if p.weights != p.denominator {
-        return Step::Refused(12, p.place);
+        return Err(Reason::UnequalWeights.at(p.place));
     }
     let mut next = p;
     next.stage = IN_GUARDS;
@@ -196,71 +204,71 @@ pub(crate) fn read_edge(p: Progress, at: usize, source: u8, denominator: usize) 
     next.guards = 0;
     next.branches = 0;
     next.weights = 0;
-    Step::Next(next)
+    Ok(Some(next))
 }
 
-pub(crate) fn read_guard(p: Progress, at: usize, g: Guard) -> Step
-    ensures { result ≡ decide (guard_rows p at g) (Step.Next (after_guard p)) }
+pub(crate) fn read_guard(p: Progress, at: usize, g: Guard) -> Result<Option<Progress>, Refusal>
+    ensures { result ≡ decide (guard_rows p at g) (Ok (Some (after_guard p))) }
 {
     if p.stage != IN_GUARDS {
-        return Step::Refused(5, at);
+        return Err(Reason::OutOfOrder.at(at));
     }
     if p.clocks <= g.clock {
-        return Step::Refused(7, at);
+        return Err(Reason::UnknownName.at(at));
     }
     if !is_comparison(g.comparison) {
-        return Step::Refused(8, at);
+        return Err(Reason::UnknownComparison.at(at));
     }
     if MAX_CONSTANT < g.constant {
-        return Step::Refused(9, at);
+        return Err(Reason::LargeConstant.at(at));
     }
     if MAX_GUARDS <= p.guards {
-        return Step::Refused(11, at);
+        return Err(Reason::TooMany.at(at));
     }
     let mut next = p;
     next.guards = p.guards + 1;
-    Step::Next(next)
+    Ok(Some(next))
 }
 
-pub(crate) fn read_branch(p: Progress, at: usize, b: Branch) -> Step
+pub(crate) fn read_branch(p: Progress, at: usize, b: Branch) -> Result<Option<Progress>, Refusal>
     requires { p.weights + b.weight < 4294967296 }
-    ensures { result ≡ decide (branch_rows p at b) (Step.Next (after_branch p b.weight)) }
+    ensures { result ≡ decide (branch_rows p at b) (Ok (Some (after_branch p b.weight))) }
 {
     if p.stage < IN_GUARDS {
-        return Step::Refused(5, at);
+        return Err(Reason::OutOfOrder.at(at));
     }
     if p.locations <= b.target {
-        return Step::Refused(7, at);
+        return Err(Reason::UnknownName.at(at));
     }
     if names_missing_clock(b.mask, p.clocks) {
-        return Step::Refused(7, at);
+        return Err(Reason::UnknownName.at(at));
     }
     if b.weight == 0 {
-        return Step::Refused(10, at);
+        return Err(Reason::BadWeight.at(at));
     }
     if MAX_BRANCHES <= p.branches {
-        return Step::Refused(11, at);
+        return Err(Reason::TooMany.at(at));
     }
     let mut next = p;
     next.stage = IN_BRANCHES;
     next.branches = p.branches + 1;
     next.weights = p.weights + b.weight;
-    Step::Next(next)
+    Ok(Some(next))
 }
 
 // The end record. `size` is the table's length.
-pub(crate) fn read_end(p: Progress, at: usize, size: usize) -> Step
+pub(crate) fn read_end(p: Progress, at: usize, size: usize) -> Result<Option<Progress>, Refusal>
     requires { at < 65536 }
-    ensures { result ≡ decide (end_rows p at size) Step.End }
+    ensures { result ≡ decide (end_rows p at size) (Ok None) }
 {
     if p.stage < IN_INVARIANTS {
-        return Step::Refused(5, at);
+        return Err(Reason::OutOfOrder.at(at));
     }
     if p.weights != p.denominator {
-        return Step::Refused(12, p.place);
+        return Err(Reason::UnequalWeights.at(p.place));
     }
     if at + 1 < size {
-        return Step::Refused(13, at + 1);
+        return Err(Reason::TrailingBytes.at(at + 1));
     }
-    Step::End
+    Ok(None)
 }

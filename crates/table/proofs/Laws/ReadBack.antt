@@ -2,7 +2,7 @@
 -- table (`read_back`). So the accepted tables are exactly the tables of such models (`accepted-iff`).
 -- The proof goes from the end of the table to its front (`Reads`): one law puts a record in front (`read-on`), and from it
 -- comes one for each list of the model, which takes what is known of all that follows the list.
-use Rattle.std.specs.Prelude.{ℕ, zero, suc, ◌+◌, ◌*◌, ◌/◌, ◌%◌, ◌^◌, ◌≤◌, ◌<◌, ◌↔◌, ◌≡◌, false, cond, not, eqb, leb, drop}
+use Rattle.std.specs.Prelude.{Ok, Some, ℕ, zero, suc, ◌+◌, ◌*◌, ◌/◌, ◌%◌, ◌^◌, ◌≤◌, ◌<◌, ◌↔◌, ◌≡◌, false, cond, not, eqb, leb, drop}
 use Rattle.std.proofs.Common.{arith, add-zero, div-lt_iff_lt-mul, pow_pos, ◌∙◌, length-append, get_or-drop, le-ltb, le-leb, eq-eqb, ne_eqb}
 use Rattle.std.proofs.Math.Path.{refl, ap}
 use mathlib.Core.List.{List, [], ◌∷◌, ◌++◌, append_assoc}
@@ -12,7 +12,7 @@ use Rattle.table.specs.Format.{body_length, body-short, max_bytes, max_invariant
 use Rattle.table.specs.Model.{Edge, Model, total}
 use Rattle.table.specs.Records.{Record, header, location, invariant, edge, guard, branch, end}
 use Rattle.table.specs.Records.{kind_of, body_of, record_of, body_at, kind_at, record_at, past}
-use Rattle.table.specs.Refusals.{Row, decide, outer_rows, rows_of, next_of, step_at}
+use Rattle.table.specs.Refusals.{Step, Row, decide, outer_rows, rows_of, next_of, step_at}
 use Rattle.table.specs.Refusals.{start, in_locations, in_invariants, after_header, after_location}
 use Rattle.table.specs.Refusals.{after_invariant, after_edge, after_guard, after_branch}
 use Rattle.table.specs.Reading.{Item, item_at, Run, refused, ended, before, run, run_table}
@@ -26,8 +26,6 @@ use Rattle.table.specs.declared.model.Invariant.{Invariant}
 use Rattle.table.specs.declared.model.Guard.{Guard}
 use Rattle.table.specs.declared.model.Branch.{Branch}
 use Rattle.table.specs.declared.records.Progress.{Progress}
-use Rattle.table.specs.declared.records.Step.{Step}
-use Rattle.table.specs.declared.records.Step.TheVariants.{Next}
 
 -- A row that does not hold: `omega allowed` proves it.
 same-allowed : (a b : ℕ) → a ≡ b → not (eqb a b) ≡ false
@@ -111,7 +109,7 @@ ended-before i (ended q items) g e = ap (add i.place i.content) e
 -- The record r at a place is allowed where p is remembered, q is remembered after it, and with the parts g it says the parts g'.
 record Allowed (t : List ℕ) (p : Progress) (at : ℕ) (r : Record) (q : Progress) (g g' : Parts) : Type 0 where
   own : Denied (rows_of p at (length t) r)
-  next : next_of p at r ≡ Next q
+  next : next_of p at r ≡ Ok (Some q)
   said : add at r g ≡ g'
 
 -- One record more in front.

@@ -1,6 +1,6 @@
 -- From the answer of `read` to the model that a table was read as, and the items that the accessors then give: what the layer above
 -- goes by.
-use Rattle.std.specs.Prelude.{ℕ, ◌<◌, ◌≡◌, refl, List, map, length, get_or}
+use Rattle.std.specs.Prelude.{Ok, Err, ℕ, ◌<◌, ◌≡◌, refl, List, map, length, get_or}
 use Rattle.std.proofs.Common.{arith, ◌∙◌, ap}
 use Rattle.std.proofs.lemmas.List.{length-map}
 use Rattle.std.proofs.Math.ListN.{get_or-map}
@@ -19,23 +19,24 @@ use Rattle.table.proofs.Laws.Models.{sound, table-written, places}
 use Rattle.table.proofs.Laws.Items.{label_is, invariant-is, places-are, structs-are, EdgeParts, edge-parts-are}
 use Rattle.table.specs.declared.model.Edge.{Edge as EdgeStruct}
 use Rattle.table.specs.declared.model.Shape.{Shape}
-use Rattle.table.specs.declared.model.Reading.TheVariants.{Refused, Accepted}
+use Rattle.table.specs.Reasons.{refusal_at}
+use Rattle.table.specs.declared.refusals.Refusal.{Refusal}
 
--- A table that `read` refuses is refused by the definition, with that number and place.
-pub refusal-of : (table : List ℕ) (n place : ℕ) → Refused n place ≡ reading_of (read_table table) → read_table table ≡ refusal n place
+-- A table that `read` refuses is refused by the definition, with that reason and place.
+pub refusal-of : (table : List ℕ) (r : Refusal) → Err r ≡ reading_of (read_table table) → read_table table ≡ refusal r.reason r.place
 unfolding reading_of
-refusal-of table n place given = of (read_table table) given
+refusal-of table r given = of (read_table table) given
   where
-    of : (a : Answer) → Refused n place ≡ reading_of a → a ≡ refusal n place
-    of (refusal k q) e = cc
+    of : (a : Answer) → Err r ≡ reading_of a → a ≡ refusal r.reason r.place
+    of (refusal k q) e = let same : refusal_at k q ≡ r = cc in rw (← same) refl
     of (accepted m) e = cc
 
 -- A table that `read` accepts is read as a model, with the shape that it gives; and there is one such model.
-pub reads_of : (table : List ℕ) (shape : Shape) → Accepted shape ≡ reading_of (read_table table) → (m : Model) × Reads table shape m
+pub reads_of : (table : List ℕ) (shape : Shape) → Ok shape ≡ reading_of (read_table table) → (m : Model) × Reads table shape m
 unfolding reading_of
 reads_of table shape given = of (read_table table) refl given
   where
-    of : (a : Answer) → read_table table ≡ a → Accepted shape ≡ reading_of a → (m : Model) × Reads table shape m
+    of : (a : Answer) → read_table table ≡ a → Ok shape ≡ reading_of a → (m : Model) × Reads table shape m
     of (refusal n p) answer e = absurd (let z : ◌≡◌ {A = ℕ} 0 1 = cc in omega arith)
     of (accepted m) answer e = (m, record { answer = answer; shape_is = cc })
 

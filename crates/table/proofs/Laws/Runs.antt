@@ -1,7 +1,7 @@
 -- What an accepted table went through. A step that was not refused denies every row of its record; so a table that was
 -- accepted is a header and then, record by record, the rest (`Whole`, `Rest`). `Models` draws the theorems from that.
 use Rattle.std.specs.Prelude.{ℕ, zero, suc, ◌+◌, ◌*◌, ◌/◌, ◌%◌, ◌≤◌, ◌<◌, ◌⊎◌, ◌≡◌, refl, Bool, true, false, cond}
-use Rattle.std.specs.Prelude.{not, List, [], ◌∷◌, ◌++◌, eqb, leb, ltb, length, get_or, drop}
+use Rattle.std.specs.Prelude.{Ok, Err, Some, None, not, List, [], ◌∷◌, ◌++◌, eqb, leb, ltb, length, get_or, drop}
 use Rattle.std.proofs.Common.{arith, add-one, inl, inr, sym, ap, subst, drop-cons, add-zero, add-suc}
 use Rattle.std.proofs.Common.{suc-add, ltb-false, leb-true, leb-false, eqb-true}
 use Rattle.std.proofs.lemmas.Bool.{eqb-false, not-false}
@@ -9,7 +9,7 @@ use Rattle.table.specs.Format.{body_length, max_bytes}
 use Rattle.table.specs.Model.{Model}
 use Rattle.table.specs.Records.{Record, header, location, invariant, edge, guard, branch, end}
 use Rattle.table.specs.Records.{kind_of, body_of, record_of, body_at, kind_at, record_at, past}
-use Rattle.table.specs.Refusals.{Row, decide, in_locations, in_invariants, outer_rows, rows_of, next_of, step_at, start}
+use Rattle.table.specs.Refusals.{Step, Row, decide, in_locations, in_invariants, outer_rows, rows_of, next_of, step_at, start}
 use Rattle.table.specs.Refusals.{header_rows, location_rows, invariant_rows, edge_rows, guard_rows, branch_rows, end_rows}
 use Rattle.table.specs.Refusals.{after_header, after_location, after_invariant, after_edge, after_guard, after_branch}
 use Rattle.table.specs.Reading.{Item, item_at, Run, refused, ended, before, go, run, run_table}
@@ -19,8 +19,7 @@ use Rattle.table.specs.declared.model.Invariant.{Invariant}
 use Rattle.table.specs.declared.model.Guard.{Guard}
 use Rattle.table.specs.declared.model.Branch.{Branch}
 use Rattle.table.specs.declared.records.Progress.{Progress}
-use Rattle.table.specs.declared.records.Step.{Step}
-use Rattle.table.specs.declared.records.Step.TheVariants.{Refused, Next, End}
+use Rattle.table.specs.declared.refusals.Reason.TheVariants.{TooLong}
 
 -- No row of a list holds.
 abbrev pub Denied : List Row → Type 0
@@ -39,9 +38,9 @@ pub ruleset denials = (arith, ltb-false, leb-false, unequal-false, zero-false)
 
 -- A step that is no refusal.
 abbrev pub Passes : Step → Type 0
-Passes (Refused n p) = ⊥
-Passes (Next q) = Unit
-Passes End = Unit
+Passes (Err r) = ⊥
+Passes (Ok (Some q)) = Unit
+Passes (Ok None) = Unit
 
 first-denied : (b : Bool) (x y s : Step) → cond b x y ≡ s → (x ≡ s → ⊥) → (b ≡ false) × (y ≡ s)
 first-denied true x y s e never = absurd (never e)
@@ -68,15 +67,15 @@ stepped t p at s e ok =
     record { outer = outer; own = own; next = next }
 
 -- A record that another may follow ends within the table, past its beginning.
-pub next-within : (t : List ℕ) (p q : Progress) (at : ℕ) → step_at t p at ≡ Next q → (at < past t at) × (past t at ≤ length t)
+pub next-within : (t : List ℕ) (p q : Progress) (at : ℕ) → step_at t p at ≡ Ok (Some q) → (at < past t at) × (past t at ≤ length t)
 unfolding past
-next-within t p q at e = let s = stepped t p at (Next q) e tt in omega denials
+next-within t p q at e = let s = stepped t p at (Ok (Some q)) e tt in omega denials
 
-go_same : (a b : Progress → Run) (p : Progress) (i : Item) (s : Step) → ((q : Progress) → s ≡ Next q → a q ≡ b q)
+go_same : (a b : Progress → Run) (p : Progress) (i : Item) (s : Step) → ((q : Progress) → s ≡ Ok (Some q) → a q ≡ b q)
     → go a p i s ≡ go b p i s
-go_same a b p i (Refused n k) same = refl
-go_same a b p i (Next q) same = ap (before i) (same q refl)
-go_same a b p i End same = refl
+go_same a b p i (Err r) same = refl
+go_same a b p i (Ok (Some q)) same = ap (before i) (same q refl)
+go_same a b p i (Ok None) same = refl
 
 -- Any fuel that is more than the bytes left gives the same run.
 pub run-enough : (f g : ℕ) (t : List ℕ) (p : Progress) (at : ℕ) → length t < f + at → length t < g + at
@@ -141,7 +140,7 @@ stands t at d =
     let first = spelled-first (body_length (kind_at t at)) t at 1 (omega denials) in
     record { long = omega arith; bytes = λ bytes. rw (k, b bytes, ← first, add-one) (drop-cons t at 0 (omega denials)) }
 
-only_end : (p : Progress) (at : ℕ) (r : Record) → next_of p at r ≡ End → r ≡ end
+only_end : (p : Progress) (at : ℕ) (r : Record) → next_of p at r ≡ Ok None → r ≡ end
 unfolding next_of
 only_end p at (header n l i) e = cc
 only_end p at (location x) e = cc
@@ -151,18 +150,18 @@ only_end p at (guard g) e = cc
 only_end p at (branch b) e = cc
 only_end p at end e = refl
 
-at-end : (t : List ℕ) (p : Progress) (at : ℕ) → step_at t p at ≡ End → Denied (end_rows p at (length t)) × Stands t at end
+at-end : (t : List ℕ) (p : Progress) (at : ℕ) → step_at t p at ≡ Ok None → Denied (end_rows p at (length t)) × Stands t at end
 unfolding rows_of
 at-end t p at e =
-    let s = stepped t p at End e tt in
+    let s = stepped t p at (Ok None) e tt in
     subst (λ r. Denied (rows_of p at (length t) r) × Stands t at r) (only_end p at _ s.next) (s.own, stands t at s.outer)
 
 -- The end record is the table's last byte.
-pub end-within : (t : List ℕ) (p : Progress) (at : ℕ) → step_at t p at ≡ End → at + 1 ≡ length t
+pub end-within : (t : List ℕ) (p : Progress) (at : ℕ) → step_at t p at ≡ Ok None → at + 1 ≡ length t
 unfolding body_of past
 end-within t p at e =
     let (d, w) = at-end t p at e in
-    let s = stepped t p at End e tt in
+    let s = stepped t p at (Ok None) e tt in
     omega denials
 
 -- The rest of a table from a place on, where p is remembered: its records up to the end, where q is remembered, and the
@@ -206,14 +205,14 @@ location-stage p = split (leb p.locations (p.labels + 1)) refl
 abbrev Onward : List ℕ → Progress → ℕ → Progress → Parts → Type 0
 Onward t p at q g = 0 < p.stage → Rest t p at q g
 
-onward : {t : List ℕ} {p p' q : Progress} {at : ℕ} {g : Parts} → Next p ≡ Next p' → Onward t p' at q g → Onward t p at q g
+onward : {t : List ℕ} {p p' q : Progress} {at : ℕ} {g : Parts} → ◌≡◌ {A = Step} (Ok (Some p)) (Ok (Some p')) → Onward t p' at q g → Onward t p at q g
 onward {t} {p} {p'} {q} {at} {g} e rest = let same : p' ≡ p = cc in subst (λ x. Onward t x at q g) same rest
 
-no_step : {p : Progress} → End ≡ Next p → ⊥
+no_step : {p : Progress} → ◌≡◌ {A = Step} (Ok None) (Ok (Some p)) → ⊥
 no_step e = let z : ◌≡◌ {A = ℕ} 0 1 = cc in omega arith
 
 -- A record after the header is one of the rest.
-follow : {t : List ℕ} {p p' q : Progress} {at : ℕ} {g : Parts} (r : Record) → Stepped t p at r (Next p') → Stands t at r
+follow : {t : List ℕ} {p p' q : Progress} {at : ℕ} {g : Parts} (r : Record) → Stepped t p at r (Ok (Some p')) → Stands t at r
     → Onward t p' (past t at) q g → Onward t p at q (add at r g)
 unfolding rows_of next_of
 follow (header n l i) s w rest h = absurd (omega denials)
@@ -227,7 +226,7 @@ follow (branch b) s w rest h = a-branch b s.own w (onward s.next rest (omega den
 follow end s w rest h = absurd (no_step s.next)
 
 -- The first record is the header.
-open_at : {t : List ℕ} {p p' q : Progress} {at : ℕ} {g : Parts} (r : Record) → Stepped t p at r (Next p') → Stands t at r
+open_at : {t : List ℕ} {p p' q : Progress} {at : ℕ} {g : Parts} (r : Record) → Stepped t p at r (Ok (Some p')) → Stands t at r
     → Onward t p' (past t at) q g → p.stage ≡ 0
     → Whole t p at q (model_with (add at r g).clocks (add at r g).locations (add at r g).initial (add at r g))
 unfolding rows_of next_of add
@@ -244,27 +243,27 @@ abbrev Ran : List ℕ → Progress → ℕ → Run → Type 0
 Ran t p at (refused n k) = Unit
 Ran t p at (ended q items) = Onward t p at q (gather items) × (p.stage ≡ 0 → Whole t p at q (model_of items))
 
-ran-before : (t : List ℕ) (p p' : Progress) (at : ℕ) (r : Run) → step_at t p at ≡ Next p' → Ran t p' (past t at) r
+ran-before : (t : List ℕ) (p p' : Progress) (at : ℕ) (r : Run) → step_at t p at ≡ Ok (Some p') → Ran t p' (past t at) r
     → Ran t p at (before (item_at t at) r)
 unfolding gather item_at model_of
 ran-before t p p' at (refused n k) e rest = tt
 ran-before t p p' at (ended q items) e rest =
-    let s = stepped t p at (Next p') e tt in
+    let s = stepped t p at (Ok (Some p')) e tt in
     let w = stands t at s.outer in
     (follow (record_at t at) s w rest.0, open_at (record_at t at) s w rest.0)
 
-ran-end : (t : List ℕ) (p : Progress) (at : ℕ) → step_at t p at ≡ End → Ran t p at (ended p (item_at t at ∷ []))
+ran-end : (t : List ℕ) (p : Progress) (at : ℕ) → step_at t p at ≡ Ok None → Ran t p at (ended p (item_at t at ∷ []))
 unfolding gather item_at add
 ran-end t p at e =
     let (d, w) = at-end t p at e in
-    let only = only_end p at _ (stepped t p at End e tt).next in
+    let only = only_end p at _ (stepped t p at (Ok None) e tt).next in
     (λ h. rw only (the_end d w), λ h. absurd (omega denials))
 
 ran-go : (t : List ℕ) (p : Progress) (at : ℕ) (rest : Progress → Run) (s : Step) → step_at t p at ≡ s
     → ((q : Progress) → Ran t q (past t at) (rest q)) → Ran t p at (go rest p (item_at t at) s)
-ran-go t p at rest (Refused n k) e ran = tt
-ran-go t p at rest (Next q) e ran = ran-before t p q at (rest q) e (ran q)
-ran-go t p at rest End e ran = ran-end t p at e
+ran-go t p at rest (Err r) e ran = tt
+ran-go t p at rest (Ok (Some q)) e ran = ran-before t p q at (rest q) e (ran q)
+ran-go t p at rest (Ok None) e ran = ran-end t p at e
 
 ran : (f : ℕ) (t : List ℕ) (p : Progress) (at : ℕ) → Ran t p at (run f t p at)
 unfolding run
@@ -276,7 +275,7 @@ pub run-whole : (t : List ℕ) (q : Progress) (items : List Item) → run_table 
 unfolding run_table
 run-whole t q items e = (subst (Ran t start 0) e (short (ltb max_bytes (length t)))).1 refl
   where
-    short : (b : Bool) → Ran t start 0 (cond b (refused 1 0) (run (suc (length t)) t start 0))
+    short : (b : Bool) → Ran t start 0 (cond b (refused TooLong 0) (run (suc (length t)) t start 0))
     short true = tt
     short false = ran (suc (length t)) t start 0
 

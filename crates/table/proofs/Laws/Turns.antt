@@ -1,5 +1,5 @@
 -- Laws for the loop that reads a table: what each turn of it does to the run, and that its numbers stay small.
-use Rattle.std.specs.Prelude.{ℕ, zero, suc, ◌+◌, ◌-◌, ◌≤◌, ◌<◌, ◌≡◌, refl, List, length}
+use Rattle.std.specs.Prelude.{Result, Ok, Err, Some, None, ℕ, zero, suc, ◌+◌, ◌-◌, ◌≤◌, ◌<◌, ◌≡◌, refl, List, length}
 use Rattle.std.proofs.Math.Nat.{sub-zero}
 use Rattle.std.proofs.Common.{sym, ◌∙◌, arith, ne_eqb, le-ltb, lt-ltb}
 use Rattle.std.proofs.Math.Path.{ap}
@@ -10,36 +10,35 @@ use Rattle.table.proofs.Laws.Runs.{stepped, next-within, run-enough}
 use Rattle.table.specs.Laws.Models.{shape_from}
 use Rattle.table.proofs.Laws.Models.{shape}
 use Rattle.table.specs.Laws.Turns.{Ranged}
-use Rattle.table.specs.Refusals.{next_of, step_at, start}
+use Rattle.table.specs.Reasons.{refusal_at}
+use Rattle.table.specs.Refusals.{Step, next_of, step_at, start}
 use Rattle.table.specs.Reading.{Item, item_at, Run, refused, ended, before, go, run, run_table, answer_of, read_table}
 use Rattle.table.specs.Written.{Bytes}
-use Rattle.table.specs.declared.model.Reading.{Reading}
-use Rattle.table.specs.declared.model.Reading.TheVariants.{Refused, Accepted}
+use Rattle.table.specs.declared.model.Shape.{Shape}
 use Rattle.table.specs.declared.records.Body.{Body}
 use Rattle.table.specs.declared.records.Progress.{Progress}
-use Rattle.table.specs.declared.records.Step.{Step}
-use Rattle.table.specs.declared.records.Step.TheVariants as step
+use Rattle.table.specs.declared.refusals.Refusal.{Refusal}
+use Rattle.table.specs.declared.refusals.Reason.TheVariants.{TooLong}
 
 -- The answer that a run leads to.
-abbrev pub told : Run → Reading
-told (refused n p) = Refused n p
-told (ended q items) = Accepted (shape_from q)
+abbrev pub told : Run → Result Shape Refusal
+told (refused r p) = Err (refusal_at r p)
+told (ended q items) = Ok (shape_from q)
 
 told-before : (i : Item) (r : Run) → told (before i r) ≡ told r
-told-before i (refused n p) = refl
+told-before i (refused r p) = refl
 told-before i (ended q items) = refl
 
 module _ (fuel : ℕ) (table : List ℕ) (p : Progress) (at : ℕ) where
-  pub turn-refused : (n place : ℕ) → step_at table p at ≡ step.Refused n place
-      → told (run (suc fuel) table p at) ≡ Refused n place
+  pub turn-refused : (r : Refusal) → step_at table p at ≡ Err r → told (run (suc fuel) table p at) ≡ Err r
   unfolding run
-  turn-refused n place e = ap (λ (s : Step). told (go (λ q. run fuel table q (past table at)) p (item_at table at) s)) e
+  turn-refused r e = ap (λ (s : Step). told (go (λ q. run fuel table q (past table at)) p (item_at table at) s)) e
 
-  pub turn_end : step_at table p at ≡ step.End → told (run (suc fuel) table p at) ≡ Accepted (shape_from p)
+  pub turn_end : step_at table p at ≡ Ok None → told (run (suc fuel) table p at) ≡ Ok (shape_from p)
   unfolding run
   turn_end e = ap (λ (s : Step). told (go (λ q. run fuel table q (past table at)) p (item_at table at) s)) e
 
-  pub turn-next : (q : Progress) → step_at table p at ≡ step.Next q
+  pub turn-next : (q : Progress) → step_at table p at ≡ Ok (Some q)
       → told (run (suc fuel) table p at) ≡ told (run fuel table q (past table at))
   unfolding run
   turn-next q e =
@@ -53,7 +52,7 @@ unfolding record_of
 other-kind kind b h₁ h₂ h₃ h₄ h₅ h₆ =
     simp (ne_eqb kind 1 h₁, ne_eqb kind 2 h₂, ne_eqb kind 3 h₃, ne_eqb kind 4 h₄, ne_eqb kind 5 h₅, ne_eqb kind 6 h₆)
 
-next-same : (a b : Progress) → step.Next a ≡ step.Next b → a ≡ b
+next-same : (a b : Progress) → ◌≡◌ {A = Step} (Ok (Some a)) (Ok (Some b)) → a ≡ b
 next-same a b e = cc
 
 -- What a record adds to the sum of weights.
@@ -79,7 +78,7 @@ light (suc (suc (suc (suc (suc (suc (suc k))))))) b ha hb =
     let other : ℕ = suc (suc (suc (suc (suc (suc (suc k)))))) in
     rw (other-kind other b (omega arith) (omega arith) (omega arith) (omega arith) (omega arith) (omega arith)) (omega arith)
 
-ranged-after : (r : Record) (p q : Progress) (at next : ℕ) → next_of p at r ≡ step.Next q → weight_of r ≤ 65535 → at < next
+ranged-after : (r : Record) (p q : Progress) (at next : ℕ) → next_of p at r ≡ Ok (Some q) → weight_of r ≤ 65535 → at < next
     → Ranged p at → Ranged q next
 unfolding next_of weight_of
 ranged-after (header n l i) p q at next e w h ranged = rw (← next-same _ _ e) (omega arith)
@@ -91,12 +90,12 @@ ranged-after (branch b) p q at next e w h ranged = rw (← next-same _ _ e) (ome
 ranged-after end p q at next e w h ranged = absurd (let z : ◌≡◌ {A = ℕ} 0 1 = cc in omega arith)
 
 -- The numbers stay small.
-pub ranged-next : (table : List ℕ) (p q : Progress) (at : ℕ) → Bytes table → step_at table p at ≡ step.Next q → at < past table at
+pub ranged-next : (table : List ℕ) (p q : Progress) (at : ℕ) → Bytes table → step_at table p at ≡ Ok (Some q) → at < past table at
     → Ranged p at → Ranged q (past table at)
 unfolding record_at body_at
 ranged-next table p q at bytes e h ranged =
     ranged-after (record_at table at) p q at (past table at)
-    (stepped table p at (step.Next q) e tt).next
+    (stepped table p at (Ok (Some q)) e tt).next
     (light (kind_at table at) (body_at table at) (bytes (at + 1)) (bytes (at + 2))) h ranged
 
 -- The loop's invariant: reading on from here gives what reading from the start gives.
@@ -115,7 +114,7 @@ underway-start table h =
       same = rw sub-zero;
     }
 
-pub underway-next : (table : List ℕ) (p q : Progress) (at : ℕ) → Bytes table → Underway table p at → step_at table p at ≡ step.Next q
+pub underway-next : (table : List ℕ) (p q : Progress) (at : ℕ) → Bytes table → Underway table p at → step_at table p at ≡ Ok (Some q)
     → Underway table q (past table at)
 underway-next table p q at bytes u e =
     let within = next-within table p q at e in
@@ -132,8 +131,8 @@ underway-next table p q at bytes u e =
 -- What the run tells is the answer of the definition.
 told-ended : (table : List ℕ) (r : Run) → run_table table ≡ r → told r ≡ reading_of (answer_of r)
 unfolding reading_of
-told-ended table (refused n p) e = refl
-told-ended table (ended q items) e = ap Accepted (shape table q items e)
+told-ended table (refused r p) e = refl
+told-ended table (ended q items) e = ap Ok (shape table q items e)
 
 run_short : (table : List ℕ) → length table ≤ max_bytes → run_table table ≡ run (suc (length table)) table start 0
 unfolding run_table
@@ -144,16 +143,15 @@ pub told-read : (table : List ℕ) → length table ≤ max_bytes
 unfolding read_table
 told-read table h = ap told (sym (run_short table h)) ∙ told-ended table (run_table table) refl
 
-pub read-long : (table : List ℕ) → max_bytes < length table → reading_of (read_table table) ≡ Refused 1 0
+pub read-long : (table : List ℕ) → max_bytes < length table → reading_of (read_table table) ≡ Err (refusal_at TooLong 0)
 unfolding read_table run_table reading_of
 read-long table h = rw (lt-ltb max_bytes (length table) h)
 
-pub underway-refused : (table : List ℕ) (p : Progress) (at n place : ℕ) → Underway table p at
-    → step_at table p at ≡ step.Refused n place
-    → Refused n place ≡ reading_of (read_table table)
-underway-refused table p at n place u e =
-    sym (turn-refused (length table - at) table p at n place e) ∙ u.same ∙ told-read table u.short
+pub underway-refused : (table : List ℕ) (p : Progress) (at : ℕ) (r : Refusal) → Underway table p at → step_at table p at ≡ Err r
+    → Err r ≡ reading_of (read_table table)
+underway-refused table p at r u e =
+    sym (turn-refused (length table - at) table p at r e) ∙ u.same ∙ told-read table u.short
 
-pub underway-end : (table : List ℕ) (p : Progress) (at : ℕ) → Underway table p at → step_at table p at ≡ step.End
-    → Accepted (shape_from p) ≡ reading_of (read_table table)
+pub underway-end : (table : List ℕ) (p : Progress) (at : ℕ) → Underway table p at → step_at table p at ≡ Ok None
+    → Ok (shape_from p) ≡ reading_of (read_table table)
 underway-end table p at u e = sym (turn_end (length table - at) table p at e) ∙ u.same ∙ told-read table u.short

@@ -5,8 +5,8 @@ use lib.ListN.{length}
 use Rattle.table.proofs.Laws.Turns.{Underway}
 use Rattle.table.proofs.reading.read.Given as goal
 
-abbrev pub invariant-loop-number : goal.invariant-loop-number
-invariant-loop-number l = Underway l.table l.p l.at
+abbrev pub invariant-loop-next : goal.invariant-loop-next
+invariant-loop-next l = Underway l.table l.p l.at
 
-abbrev pub decreases-loop-number : goal.decreases-loop-number
-decreases-loop-number l = length l.table - l.at
+abbrev pub decreases-loop-next : goal.decreases-loop-next
+decreases-loop-next l = length l.table - l.at
