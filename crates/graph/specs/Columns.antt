@@ -1,17 +1,13 @@
 -- The two lent slices in which a graph stands. The graph slice is cut into columns of 16-bit numbers, one behind the other; the edge slice
 -- has a row of 32-bit numbers for each edge.
 use Rattle.std.specs.Prelude.{ℕ, ◌+◌, ◌*◌, ◌%◌, List, get_or, set}
+use Rattle.graph.specs.declared.columns.Column.{Column}
 
 -- "Nothing": what a fresh graph slice holds at every place. A place past the end of a slice that was cut short holds it too.
 abbrev pub nothing : ℕ
 nothing = 65535
 
--- A column: where it begins in the slice, and how many numbers it has.
-pub record Column : Type 0 where
-  pub from : ℕ
-  pub size : ℕ
-
--- The number at a place of a column.
+-- The number at a place of a column: of a `Column`, which says where it begins in the slice, and how many numbers it has.
 unfoldable pub load : Column → List ℕ → ℕ → ℕ
 load column graph i = get_or graph (column.from + i) nothing
 

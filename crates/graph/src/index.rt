@@ -4,19 +4,12 @@ ghost use Rattle.graph.specs.Readers.{bucket_of, region_head, region_link, regio
 ghost use Rattle.graph.specs.Writers.{with_region};
 
 use crate::classes::reset_class;
+use crate::columns::{CLASSES, NOTHING, REGION_HEADS, REGION_LINKS};
 use crate::regions::class_of;
-use crate::slices::{load, store};
 use crate::slots::{slot_mask, slot_target};
 
-const REGION_HEADS: usize = 10690;
-
-const REGION_LINKS: usize = 18882;
-
-const CLASSES: usize = 22978;
-
-const NOTHING: usize = 65535;
-
 // Returns the bucket of a clock class and a location.
+#[tactic(auto, unfolding(crate::specs::Readers::bucket_of))]
 fn bucket_of(class: usize, location: usize) -> usize
     ensures { (result ≡ bucket_of class location) × (result < 8192) }
 {
@@ -24,17 +17,19 @@ fn bucket_of(class: usize, location: usize) -> usize
 }
 
 // Returns the last region of the bucket of a clock class and a location.
+#[tactic(auto, unfolding(crate::specs::Readers::region_head))]
 fn region_head(graph: &[u16], class: usize, location: usize) -> usize
     ensures { (result ≡ region_head graph.now class location) × (result < 65536) }
 {
-    load(graph, REGION_HEADS + bucket_of(class, location))
+    REGION_HEADS.get(graph, bucket_of(class, location))
 }
 
 // Returns the region before one in its bucket.
+#[tactic(auto, unfolding(crate::specs::Readers::region_link))]
 fn region_link(graph: &[u16], region: usize) -> usize
     ensures { (result ≡ region_link graph.now region) × (result < 65536) }
 {
-    load(graph, REGION_LINKS + region % 4096)
+    REGION_LINKS.get(graph, region)
 }
 
 // Returns the region of a clock class and a location, or 65,535 if there is none.
@@ -42,8 +37,7 @@ pub fn region_at(graph: &[u16], class: usize, location: usize) -> usize
     ensures { (result ≡ region_at graph.now class location) × (result < 65536) }
 {
     let mut region = region_head(graph, class, location);
-    let mut steps: usize = 0;
-    while steps < 4096 {
+    for _step in 0..REGION_LINKS.size {
         if region == NOTHING {
             return NOTHING;
         }
@@ -51,13 +45,13 @@ pub fn region_at(graph: &[u16], class: usize, location: usize) -> usize
             return region;
         }
         region = region_link(graph, region);
-        steps = steps + 1;
     }
     NOTHING
 }
 
 // Returns the region where a slot leads from the regions of a clock class, or 65,535 if none was stored
 // with the clock class after the reset.
+#[tactic(auto, unfolding(crate::specs::Readers::landing_of))]
 pub fn landing_of(graph: &[u16], class: usize, slot: usize) -> usize
     ensures { (result ≡ landing_of graph.now class slot) × (result < 65536) }
 {
@@ -66,11 +60,12 @@ pub fn landing_of(graph: &[u16], class: usize, slot: usize) -> usize
 }
 
 // Stores a region with its clock class; it is now the last of its bucket.
+#[tactic(auto, unfolding(crate::specs::Writers::with_region))]
 pub fn store_region(region: usize, class: usize, location: usize, graph: &mut [u16])
     ensures { graph.new ≡ with_region graph.old region class location }
 {
     let head = region_head(graph, class, location);
-    store(CLASSES + region % 4096, class, graph);
-    store(REGION_LINKS + region % 4096, head, graph);
-    store(REGION_HEADS + bucket_of(class, location), region, graph);
+    CLASSES.set(region, class, graph);
+    REGION_LINKS.set(region, head, graph);
+    REGION_HEADS.set(bucket_of(class, location), region, graph);
 }

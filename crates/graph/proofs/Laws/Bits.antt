@@ -10,7 +10,8 @@ use Rattle.std.proofs.Math.Dec.{eqb}
 use Rattle.graph.proofs.Laws.Latest.{decide, cases}
 use Rattle.std.specs.Int.Bits.{bit_or, or_zero_l, or_zero_r, or_self}
 use Rattle.std.proofs.lemmas.Nat.{or_shr, or_mod}
-use Rattle.graph.specs.Columns.{Column, load, store, most_regions, most_edges, available}
+use Rattle.graph.specs.declared.columns.Column.{Column}
+use Rattle.graph.specs.Columns.{load, store, most_regions, most_edges, available}
 use Rattle.graph.specs.Readers.{available_word, bit_of, is_available}
 use Rattle.graph.specs.Writers.{cleared_words, with_none_available, with_available}
 use Rattle.graph.proofs.Laws.Columns.{Lent, Kept, apart, kept_same, kept_then, store_length, load_stored, load-modulo, load-other}

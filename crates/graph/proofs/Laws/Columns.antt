@@ -1,22 +1,17 @@
 -- Loading after storing: what was stored is read back, and every other place and every other column stays.
-use Rattle.std.specs.Prelude.{ℕ, zero, suc, ◌+◌, ◌%◌, ◌≤◌, ◌<◌, ◌≡◌, refl, Bool, true, false, cond, ◌||◌, List, [], ◌∷◌, ◌⊎◌, leb, eqb}
-use Rattle.std.specs.Prelude.{length, get_or}
+use Rattle.std.specs.Prelude.{ℕ, ◌+◌, ◌%◌, ◌≤◌, ◌<◌, ◌≡◌, refl, Bool, true, false, cond, ◌||◌, List, [], ◌∷◌, ◌⊎◌, leb, eqb}
+use Rattle.std.specs.Prelude.{length}
 use Rattle.std.proofs.Common.{arith, ◌∙◌, inl, inr, leb-true}
 use Rattle.std.proofs.Math.Nat.{mod-eq_of_lt}
 use Rattle.std.proofs.Math.Logic.{⊎_elim}
 use Rattle.std.proofs.Math.ListN.{length-set, get_or-eq_default}
 use Rattle.std.proofs.Math.Seq.{get_or-set_same, get_or-set_other, set_out}
-use Rattle.graph.specs.Columns.{nothing, Column, load, store, short, middle, long}
+use Rattle.graph.specs.declared.columns.Column.{Column}
+use Rattle.graph.specs.Columns.{nothing, load, store, short, middle, long}
 use Rattle.graph.specs.Columns.{labels, edge_starts, edge_numbers, slot_starts, slot_keys, branch_slots}
 use Rattle.graph.specs.Columns.{class_heads, class_links, region_heads, region_links, classes, locations, delays, available_counts}
 use Rattle.graph.specs.Columns.{available}
 use Rattle.graph.specs.Columns.{resets, class_delays, slot_locations, key_heads, key_links, source_heads, source_links}
-
--- Within a list the default does not matter.
-pub default-same : (l : List ℕ) (i d e : ℕ) → i < length l → get_or l i d ≡ get_or l i e
-default-same [] i d e h = absurd (omega (arith, h))
-default-same (x ∷ l) zero d e h = refl
-default-same (x ∷ l) (suc i) d e h = default-same l i d e (omega (arith, h))
 
 -- A column is lent: the slice goes at least to its end.
 abbrev pub Lent : Column → List ℕ → Type 0

@@ -4,7 +4,8 @@ use Rattle.std.specs.Prelude.{ℕ, ◌+◌, ◌*◌, ◌-◌, ◌%◌, ◌<◌, 
 use Rattle.std.specs.Prelude.{◌⊎◌}
 use Rattle.std.proofs.Common.{arith, sym, ◌∙◌, ap, subst, inl, inr}
 use Rattle.std.proofs.Math.Nat.{mod-lt}
-use Rattle.graph.specs.Columns.{nothing, Column, load, store, most_regions, most_locations, most_edges, most_branches, most_slots}
+use Rattle.graph.specs.declared.columns.Column.{Column}
+use Rattle.graph.specs.Columns.{nothing, load, store, most_regions, most_locations, most_edges, most_branches, most_slots}
 use Rattle.graph.specs.Columns.{labels, edge_starts, edge_numbers, slot_starts, slot_keys, branch_slots}
 use Rattle.graph.specs.Columns.{class_heads, class_links, region_heads, region_links, classes, locations, delays, available_counts}
 use Rattle.graph.specs.Columns.{resets, class_delays, slot_locations, key_heads, key_links, source_heads, source_links}

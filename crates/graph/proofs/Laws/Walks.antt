@@ -1,7 +1,7 @@
 -- The cases of what the code does step by step: along the links of a bucket or of a class, word by word, and where a reset is known.
 use Prim.Native.Nat.{ℕ, zero, suc, ◌+◌, ◌*◌, ◌-◌, ◌%◌, ◌≤◌, ◌<◌}
 use native.Mathlib.Omega.{arith}
-use Rattle.std.specs.Prelude.{◌≡◌, Bool, true, false, ◌⊎◌, eqb, length}
+use Rattle.std.specs.Prelude.{◌≡◌, Bool, true, false, ◌⊎◌, eqb}
 use Rattle.std.proofs.Math.Path.{refl, sym, ap}
 use Rattle.std.proofs.Common.{◌∙◌, inl, inr, eqb-true, eq-eqb, ne_eqb}
 use Rattle.std.proofs.Math.Bool.{cond}
@@ -9,7 +9,6 @@ use mathlib.Core.List.{List, [], ◌∷◌}
 use Rattle.graph.specs.Columns.{nothing, store, most_regions, resets, available}
 use Rattle.graph.specs.Readers.{class_of, region_head, region_link, walk, region_at, reset_class, source_head, source_link, sources_from}
 use Rattle.graph.specs.Readers.{sources_of}
-use Rattle.graph.proofs.Laws.Columns.{store_length}
 use Rattle.graph.proofs.Laws.Latest.{both}
 use Rattle.graph.specs.Writers.{cleared_words, with_none_available, with_source, with_reset}
 
@@ -107,12 +106,6 @@ module _ (graph : List ℕ) (region : ℕ) where
   pub cleared-none : graph ≡ cleared_words graph region 0
   unfolding cleared_words
   cleared-none = refl
-
-  pub cleared-length : (words : ℕ) → length (cleared_words graph region words) ≡ length graph
-  unfolding cleared_words
-  cleared-length zero = refl
-  cleared-length (suc words) =
-      store_length available (cleared_words graph region words) (8 * (region % most_regions) + words) 0 ∙ cleared-length words
 
   pub cleared_more : (graph' : List ℕ) (words : ℕ) → graph' ≡ cleared_words graph region words
       → store available graph' (8 * (region % most_regions) + words) 0 ≡ cleared_words graph region (words + 1)

@@ -1,4 +1,4 @@
--- Loop: the walk from here with the steps that are left finds what the whole walk finds. Measure: the steps that are left.
+-- Loop: the walk from here with the steps that are left finds what the whole walk finds.
 use Prim.Native.Nat.{ℕ, ◌+◌}
 use Prim.Native.Nat.{◌-◌}
 use mathlib.Core.Path.{sym, ◌∙◌, ap}
@@ -7,8 +7,8 @@ use Rattle.graph.specs.Readers.{walk}
 use Rattle.graph.proofs.Laws.Walks.{walk_start, walk_ends, walk_here, walk-on, walk-over}
 use Rattle.graph.proofs.index.region_at.Goals as goal
 
-pub loop-steps-init : goal.loop-steps-init
-loop-steps-init c =
+pub loop-step-init : goal.loop-step-init
+loop-step-init c =
     let args = c.args in (
       ap (λ (x : ℕ). walk args.graph.now 4096 x args.class) c.region_head-region.ensures.0 ∙ walk_start args.graph.now args.class
           args.location,
@@ -18,8 +18,8 @@ loop-steps-init c =
 pub returns-then-region-eq-NOTHING : goal.returns-then-region-eq-NOTHING
 returns-then-region-eq-NOTHING c =
     let args = c.args in
-    let loop = c.loop-steps in (
-      walk_ends args.graph.now args.class loop.steps loop.region c.loop-steps-test.true c.if-region-eq-NOTHING.true
+    let loop = c.loop-step in (
+      walk_ends args.graph.now args.class loop._step loop.region c.loop-step-test.true c.if-region-eq-NOTHING.true
           ∙ loop.invariant.0,
       omega arith,
     )
@@ -27,23 +27,23 @@ returns-then-region-eq-NOTHING c =
 pub returns-then-class_of-class : goal.returns-then-class_of-class
 returns-then-class_of-class c =
     let args = c.args in
-    let loop = c.loop-steps in
-    let loop-test = c.loop-steps-test in
+    let loop = c.loop-step in
+    let loop-test = c.loop-step-test in
     let if1 = c.if-region-eq-NOTHING in (
-      walk_here args.graph.now args.class loop.steps loop.region loop-test.true if1.false (sym c.class_of.ensures.0
+      walk_here args.graph.now args.class loop._step loop.region loop-test.true if1.false (sym c.class_of.ensures.0
           ∙ c.if-class_of-class.true) ∙ loop.invariant.0,
       loop.invariant.1,
     )
 
-pub loop-steps-preserved : goal.loop-steps-preserved
-loop-steps-preserved c =
+pub loop-step-preserved : goal.loop-step-preserved
+loop-step-preserved c =
     let args = c.args in
-    let loop = c.loop-steps in
-    let loop-test = c.loop-steps-test in
+    let loop = c.loop-step in
+    let loop-test = c.loop-step-test in
     let if1 = c.if-region-eq-NOTHING in
     let class-of = c.class_of in (
-      ap (λ (x : ℕ). walk args.graph.now (4096 - (loop.steps + 1)) x args.class) c.region_link-region.ensures.0 ∙ walk-on args.graph.now
-          args.class loop.steps loop.region loop-test.true if1.false (λ e. c.if-class_of-class.false (class-of.ensures.0 ∙ e))
+      ap (λ (x : ℕ). walk args.graph.now (4096 - (loop._step + 1)) x args.class) c.region_link-region.ensures.0 ∙ walk-on args.graph.now
+          args.class loop._step loop.region loop-test.true if1.false (λ e. c.if-class_of-class.false (class-of.ensures.0 ∙ e))
           ∙ loop.invariant.0,
       c.region_link-region.ensures.1,
     )
@@ -51,5 +51,5 @@ loop-steps-preserved c =
 pub returns : goal.returns
 returns c =
     let args = c.args in
-    let loop = c.loop-steps in
-    (walk-over args.graph.now args.class loop.steps loop.region c.loop-steps-test.false ∙ loop.invariant.0, omega arith)
+    let loop = c.loop-step in
+    (walk-over args.graph.now args.class loop._step loop.region c.loop-step-test.false ∙ loop.invariant.0, omega arith)

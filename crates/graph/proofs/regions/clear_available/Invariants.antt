@@ -1,11 +1,7 @@
--- Loop: the first words are cleared, and nothing else has changed. Measure: the words that are left.
-use Prim.Native.Nat.{◌-◌, ◌≤◌}
+-- Loop: the first words are cleared, and nothing else has changed.
 use mathlib.Core.Path.{◌≡◌}
 use Rattle.graph.specs.Writers.{cleared_words}
 use Rattle.graph.proofs.regions.clear_available.Given as goal
 
 abbrev pub invariant-loop-word : goal.invariant-loop-word
-invariant-loop-word l = (l.graph ≡ cleared_words l.initial.graph l.region l.word) × (l.word ≤ 8)
-
-abbrev pub decreases-loop-word : goal.decreases-loop-word
-decreases-loop-word l = 8 - l.word
+invariant-loop-word l = l.graph ≡ cleared_words l.initial.graph l.region l.word

@@ -1,9 +1,0 @@
--- `store_class_delay` meets its contract. Assumes nothing.
-use Rattle.graph.specs.Writers.{with_class_delay}
-use Rattle.graph.specs.Columns.{store}
-use borrow.Author.Rules.{rules}
-use Rattle.graph.proofs.classes.store_class_delay.Goals as goal
-
-pub returns : goal.returns
-unfolding with_class_delay store
-returns c = search rules

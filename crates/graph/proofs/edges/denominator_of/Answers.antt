@@ -1,9 +1,0 @@
--- `denominator_of` meets its contract. Assumes nothing.
-use Rattle.graph.specs.Readers.{denominator_of}
-use Rattle.graph.specs.Columns.{edge_place}
-use borrow.Author.Rules.{rules}
-use Rattle.graph.proofs.edges.denominator_of.Goals as goal
-
-pub returns : goal.returns
-unfolding denominator_of edge_place
-returns c = search rules
