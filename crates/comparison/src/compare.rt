@@ -5,6 +5,7 @@ ghost use Rattle.comparison.specs.Held.{most_items, most_edges, count_at, weight
 ghost use Rattle.comparison.specs.Compare.{Below, reaches_number, all_marked, delays_answered, number_of, Gathered};
 ghost use Rattle.comparison.specs.Compare.{weighed, balanced, balanced_over, edges_alike};
 
+use crate::held::Graph;
 use crate::slices::{at16, at64, index_at, is_set, put64};
 
 // Do two items have the same number?
@@ -23,354 +24,239 @@ pub(crate) fn set_mark(v: usize, marks: &mut [u8])
     }
 }
 
-// Sets the mark of the number of each item that y reaches by delay.
-fn mark_delays(n: usize, y: usize, list: &[u64], nexts: &[u16], marks: &mut [u8])
-    ensures marks_len_unchanged { length marks.new ≡ length marks.old }
-    ensures by_index { (v : ℕ) → v < length marks.old → get_or marks.new v 0
-        ≡ cond (reaches_number n list.now nexts.now v y) 1 (get_or marks.old v 0) }
-{
-    let mut at = y;
-    let mut left = n;
-    while 0 < left {
+impl Graph<'_> {
+    // Sets the mark of the number of each item that y reaches by delay.
+    fn mark_delays(self, y: usize, list: &[u64], marks: &mut [u8])
+        ensures marks_len_unchanged { length marks.new ≡ length marks.old }
+        ensures by_index { (v : ℕ) → v < length marks.old → get_or marks.new v 0
+            ≡ cond (reaches_number self.entry.n list.now self.entry.nexts.now v y) 1 (get_or marks.old v 0) }
+    {
+        let mut at = y;
+        let mut left = self.n;
+        while 0 < left {
+            set_mark(index_at(list, at), marks);
+            let next = at16(self.nexts, at);
+            if self.n <= next {
+                return;
+            }
+            at = next;
+            left = left - 1;
+        }
         set_mark(index_at(list, at), marks);
-        let next = at16(nexts, at);
-        if n <= next {
-            return;
-        }
-        at = next;
-        left = left - 1;
     }
-    set_mark(index_at(list, at), marks);
-}
 
-// Is the number of each item that x reaches by delay marked?
-fn are_marked(n: usize, x: usize, list: &[u64], nexts: &[u16], marks: &[u8]) -> bool
-    ensures { result ≡ all_marked n list.now nexts.now marks.now x }
-{
-    let mut at = x;
-    let mut left = n;
-    while 0 < left {
-        if !is_set(marks, index_at(list, at)) {
-            return false;
-        }
-        let next = at16(nexts, at);
-        if n <= next {
-            return true;
-        }
-        at = next;
-        left = left - 1;
-    }
-    is_set(marks, index_at(list, at))
-}
-
-// Is each item that x reaches by delay related to one that y reaches?
-pub(crate) fn delays_match(n: usize, x: usize, y: usize, list: &[u64], nexts: &[u16]) -> bool
-    ensures { Below n list.now → x < n → result ≡ delays_answered n list.now nexts.now x y }
-{
-    let mut marks = [0u8; 4096];
-    mark_delays(n, y, list, nexts, &mut marks);
-    are_marked(n, x, list, nexts, &marks)
-}
-
-// Where branch i of edge e leads from item x.
-pub(crate) fn target_at(
-    x: usize,
-    e: usize,
-    i: usize,
-    resets: &[u16],
-    spots: &[u16],
-    rows: &[u16],
-) -> usize
-    requires { (x < most_items) × (e < most_edges) × (i < 65536) }
-    ensures { result ≡ target_at resets.now spots.now rows.now x e i }
-{
-    let mask = at16(rows, 32 * e + 4 + 3 * i);
-    let spot = at16(rows, 32 * e + 5 + 3 * i);
-    let clocks = at16(resets, 16 * x + mask);
-    at16(spots, 64 * clocks + spot)
-}
-
-// Is there an item x, an edge e and a branch i, by the most that there may be?
-fn is_inside(x: usize, e: usize, i: usize) -> bool
-    ensures { result ≡ is_inside x e i }
-{
-    if 4096 <= x {
-        return false;
-    }
-    if 128 <= e {
-        return false;
-    }
-    i < 65536
-}
-
-// The same for all numbers: 0 past the items, edges and branches that there may be.
-pub fn target_of(x: usize, e: usize, i: usize, resets: &[u16], spots: &[u16], rows: &[u16]) -> usize
-    ensures { result ≡ target_of resets.now spots.now rows.now x e i }
-{
-    if !is_inside(x, e, i) {
-        return 0;
-    }
-    target_at(x, e, i, resets, spots, rows)
-}
-
-// ---- Edges by the numbers of the blocks that their branches lead to, which are looked up once
-
-// Keeps these numbers of edge e at item x, as many as there is room for.
-pub(crate) fn gather(
-    x: usize,
-    e: usize,
-    list: &[u64],
-    resets: &[u16],
-    spots: &[u16],
-    rows: &[u16],
-    got: &mut [u64],
-)
-    requires { (x < most_items) × (e < most_edges) }
-    ensures got_len_unchanged { length got.new ≡ length got.old }
-    ensures gathered { Gathered x e list.now resets.now spots.now rows.now got.new }
-{
-    let count = at16(rows, 32 * e + 2);
-    let mut i = 0;
-    while i < count {
-        let target = target_at(x, e, i, resets, spots, rows);
-        put64(i, at64(list, target), got);
-        i = i + 1;
-    }
-}
-
-// The number of the block that branch i of edge e at item x leads to: the one kept, or looked up where there was no room for it.
-pub(crate) fn number_at(
-    x: usize,
-    e: usize,
-    i: usize,
-    list: &[u64],
-    resets: &[u16],
-    spots: &[u16],
-    rows: &[u16],
-    got: &[u64],
-) -> u64
-    requires { (x < most_items) × (e < most_edges) × (i < 65536) }
-    ensures { i < count_at rows.now e
-        → Gathered x e list.now resets.now spots.now rows.now got.now
-        → result ≡ number_of list.now resets.now spots.now rows.now x e i }
-{
-    if i < got.len() {
-        return at64(got, i);
-    }
-    at64(list, target_at(x, e, i, resets, spots, rows))
-}
-
-// The weight of branch i of edge e at item x, where it leads to the block with number v, and else 0.
-fn weigh_one(
-    v: u64,
-    x: usize,
-    e: usize,
-    i: usize,
-    list: &[u64],
-    resets: &[u16],
-    spots: &[u16],
-    rows: &[u16],
-    got: &[u64],
-) -> u64
-    requires { (x < most_items) × (e < most_edges) × (i < 65536) }
-    ensures upper_bound { result < 65536 }
-    ensures value { i < count_at rows.now e
-        → Gathered x e list.now resets.now spots.now rows.now got.now
-        → result ≡ cond (eqb (number_of list.now resets.now spots.now rows.now x e i) v)
-        (weight_at rows.now e i) 0 }
-{
-    if number_at(x, e, i, list, resets, spots, rows, got) == v {
-        return at16(rows, 32 * e + 3 + 3 * i) as u64;
-    }
-    0
-}
-
-// The weight of edge e at item x that lands in the block with number v. The promise speaks of any c whose number in the list is v.
-pub(crate) fn weigh(
-    v: u64,
-    x: usize,
-    e: usize,
-    list: &[u64],
-    resets: &[u16],
-    spots: &[u16],
-    rows: &[u16],
-    got: &[u64],
-) -> u64
-    requires { (x < most_items) × (e < most_edges) }
-    ensures upper_bound { result < 4294967296 }
-    ensures by_index { (c : ℕ) → v ≡ get_or list.now c 0
-        → Gathered x e list.now resets.now spots.now rows.now got.now
-        → result ≡ weighed list.now resets.now spots.now rows.now c x e }
-{
-    let count = at16(rows, 32 * e + 2);
-    let mut total = 0u64;
-    let mut i = count;
-    while 0 < i {
-        i = i - 1;
-        total = total + weigh_one(v, x, e, i, list, resets, spots, rows, got);
-    }
-    total
-}
-
-// Do edge e at x and edge f at y give the block with number v the same share? The promise speaks of any c whose number in the list is v.
-fn is_balanced(
-    x: usize,
-    e: usize,
-    y: usize,
-    f: usize,
-    v: u64,
-    list: &[u64],
-    resets: &[u16],
-    spots: &[u16],
-    rows: &[u16],
-    ones: &[u64],
-    others: &[u64],
-) -> bool
-    requires { (x < most_items) × (e < most_edges) × (y < most_items) × (f < most_edges) }
-    ensures { (c : ℕ) → v ≡ get_or list.now c 0
-        → Gathered x e list.now resets.now spots.now rows.now ones.now
-        → Gathered y f list.now resets.now spots.now rows.now others.now
-        → result ≡ balanced list.now resets.now spots.now rows.now x e y f c }
-{
-    let one = weigh(v, x, e, list, resets, spots, rows, ones);
-    let other = weigh(v, y, f, list, resets, spots, rows, others);
-    one * (at16(rows, 32 * f + 1) as u64) == other * (at16(rows, 32 * e + 1) as u64)
-}
-
-// Do they at each target of edge e at x?
-fn is_balanced_there(
-    x: usize,
-    e: usize,
-    y: usize,
-    f: usize,
-    list: &[u64],
-    resets: &[u16],
-    spots: &[u16],
-    rows: &[u16],
-    ones: &[u64],
-    others: &[u64],
-) -> bool
-    requires { (x < most_items) × (e < most_edges) × (y < most_items) × (f < most_edges) }
-    ensures { Gathered x e list.now resets.now spots.now rows.now ones.now
-        → Gathered y f list.now resets.now spots.now rows.now others.now
-        → result ≡ balanced_over list.now resets.now spots.now rows.now x e x e y f }
-{
-    let count = at16(rows, 32 * e + 2);
-    let mut i = 0;
-    while i < count {
-        let v = number_at(x, e, i, list, resets, spots, rows, ones);
-        if !is_balanced(x, e, y, f, v, list, resets, spots, rows, ones, others) {
-            return false;
-        }
-        i = i + 1;
-    }
-    true
-}
-
-// Does a branch of edge e at x lead to the block with number v? Nothing is said where the answer is no.
-fn is_into(
-    v: u64,
-    x: usize,
-    e: usize,
-    list: &[u64],
-    resets: &[u16],
-    spots: &[u16],
-    rows: &[u16],
-    got: &[u64],
-) -> bool
-    requires { (x < most_items) × (e < most_edges) }
-    ensures { result ≡ true → Gathered x e list.now resets.now spots.now rows.now
-        got.now
-        → (i : ℕ) × (i < count_at rows.now e)
-        × (number_of list.now resets.now spots.now rows.now x e i ≡ v) }
-{
-    let count = at16(rows, 32 * e + 2);
-    let mut i = 0;
-    while i < count {
-        if number_at(x, e, i, list, resets, spots, rows, got) == v {
-            return true;
-        }
-        i = i + 1;
-    }
-    false
-}
-
-// Where edge e at x and edge f at y give the same shares at each target of edge e, do they at each target of edge f? Shares are weighed
-// only at blocks that edge e does not lead to.
-fn is_balanced_back(
-    x: usize,
-    e: usize,
-    y: usize,
-    f: usize,
-    list: &[u64],
-    resets: &[u16],
-    spots: &[u16],
-    rows: &[u16],
-    ones: &[u64],
-    others: &[u64],
-) -> bool
-    requires { (x < most_items) × (e < most_edges) × (y < most_items) × (f < most_edges) }
-    ensures { Gathered x e list.now resets.now spots.now rows.now ones.now
-        → Gathered y f list.now resets.now spots.now rows.now others.now
-        → balanced_over list.now resets.now spots.now rows.now x e x e y f ≡ true
-        → result ≡ balanced_over list.now resets.now spots.now rows.now y f x e y f }
-{
-    let count = at16(rows, 32 * f + 2);
-    let mut i = 0;
-    while i < count {
-        let v = number_at(y, f, i, list, resets, spots, rows, others);
-        if !is_into(v, x, e, list, resets, spots, rows, ones) {
-            if !is_balanced(x, e, y, f, v, list, resets, spots, rows, ones, others) {
+    // Is the number of each item that x reaches by delay marked?
+    fn are_marked(self, x: usize, list: &[u64], marks: &[u8]) -> bool
+        ensures { result ≡ all_marked self.entry.n list.now self.entry.nexts.now marks.now x }
+    {
+        let mut at = x;
+        let mut left = self.n;
+        while 0 < left {
+            if !is_set(marks, index_at(list, at)) {
                 return false;
             }
+            let next = at16(self.nexts, at);
+            if self.n <= next {
+                return true;
+            }
+            at = next;
+            left = left - 1;
         }
-        i = i + 1;
+        is_set(marks, index_at(list, at))
     }
-    true
-}
 
-// Have edge e at x and edge f at y the same action, and the same share for every block?
-pub(crate) fn edges_alike(
-    x: usize,
-    e: usize,
-    y: usize,
-    f: usize,
-    list: &[u64],
-    resets: &[u16],
-    spots: &[u16],
-    rows: &[u16],
-) -> bool
-    requires { (x < most_items) × (e < most_edges) × (y < most_items) × (f < most_edges) }
-    ensures { result ≡ edges_alike list.now resets.now spots.now rows.now x e y f }
-{
-    if at16(rows, 32 * e) != at16(rows, 32 * f) {
-        return false;
+    // Is each item that x reaches by delay related to one that y reaches?
+    pub(crate) fn delays_match(self, x: usize, y: usize, list: &[u64]) -> bool
+        ensures { Below self.entry.n list.now → x < self.entry.n → result ≡ delays_answered self.entry.n list.now self.entry.nexts.now
+            x y }
+    {
+        let mut marks = [0u8; 4096];
+        self.mark_delays(y, list, &mut marks);
+        self.are_marked(x, list, &marks)
     }
-    // An edge has at most 8 branches; any past them would be looked up anew.
-    let mut ones = [0u64; 8];
-    let mut others = [0u64; 8];
-    gather(x, e, list, resets, spots, rows, &mut ones);
-    gather(y, f, list, resets, spots, rows, &mut others);
-    if !is_balanced_there(x, e, y, f, list, resets, spots, rows, &ones, &others) {
-        return false;
-    }
-    is_balanced_back(x, e, y, f, list, resets, spots, rows, &ones, &others)
-}
 
-// Are x and y items, of so many items and edges as there may be?
-pub(crate) fn are_items(n: usize, k: usize, x: usize, y: usize) -> bool
-    ensures k_le_most_edges { result ≡ true → (k ≤ most_edges) × (x < most_items) × (y < most_items) }
-    ensures value { n ≤ most_items → k ≤ most_edges → x < n → y < n → result ≡ true }
-    ensures value_2 { (n ≤ x → result ≡ false) × (n ≤ y → result ≡ false) }
-{
-    if 4096 < n {
-        return false;
+    // ---- Edges by the numbers of the blocks that their branches lead to, which are looked up once
+
+    // Keeps these numbers of edge e at item x, as many as there is room for.
+    pub(crate) fn gather(self, x: usize, e: usize, list: &[u64], got: &mut [u64])
+        requires { (x < most_items) × (e < most_edges) }
+        ensures got_len_unchanged { length got.new ≡ length got.old }
+        ensures gathered { Gathered x e list.now self.entry.resets.now self.entry.spots.now self.entry.rows.now got.new }
+    {
+        let count = at16(self.rows, 32 * e + 2);
+        let mut i = 0;
+        while i < count {
+            let target = self.target_at(x, e, i);
+            put64(i, at64(list, target), got);
+            i = i + 1;
+        }
     }
-    if 128 < k {
-        return false;
+
+    // The number of the block that branch i of edge e at item x leads to: the one kept, or looked up where there was no room for it.
+    pub(crate) fn number_at(self, x: usize, e: usize, i: usize, list: &[u64], got: &[u64]) -> u64
+        requires { (x < most_items) × (e < most_edges) × (i < 65536) }
+        ensures { i < count_at self.entry.rows.now e
+            → Gathered x e list.now self.entry.resets.now self.entry.spots.now self.entry.rows.now got.now
+            → result ≡ number_of list.now self.entry.resets.now self.entry.spots.now self.entry.rows.now x e i }
+    {
+        if i < got.len() {
+            return at64(got, i);
+        }
+        at64(list, self.target_at(x, e, i))
     }
-    if n <= x {
-        return false;
+
+    // The weight of branch i of edge e at item x, where it leads to the block with number v, and else 0.
+    fn weigh_one(self, v: u64, x: usize, e: usize, i: usize, list: &[u64], got: &[u64]) -> u64
+        requires { (x < most_items) × (e < most_edges) × (i < 65536) }
+        ensures upper_bound { result < 65536 }
+        ensures value { i < count_at self.entry.rows.now e
+            → Gathered x e list.now self.entry.resets.now self.entry.spots.now self.entry.rows.now got.now
+            → result ≡ cond (eqb (number_of list.now self.entry.resets.now self.entry.spots.now self.entry.rows.now x e i) v)
+            (weight_at self.entry.rows.now e i) 0 }
+    {
+        if self.number_at(x, e, i, list, got) == v {
+            return at16(self.rows, 32 * e + 3 + 3 * i) as u64;
+        }
+        0
     }
-    y < n
+
+    // The weight of edge e at item x that lands in the block with number v. The promise speaks of any c whose number in the list is v.
+    pub(crate) fn weigh(self, v: u64, x: usize, e: usize, list: &[u64], got: &[u64]) -> u64
+        requires { (x < most_items) × (e < most_edges) }
+        ensures upper_bound { result < 4294967296 }
+        ensures by_index { (c : ℕ) → v ≡ get_or list.now c 0
+            → Gathered x e list.now self.entry.resets.now self.entry.spots.now self.entry.rows.now got.now
+            → result ≡ weighed list.now self.entry.resets.now self.entry.spots.now self.entry.rows.now c x e }
+    {
+        let count = at16(self.rows, 32 * e + 2);
+        let mut total = 0u64;
+        let mut i = count;
+        while 0 < i {
+            i = i - 1;
+            total = total + self.weigh_one(v, x, e, i, list, got);
+        }
+        total
+    }
+
+    // Do edge e at x and edge f at y give the block with number v the same share? The promise speaks of any c whose number in the list is
+    // v.
+    fn is_balanced(
+        self,
+        x: usize,
+        e: usize,
+        y: usize,
+        f: usize,
+        v: u64,
+        list: &[u64],
+        ones: &[u64],
+        others: &[u64],
+    ) -> bool
+        requires { (x < most_items) × (e < most_edges) × (y < most_items) × (f < most_edges) }
+        ensures { (c : ℕ) → v ≡ get_or list.now c 0
+            → Gathered x e list.now self.entry.resets.now self.entry.spots.now self.entry.rows.now ones.now
+            → Gathered y f list.now self.entry.resets.now self.entry.spots.now self.entry.rows.now others.now
+            → result ≡ balanced list.now self.entry.resets.now self.entry.spots.now self.entry.rows.now x e y f c }
+    {
+        let one = self.weigh(v, x, e, list, ones);
+        let other = self.weigh(v, y, f, list, others);
+        one * (at16(self.rows, 32 * f + 1) as u64) == other * (at16(self.rows, 32 * e + 1) as u64)
+    }
+
+    // Do they at each target of edge e at x?
+    fn is_balanced_there(
+        self,
+        x: usize,
+        e: usize,
+        y: usize,
+        f: usize,
+        list: &[u64],
+        ones: &[u64],
+        others: &[u64],
+    ) -> bool
+        requires { (x < most_items) × (e < most_edges) × (y < most_items) × (f < most_edges) }
+        ensures { Gathered x e list.now self.entry.resets.now self.entry.spots.now self.entry.rows.now ones.now
+            → Gathered y f list.now self.entry.resets.now self.entry.spots.now self.entry.rows.now others.now
+            → result ≡ balanced_over list.now self.entry.resets.now self.entry.spots.now self.entry.rows.now x e x e y f }
+    {
+        let count = at16(self.rows, 32 * e + 2);
+        let mut i = 0;
+        while i < count {
+            let v = self.number_at(x, e, i, list, ones);
+            if !self.is_balanced(x, e, y, f, v, list, ones, others) {
+                return false;
+            }
+            i = i + 1;
+        }
+        true
+    }
+
+    // Does a branch of edge e at x lead to the block with number v? Nothing is said where the answer is no.
+    fn is_into(self, v: u64, x: usize, e: usize, list: &[u64], got: &[u64]) -> bool
+        requires { (x < most_items) × (e < most_edges) }
+        ensures { result ≡ true → Gathered x e list.now self.entry.resets.now self.entry.spots.now self.entry.rows.now
+            got.now
+            → (i : ℕ) × (i < count_at self.entry.rows.now e)
+            × (number_of list.now self.entry.resets.now self.entry.spots.now self.entry.rows.now x e i ≡ v) }
+    {
+        let count = at16(self.rows, 32 * e + 2);
+        let mut i = 0;
+        while i < count {
+            if self.number_at(x, e, i, list, got) == v {
+                return true;
+            }
+            i = i + 1;
+        }
+        false
+    }
+
+    // Where edge e at x and edge f at y give the same shares at each target of edge e, do they at each target of edge f? Shares are
+    // weighed only at blocks that edge e does not lead to.
+    fn is_balanced_back(
+        self,
+        x: usize,
+        e: usize,
+        y: usize,
+        f: usize,
+        list: &[u64],
+        ones: &[u64],
+        others: &[u64],
+    ) -> bool
+        requires { (x < most_items) × (e < most_edges) × (y < most_items) × (f < most_edges) }
+        ensures { Gathered x e list.now self.entry.resets.now self.entry.spots.now self.entry.rows.now ones.now
+            → Gathered y f list.now self.entry.resets.now self.entry.spots.now self.entry.rows.now others.now
+            → balanced_over list.now self.entry.resets.now self.entry.spots.now self.entry.rows.now x e x e y f ≡ true
+            → result ≡ balanced_over list.now self.entry.resets.now self.entry.spots.now self.entry.rows.now y f x e y f }
+    {
+        let count = at16(self.rows, 32 * f + 2);
+        let mut i = 0;
+        while i < count {
+            let v = self.number_at(y, f, i, list, others);
+            if !self.is_into(v, x, e, list, ones) {
+                if !self.is_balanced(x, e, y, f, v, list, ones, others) {
+                    return false;
+                }
+            }
+            i = i + 1;
+        }
+        true
+    }
+
+    // Have edge e at x and edge f at y the same action, and the same share for every block?
+    pub(crate) fn edges_alike(self, x: usize, e: usize, y: usize, f: usize, list: &[u64]) -> bool
+        requires { (x < most_items) × (e < most_edges) × (y < most_items) × (f < most_edges) }
+        ensures { result ≡ edges_alike list.now self.entry.resets.now self.entry.spots.now self.entry.rows.now x e y f }
+    {
+        if at16(self.rows, 32 * e) != at16(self.rows, 32 * f) {
+            return false;
+        }
+        // An edge has at most 8 branches; any past them would be looked up anew.
+        let mut ones = [0u64; 8];
+        let mut others = [0u64; 8];
+        self.gather(x, e, list, &mut ones);
+        self.gather(y, f, list, &mut others);
+        if !self.is_balanced_there(x, e, y, f, list, &ones, &others) {
+            return false;
+        }
+        self.is_balanced_back(x, e, y, f, list, &ones, &others)
+    }
 }

@@ -5,13 +5,12 @@
 
 mod codes;
 mod compare;
+mod held;
 mod keys;
 mod next;
 mod slices;
 mod twins;
 
-pub use compare::target_of;
+pub use held::Graph;
 pub use keys::forget_keys;
-pub use next::{is_keyed_next, is_next};
-pub use slices::{at16, at64, index_at, is_clear, is_set, open_edge};
-pub use twins::is_twin;
+pub use slices::{at16, at64, index_at, is_clear, is_set};

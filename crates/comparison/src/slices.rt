@@ -73,47 +73,8 @@ fn is_one(x: u8) -> bool
 }
 
 // A number of one byte.
-fn byte_at(list: &[u8], i: usize) -> usize
+pub(crate) fn byte_at(list: &[u8], i: usize) -> usize
     ensures { result ≡ get_or list.now i 0 }
 {
     if i < list.len() { list[i] as usize } else { 0 }
-}
-
-// What the flags tell of the edges below e at item x.
-fn told_at(x: usize, e: usize, flags: &[u8]) -> usize
-    requires { (x < most_items) × (0 < e) × (e ≤ most_edges) }
-    ensures { result ≡ told_at flags.now x e }
-{
-    let last = byte_at(flags, 128 * x + (e - 1));
-    if last <= e { last } else { 0 }
-}
-
-// The number after the last edge below e that is available at item x, and 0 where none is.
-pub(crate) fn open_below(x: usize, e: usize, flags: &[u8]) -> usize
-    requires { (x < most_items) × (e ≤ most_edges) }
-    ensures upper_bound { result ≤ e }
-    ensures by_index { (n k : ℕ) → Opened n k flags.now → x < n → e ≤ k
-        → result ≡ open_below (is_open flags.now x) e }
-{
-    if e == 0 {
-        return 0;
-    }
-    told_at(x, e, flags)
-}
-
-// The same for all numbers and all flags (`open_edge`): 0 past the items and edges that there may be, and where the number that stands
-// there is past e.
-pub fn open_edge(x: usize, e: usize, flags: &[u8]) -> usize
-    ensures { result ≡ open_edge flags.now x e }
-{
-    if 4096 <= x {
-        return 0;
-    }
-    if 128 < e {
-        return 0;
-    }
-    if e == 0 {
-        return 0;
-    }
-    told_at(x, e, flags)
 }

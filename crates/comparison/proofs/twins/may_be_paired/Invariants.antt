@@ -1,9 +1,0 @@
--- `may_be_paired` meets its contract. Assumes nothing.
-use Prim.Native.Nat.{◌≤◌}
-use Rattle.comparison.proofs.twins.may_be_paired.Given as goal
-
-abbrev pub invariant-loop-e : goal.invariant-loop-e
-invariant-loop-e l = (l.e ≤ l.k) × (l.f ≤ l.k)
-
-abbrev pub decreases-loop-e : goal.decreases-loop-e
-decreases-loop-e l = l.e
