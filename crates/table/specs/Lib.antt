@@ -16,6 +16,7 @@
 pub mod Format
 pub mod Model
 pub mod Records
+pub mod Codes
 pub mod Reasons
 pub mod Refusals
 pub mod Reading

@@ -2,6 +2,7 @@
 #![tactic(auto)]
 
 mod access;
+mod codes;
 mod edges;
 mod format;
 mod model;
@@ -10,6 +11,7 @@ mod records;
 mod refusals;
 
 pub use access::{branch_at, branch_count, guard_at, guard_count, invariant_at, label_at, resets};
+pub use codes::Comparison;
 pub use edges::{edge_of, list_edges, list_places};
 pub use model::{Branch, Edge, Guard, Invariant, Shape};
 pub use reading::read;

@@ -6,6 +6,7 @@ ghost use Rattle.table.specs.Refusals.{branch_rows, end_rows, after_header, afte
 ghost use Rattle.table.specs.Refusals.{after_branch};
 ghost use Rattle.std.specs.Prelude.{Ok, Some, None};
 
+use crate::codes::Comparison;
 use crate::format::{
     MAX_BRANCHES, MAX_CLOCKS, MAX_CONSTANT, MAX_DENOMINATOR, MAX_EDGES, MAX_GUARDS, MAX_INVARIANTS,
     MAX_LOCATIONS,
@@ -53,23 +54,20 @@ pub(crate) struct Progress {
 }
 
 // Is this a comparison of an invariant atom?
-pub(crate) fn is_bound(comparison: u8) -> bool
+fn is_bound(comparison: u8) -> bool
     ensures { result ≡ leb comparison last_bound }
 {
-    match comparison {
-        0 | 1 => true,
-        _ => false,
-    }
+    matches!(
+        Comparison::try_from(comparison),
+        Ok(Comparison::Less | Comparison::AtMost)
+    )
 }
 
 // Is this a comparison of a guard atom?
-pub(crate) fn is_comparison(comparison: u8) -> bool
+fn is_comparison(comparison: u8) -> bool
     ensures { result ≡ leb comparison last_comparison }
 {
-    match comparison {
-        0 | 1 | 2 | 3 | 4 => true,
-        _ => false,
-    }
+    Comparison::try_from(comparison).is_ok()
 }
 
 // Does a mask name a clock that does not exist?
