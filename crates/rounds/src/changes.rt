@@ -9,36 +9,29 @@ ghost use Rattle.rounds.specs.Changes.{Kept, MarkedAt, Marked, UsedBy, Used, Unt
 ghost use Rattle.rounds.specs.Changes.{RestsAt, Rests, Spared};
 
 use crate::stores::{put_flag, put_link};
-use comparison::{at16, is_clear, is_set, open_edge, target_of};
+use comparison::{Graph, at16, is_clear, is_set};
 
 // ---- An order in which what follows by delay comes first. Only speed depends on it: what is found by it is verified.
 
 // Is item x not placed yet, and what follows it placed, if anything follows?
-fn is_ready(n: usize, x: usize, nexts: &[u16], placed: &[u8]) -> bool {
+fn is_ready(graph: Graph, x: usize, placed: &[u8]) -> bool {
     if is_set(placed, x) {
         return false;
     }
-    let next = at16(nexts, x);
-    if n <= next {
+    let next = at16(graph.nexts, x);
+    if graph.n <= next {
         return true;
     }
     is_set(placed, next)
 }
 
 // Item x is placed where it is ready. The answer is the count of those placed.
-fn place_one(
-    n: usize,
-    x: usize,
-    count: usize,
-    nexts: &[u16],
-    placed: &mut [u8],
-    order: &mut [u16],
-) -> usize
+fn place_one(graph: Graph, x: usize, count: usize, placed: &mut [u8], order: &mut [u16]) -> usize
     requires { (x < most_items) × (count < 65536) }
     ensures { (result ≤ suc count) × (length placed.new ≡ length placed.old)
         × (length order.new ≡ length order.old) }
 {
-    if !is_ready(n, x, nexts, placed) {
+    if !is_ready(graph, x, placed) {
         return count;
     }
     put_flag(x, 1, placed);
@@ -47,29 +40,29 @@ fn place_one(
 }
 
 // A pass over all items, from the last one down.
-fn place_ready(n: usize, start: usize, nexts: &[u16], placed: &mut [u8], order: &mut [u16]) -> usize
-    requires { (n ≤ most_items) × (start ≤ most_items) }
+fn place_ready(graph: Graph, start: usize, placed: &mut [u8], order: &mut [u16]) -> usize
+    requires { (graph.n ≤ most_items) × (start ≤ most_items) }
     ensures { (length placed.new ≡ length placed.old)
         × (length order.new ≡ length order.old) }
 {
     let mut count = start;
-    let mut x = n;
+    let mut x = graph.n;
     while 0 < x {
         x = x - 1;
-        count = place_one(n, x, count, nexts, placed, order);
+        count = place_one(graph, x, count, placed, order);
     }
     count
 }
 
 // Passes are made until one places nothing.
-fn place_all(n: usize, nexts: &[u16], placed: &mut [u8], order: &mut [u16])
-    requires { n ≤ most_items }
+fn place_all(graph: Graph, placed: &mut [u8], order: &mut [u16])
+    requires { graph.n ≤ most_items }
     ensures { (length placed.new ≡ length placed.old)
         × (length order.new ≡ length order.old) }
 {
     let mut count = 0;
-    while count < n {
-        let more = place_ready(n, count, nexts, placed, order);
+    while count < graph.n {
+        let more = place_ready(graph, count, placed, order);
         if more <= count {
             return;
         }
@@ -78,23 +71,23 @@ fn place_all(n: usize, nexts: &[u16], placed: &mut [u8], order: &mut [u16])
 }
 
 // Items that are on no chain which ends are left out.
-pub(crate) fn list_order(n: usize, nexts: &[u16], order: &mut [u16])
-    requires { n ≤ most_items }
+pub(crate) fn list_order(graph: Graph, order: &mut [u16])
+    requires { graph.n ≤ most_items }
     ensures { length order.new ≡ length order.old }
 {
     let mut placed = [0u8; 4096];
-    place_all(n, nexts, &mut placed, order);
+    place_all(graph, &mut placed, order);
 }
 
 // ---- Still items: neither they nor what follows them by delay has changed
 
 // The flag of item x, by that of what follows it.
-fn still_flag(n: usize, x: usize, changed: &[u8], nexts: &[u16], still: &[u8]) -> u8 {
+fn still_flag(graph: Graph, x: usize, changed: &[u8], still: &[u8]) -> u8 {
     if !is_clear(changed, x) {
         return 0;
     }
-    let next = at16(nexts, x);
-    if n <= next {
+    let next = at16(graph.nexts, x);
+    if graph.n <= next {
         return 1;
     }
     if is_set(still, next) {
@@ -103,21 +96,21 @@ fn still_flag(n: usize, x: usize, changed: &[u8], nexts: &[u16], still: &[u8]) -
     0
 }
 
-fn mark_still(n: usize, changed: &[u8], nexts: &[u16], order: &[u16], still: &mut [u8])
+fn mark_still(graph: Graph, changed: &[u8], order: &[u16], still: &mut [u8])
     ensures { length still.new ≡ length still.old }
 {
     let mut j = 0;
-    while j < n {
+    while j < graph.n {
         let x = at16(order, j);
-        let flag = still_flag(n, x, changed, nexts, still);
+        let flag = still_flag(graph, x, changed, still);
         put_flag(x, flag, still);
         j = j + 1;
     }
 }
 
 // Is item x not marked as still, or neither it changed nor what follows it unmarked?
-fn is_still_at(n: usize, x: usize, changed: &[u8], nexts: &[u16], still: &[u8]) -> bool
-    ensures { result ≡ true → StillAt n changed.now nexts.now still.now x }
+fn is_still_at(graph: Graph, x: usize, changed: &[u8], still: &[u8]) -> bool
+    ensures { result ≡ true → StillAt graph.entry.n changed.now graph.entry.nexts.now still.now x }
 {
     if !is_set(still, x) {
         return true;
@@ -125,19 +118,19 @@ fn is_still_at(n: usize, x: usize, changed: &[u8], nexts: &[u16], still: &[u8]) 
     if !is_clear(changed, x) {
         return false;
     }
-    let next = at16(nexts, x);
-    if n <= next {
+    let next = at16(graph.nexts, x);
+    if graph.n <= next {
         return true;
     }
     is_set(still, next)
 }
 
-fn is_still(n: usize, changed: &[u8], nexts: &[u16], still: &[u8]) -> bool
-    ensures { result ≡ true → Still n changed.now nexts.now still.now }
+fn is_still(graph: Graph, changed: &[u8], still: &[u8]) -> bool
+    ensures { result ≡ true → Still graph.entry.n changed.now graph.entry.nexts.now still.now }
 {
     let mut x = 0;
-    while x < n {
-        if !is_still_at(n, x, changed, nexts, still) {
+    while x < graph.n {
+        if !is_still_at(graph, x, changed, still) {
             return false;
         }
         x = x + 1;
@@ -147,48 +140,33 @@ fn is_still(n: usize, changed: &[u8], nexts: &[u16], still: &[u8]) -> bool
 
 // ---- Are targets as their clocks say?
 
-fn is_branch_classed(
-    n: usize,
-    x: usize,
-    e: usize,
-    i: usize,
-    resets: &[u16],
-    spots: &[u16],
-    rows: &[u16],
-) -> bool
-    requires { (n ≤ most_items) × (x < most_items) × (e < most_edges) × (i < 65536) }
-    ensures { result ≡ true → BranchClassed n resets.now spots.now rows.now x e i }
+fn is_branch_classed(graph: Graph, x: usize, e: usize, i: usize) -> bool
+    requires { (graph.n ≤ most_items) × (x < most_items) × (e < most_edges) × (i < 65536) }
+    ensures { result ≡ true → BranchClassed graph.entry.n graph.entry.resets.now graph.entry.spots.now graph.entry.rows.now x e i }
 {
-    let target = target_of(x, e, i, resets, spots, rows);
-    if n <= target {
+    let target = graph.target_of(x, e, i);
+    if graph.n <= target {
         return false;
     }
-    let mask = at16(rows, 32 * e + 4 + 3 * i);
+    let mask = at16(graph.rows, 32 * e + 4 + 3 * i);
     if 16 <= mask {
         return false;
     }
-    let class = at16(resets, 16 * x + mask);
+    let class = at16(graph.resets, 16 * x + mask);
     if 4096 <= class {
         return false;
     }
-    at16(resets, 16 * target) == class
+    at16(graph.resets, 16 * target) == class
 }
 
-fn is_edge_classed(
-    n: usize,
-    x: usize,
-    e: usize,
-    resets: &[u16],
-    spots: &[u16],
-    rows: &[u16],
-) -> bool
-    requires { (n ≤ most_items) × (x < most_items) × (e < most_edges) }
-    ensures { result ≡ true → EdgeClassed n resets.now spots.now rows.now x e }
+fn is_edge_classed(graph: Graph, x: usize, e: usize) -> bool
+    requires { (graph.n ≤ most_items) × (x < most_items) × (e < most_edges) }
+    ensures { result ≡ true → EdgeClassed graph.entry.n graph.entry.resets.now graph.entry.spots.now graph.entry.rows.now x e }
 {
-    let count = at16(rows, 32 * e + 2);
+    let count = at16(graph.rows, 32 * e + 2);
     let mut i = 0;
     while i < count {
-        if !is_branch_classed(n, x, e, i, resets, spots, rows) {
+        if !is_branch_classed(graph, x, e, i) {
             return false;
         }
         i = i + 1;
@@ -197,44 +175,31 @@ fn is_edge_classed(
 }
 
 // Are the branches of all edges that are available at x of that kind?
-fn is_item_classed(
-    n: usize,
-    k: usize,
-    x: usize,
-    flags: &[u8],
-    resets: &[u16],
-    spots: &[u16],
-    rows: &[u16],
-) -> bool
-    requires { (n ≤ most_items) × (k ≤ most_edges) × (x < most_items) }
-    ensures { result ≡ true → Opened n k flags.now → x < n
-        → ItemClassed n k flags.now resets.now spots.now rows.now x }
+fn is_item_classed(graph: Graph, x: usize) -> bool
+    requires { (graph.n ≤ most_items) × (graph.k ≤ most_edges) × (x < most_items) }
+    ensures { result ≡ true → Opened graph.entry.n graph.entry.k graph.entry.flags.now → x < graph.entry.n
+        → ItemClassed graph.entry.n graph.entry.k graph.entry.flags.now graph.entry.resets.now graph.entry.spots.now
+        graph.entry.rows.now x }
 {
-    let mut e = open_edge(x, k, flags);
+    let mut e = graph.open_edge(x, graph.k);
     while 0 < e {
-        if !is_edge_classed(n, x, e - 1, resets, spots, rows) {
+        if !is_edge_classed(graph, x, e - 1) {
             return false;
         }
-        e = open_edge(x, e - 1, flags);
+        e = graph.open_edge(x, e - 1);
     }
     true
 }
 
-pub(crate) fn is_classed(
-    n: usize,
-    k: usize,
-    flags: &[u8],
-    resets: &[u16],
-    spots: &[u16],
-    rows: &[u16],
-) -> bool
-    requires { (n ≤ most_items) × (k ≤ most_edges) }
-    ensures { result ≡ true → Opened n k flags.now
-        → Classed n k flags.now resets.now spots.now rows.now }
+pub(crate) fn is_classed(graph: Graph) -> bool
+    requires { (graph.n ≤ most_items) × (graph.k ≤ most_edges) }
+    ensures { result ≡ true → Opened graph.entry.n graph.entry.k graph.entry.flags.now
+        → Classed graph.entry.n graph.entry.k graph.entry.flags.now graph.entry.resets.now graph.entry.spots.now
+        graph.entry.rows.now }
 {
     let mut x = 0;
-    while x < n {
-        if !is_item_classed(n, k, x, flags, resets, spots, rows) {
+    while x < graph.n {
+        if !is_item_classed(graph, x) {
             return false;
         }
         x = x + 1;
@@ -244,49 +209,49 @@ pub(crate) fn is_classed(
 
 // ---- Marks: the clocks of items that changed, and the masks in use
 
-fn mark_class(x: usize, changed: &[u8], resets: &[u16], marks: &mut [u8])
+fn mark_class(graph: Graph, x: usize, changed: &[u8], marks: &mut [u8])
     requires { (x < most_items) × (length marks.old ≡ most_items) }
     ensures { (length marks.new ≡ most_items) × Kept marks.old marks.new
-        × MarkedAt changed.now resets.now marks.new x }
+        × MarkedAt changed.now graph.entry.resets.now marks.new x }
 {
     if is_clear(changed, x) {
         return;
     }
-    put_flag(at16(resets, 16 * x), 1, marks);
+    put_flag(at16(graph.resets, 16 * x), 1, marks);
 }
 
-fn mark_classes(n: usize, changed: &[u8], resets: &[u16], marks: &mut [u8])
-    requires { (n ≤ most_items) × (length marks.old ≡ most_items) }
+fn mark_classes(graph: Graph, changed: &[u8], marks: &mut [u8])
+    requires { (graph.n ≤ most_items) × (length marks.old ≡ most_items) }
     ensures { (length marks.new ≡ most_items)
-        × Marked n changed.now resets.now marks.new }
+        × Marked graph.entry.n changed.now graph.entry.resets.now marks.new }
 {
     let mut x = 0;
-    while x < n {
-        mark_class(x, changed, resets, marks);
+    while x < graph.n {
+        mark_class(graph, x, changed, marks);
         x = x + 1;
     }
 }
 
-fn mark_edge_masks(e: usize, rows: &[u16], used: &mut [u8])
+fn mark_edge_masks(graph: Graph, e: usize, used: &mut [u8])
     requires { (e < most_edges) × (length used.old ≡ mask_room) }
     ensures { (length used.new ≡ mask_room) × Kept used.old used.new
-        × UsedBy rows.now used.new e }
+        × UsedBy graph.entry.rows.now used.new e }
 {
-    let count = at16(rows, 32 * e + 2);
+    let count = at16(graph.rows, 32 * e + 2);
     let mut i = 0;
     while i < count {
-        put_flag(at16(rows, 32 * e + 4 + 3 * i), 1, used);
+        put_flag(at16(graph.rows, 32 * e + 4 + 3 * i), 1, used);
         i = i + 1;
     }
 }
 
-fn mark_masks(k: usize, rows: &[u16], used: &mut [u8])
-    requires { (k ≤ most_edges) × (length used.old ≡ mask_room) }
-    ensures { (length used.new ≡ mask_room) × Used k rows.now used.new }
+fn mark_masks(graph: Graph, used: &mut [u8])
+    requires { (graph.k ≤ most_edges) × (length used.old ≡ mask_room) }
+    ensures { (length used.new ≡ mask_room) × Used graph.entry.k graph.entry.rows.now used.new }
 {
     let mut e = 0;
-    while e < k {
-        mark_edge_masks(e, rows, used);
+    while e < graph.k {
+        mark_edge_masks(graph, e, used);
         e = e + 1;
     }
 }
@@ -294,24 +259,24 @@ fn mark_masks(k: usize, rows: &[u16], used: &mut [u8])
 // ---- Stirred items
 
 // Are clocks marked that those of x become under this mask, where it is in use?
-fn is_touched_by(x: usize, mask: usize, used: &[u8], resets: &[u16], marks: &[u8]) -> bool
+fn is_touched_by(graph: Graph, x: usize, mask: usize, used: &[u8], marks: &[u8]) -> bool
     requires { (x < most_items) × (mask < mask_room) }
-    ensures { result ≡ false → UntouchedBy used.now resets.now marks.now x mask }
+    ensures { result ≡ false → UntouchedBy used.now graph.entry.resets.now marks.now x mask }
 {
     if !is_set(used, mask) {
         return false;
     }
-    is_set(marks, at16(resets, 16 * x + mask))
+    is_set(marks, at16(graph.resets, 16 * x + mask))
 }
 
 // Are they so under any mask in use?
-fn is_touched(x: usize, used: &[u8], resets: &[u16], marks: &[u8]) -> bool
+fn is_touched(graph: Graph, x: usize, used: &[u8], marks: &[u8]) -> bool
     requires { x < most_items }
-    ensures { result ≡ false → Untouched used.now resets.now marks.now x }
+    ensures { result ≡ false → Untouched used.now graph.entry.resets.now marks.now x }
 {
     let mut mask = 0;
     while mask < 16 {
-        if is_touched_by(x, mask, used, resets, marks) {
+        if is_touched_by(graph, x, mask, used, marks) {
             return true;
         }
         mask = mask + 1;
@@ -320,21 +285,14 @@ fn is_touched(x: usize, used: &[u8], resets: &[u16], marks: &[u8]) -> bool
 }
 
 // Does edge e at item x lead to nothing that has changed? Nothing is said where the answer is no.
-fn is_edge_calm(
-    x: usize,
-    e: usize,
-    changed: &[u8],
-    resets: &[u16],
-    spots: &[u16],
-    rows: &[u16],
-) -> bool
+fn is_edge_calm(graph: Graph, x: usize, e: usize, changed: &[u8]) -> bool
     requires { (x < most_items) × (e < most_edges) }
-    ensures { result ≡ true → EdgeCalm changed.now resets.now spots.now rows.now x e }
+    ensures { result ≡ true → EdgeCalm changed.now graph.entry.resets.now graph.entry.spots.now graph.entry.rows.now x e }
 {
-    let count = at16(rows, 32 * e + 2);
+    let count = at16(graph.rows, 32 * e + 2);
     let mut i = 0;
     while i < count {
-        if !is_clear(changed, target_of(x, e, i, resets, spots, rows)) {
+        if !is_clear(changed, graph.target_of(x, e, i)) {
             return false;
         }
         i = i + 1;
@@ -343,25 +301,18 @@ fn is_edge_calm(
 }
 
 // Do all edges that are available at item x lead to nothing that has changed? Nothing is said where the answer is no.
-fn are_edges_calm(
-    k: usize,
-    x: usize,
-    changed: &[u8],
-    flags: &[u8],
-    resets: &[u16],
-    spots: &[u16],
-    rows: &[u16],
-) -> bool
-    requires { (k ≤ most_edges) × (x < most_items) }
-    ensures { result ≡ true → (n : ℕ) → Opened n k flags.now → x < n
-        → EdgesCalm k changed.now flags.now resets.now spots.now rows.now x }
+fn are_edges_calm(graph: Graph, x: usize, changed: &[u8]) -> bool
+    requires { (graph.k ≤ most_edges) × (x < most_items) }
+    ensures { result ≡ true → (n : ℕ) → Opened n graph.entry.k graph.entry.flags.now → x < n
+        → EdgesCalm graph.entry.k changed.now graph.entry.flags.now graph.entry.resets.now graph.entry.spots.now
+        graph.entry.rows.now x }
 {
-    let mut e = open_edge(x, k, flags);
+    let mut e = graph.open_edge(x, graph.k);
     while 0 < e {
-        if !is_edge_calm(x, e - 1, changed, resets, spots, rows) {
+        if !is_edge_calm(graph, x, e - 1, changed) {
             return false;
         }
-        e = open_edge(x, e - 1, flags);
+        e = graph.open_edge(x, e - 1);
     }
     true
 }
@@ -369,88 +320,67 @@ fn are_edges_calm(
 // 0 where item x is still, and is untouched or has only available edges that lead to nothing that has changed; else 1, which
 // says nothing. Only the edges of touched items are gone through.
 fn stirred_flag(
-    k: usize,
+    graph: Graph,
     x: usize,
     changed: &[u8],
-    flags: &[u8],
-    resets: &[u16],
-    spots: &[u16],
-    rows: &[u16],
     used: &[u8],
     still: &[u8],
     marks: &[u8],
 ) -> u8
-    requires { (k ≤ most_edges) × (x < most_items) }
-    ensures { (n : ℕ) → Opened n k flags.now → x < n
-        → RestsAt k changed.now flags.now resets.now spots.now rows.now
+    requires { (graph.k ≤ most_edges) × (x < most_items) }
+    ensures { (n : ℕ) → Opened n graph.entry.k graph.entry.flags.now → x < n
+        → RestsAt graph.entry.k changed.now graph.entry.flags.now graph.entry.resets.now graph.entry.spots.now graph.entry.rows.now
         used.now still.now marks.now x result }
 {
     if !is_set(still, x) {
         return 1;
     }
-    if !is_touched(x, used, resets, marks) {
+    if !is_touched(graph, x, used, marks) {
         return 0;
     }
-    if are_edges_calm(k, x, changed, flags, resets, spots, rows) {
+    if are_edges_calm(graph, x, changed) {
         return 0;
     }
     1
 }
 
 fn stir_touched(
-    n: usize,
-    k: usize,
+    graph: Graph,
     changed: &[u8],
-    flags: &[u8],
-    resets: &[u16],
-    spots: &[u16],
-    rows: &[u16],
     used: &[u8],
     still: &[u8],
     marks: &[u8],
     stirred: &mut [u8],
 )
-    requires { (n ≤ most_items) × (k ≤ most_edges) × (n ≤ length stirred.old) }
+    requires { (graph.n ≤ most_items) × (graph.k ≤ most_edges) × (graph.n ≤ length stirred.old) }
     ensures stirred_len_unchanged { length stirred.new ≡ length stirred.old }
-    ensures rests { Opened n k flags.now → Rests n k changed.now flags.now resets.now
-        spots.now rows.now
+    ensures rests { Opened graph.entry.n graph.entry.k graph.entry.flags.now → Rests graph.entry.n graph.entry.k changed.now
+        graph.entry.flags.now graph.entry.resets.now
+        graph.entry.spots.now graph.entry.rows.now
         used.now still.now marks.now stirred.new }
 {
     let mut x = 0;
-    while x < n {
-        let flag = stirred_flag(
-            k, x, changed, flags, resets, spots, rows, used, still, marks,
-        );
+    while x < graph.n {
+        let flag = stirred_flag(graph, x, changed, used, still, marks);
         put_flag(x, flag, stirred);
         x = x + 1;
     }
 }
 
 // Stirs what is not still, and what a change reaches by an edge.
-fn stir_some(
-    n: usize,
-    k: usize,
-    changed: &[u8],
-    flags: &[u8],
-    resets: &[u16],
-    spots: &[u16],
-    rows: &[u16],
-    still: &[u8],
-    stirred: &mut [u8],
-)
-    requires { (n ≤ most_items) × (k ≤ most_edges) × (n ≤ length stirred.old) }
+fn stir_some(graph: Graph, changed: &[u8], still: &[u8], stirred: &mut [u8])
+    requires { (graph.n ≤ most_items) × (graph.k ≤ most_edges) × (graph.n ≤ length stirred.old) }
     ensures stirred_len_unchanged { length stirred.new ≡ length stirred.old }
-    ensures spared { Opened n k flags.now → Spared n k changed.now flags.now resets.now
-        spots.now rows.now
+    ensures spared { Opened graph.entry.n graph.entry.k graph.entry.flags.now → Spared graph.entry.n graph.entry.k changed.now
+        graph.entry.flags.now graph.entry.resets.now
+        graph.entry.spots.now graph.entry.rows.now
         still.now stirred.new }
 {
     let mut marks = [0u8; 4096];
-    mark_classes(n, changed, resets, &mut marks);
+    mark_classes(graph, changed, &mut marks);
     let mut used = [0u8; 16];
-    mark_masks(k, rows, &mut used);
-    stir_touched(
-        n, k, changed, flags, resets, spots, rows, &used, still, &marks, stirred,
-    );
+    mark_masks(graph, &mut used);
+    stir_touched(graph, changed, &used, still, &marks, stirred);
 }
 
 fn stir_all(n: usize, stirred: &mut [u8])
@@ -467,35 +397,25 @@ fn stir_all(n: usize, stirred: &mut [u8])
 
 // Marks the items that are stirred: all of them where targets are not as their clocks say, or where the marks of still items fail
 // their test. An item that the order leaves out is stirred.
-pub(crate) fn stir(
-    n: usize,
-    k: usize,
-    classed: bool,
-    changed: &[u8],
-    nexts: &[u16],
-    order: &[u16],
-    flags: &[u8],
-    resets: &[u16],
-    spots: &[u16],
-    rows: &[u16],
-    stirred: &mut [u8],
-)
-    requires { (n ≤ most_items) × (k ≤ most_edges) × (n ≤ length stirred.old) }
+pub(crate) fn stir(graph: Graph, classed: bool, changed: &[u8], order: &[u16], stirred: &mut [u8])
+    requires { (graph.n ≤ most_items) × (graph.k ≤ most_edges) × (graph.n ≤ length stirred.old) }
     ensures stirred_len_unchanged { length stirred.new ≡ length stirred.old }
-    ensures stirred { Opened n k flags.now
-        → (classed ≡ true → Classed n k flags.now resets.now spots.now rows.now)
-        → Stirred n k changed.now nexts.now flags.now resets.now spots.now
-        rows.now stirred.new }
+    ensures stirred { Opened graph.entry.n graph.entry.k graph.entry.flags.now
+        → (classed ≡ true → Classed graph.entry.n graph.entry.k graph.entry.flags.now graph.entry.resets.now graph.entry.spots.now
+        graph.entry.rows.now)
+        → Stirred graph.entry.n graph.entry.k changed.now graph.entry.nexts.now graph.entry.flags.now graph.entry.resets.now
+        graph.entry.spots.now
+        graph.entry.rows.now stirred.new }
 {
     if !classed {
-        stir_all(n, stirred);
+        stir_all(graph.n, stirred);
         return;
     }
     let mut still = [0u8; 4096];
-    mark_still(n, changed, nexts, order, &mut still);
-    if !is_still(n, changed, nexts, &still) {
-        stir_all(n, stirred);
+    mark_still(graph, changed, order, &mut still);
+    if !is_still(graph, changed, &still) {
+        stir_all(graph.n, stirred);
         return;
     }
-    stir_some(n, k, changed, flags, resets, spots, rows, &still, stirred);
+    stir_some(graph, changed, &still, stirred);
 }

@@ -10,7 +10,7 @@ ghost use Rattle.comparison.specs.Keys.{Keyed, Equipped};
 
 use crate::kins::{find_kin, put_kin, sign_of};
 use crate::stores::put_link;
-use comparison::{at16, index_at, is_clear, is_keyed_next, is_twin};
+use comparison::{Graph, at16, index_at, is_clear};
 
 // ---- Anchors
 
@@ -52,19 +52,12 @@ pub(crate) fn find_anchors(n: usize, old: &[u64], stirred: &[u8], anchors: &mut 
 // Does item x join the anchor of its block? It does where it is plainly alike to the anchor. Where it has a kin it does as the kin does,
 // whose mark tells. Else the two are compared, and x may become a kin.
 fn is_joined(
-    n: usize,
-    k: usize,
+    graph: Graph,
     x: usize,
     old: &[u64],
     stirred: &[u8],
     anchors: &[u16],
     names: &[u64],
-    labels: &[u16],
-    nexts: &[u16],
-    flags: &[u8],
-    resets: &[u16],
-    spots: &[u16],
-    rows: &[u16],
     marks: &[u16],
     keys: &mut [u64],
     shelf: &mut [u64],
@@ -76,16 +69,16 @@ fn is_joined(
         × (length older.new ≡ length older.old) × (length kins.new ≡ length kins.old) }
     ensures kins { Kins x older.old → Kins x kins.old
         → Kins (x + 1) older.new × Kins (x + 1) kins.new }
-    ensures value { (F : Finite) → Equipped F n k names.now keys.old shelf.old labels.now
-        nexts.now flags.now resets.now spots.now rows.now
-        → Settled (next F names.now) (related old.now) n stirred.now
-        → Anchored n old.now stirred.now anchors.now
-        → Step (next F names.now) n old.now
+    ensures value { (F : Finite) → Equipped F graph.entry.n graph.entry.k names.now keys.old shelf.old graph.entry.labels.now
+        graph.entry.nexts.now graph.entry.flags.now graph.entry.resets.now graph.entry.spots.now graph.entry.rows.now
+        → Settled (next F names.now) (related old.now) graph.entry.n stirred.now
+        → Anchored graph.entry.n old.now stirred.now anchors.now
+        → Step (next F names.now) graph.entry.n old.now
         → MarkedTo x (next F names.now) anchors.now old.now marks.now
-        → Kins x older.old → Kins x kins.old → x < n
+        → Kins x older.old → Kins x kins.old → x < graph.entry.n
         → (result ≡ joined_by (next F names.now) anchors.now old.now x)
-        × Equipped F n k names.now keys.new shelf.new labels.now nexts.now
-        flags.now resets.now spots.now rows.now }
+        × Equipped F graph.entry.n graph.entry.k names.now keys.new shelf.new graph.entry.labels.now graph.entry.nexts.now
+        graph.entry.flags.now graph.entry.resets.now graph.entry.spots.now graph.entry.rows.now }
 {
     if is_clear(stirred, x) {
         return true;
@@ -95,32 +88,16 @@ fn is_joined(
     if link == 0 {
         return false;
     }
-    if is_twin(n, k, link - 1, x, names, nexts, flags, resets, spots, rows) {
+    if graph.is_twin(link - 1, x, names) {
         return true;
     }
-    let sign = sign_of(k, x, names, flags, resets, spots, rows);
+    let sign = sign_of(graph, x, names);
     let first = at16(kins, sign);
-    let kin = find_kin(
-        n, k, x, first, names, labels, nexts, flags, resets, spots, rows, older,
-    );
+    let kin = find_kin(graph, x, first, names, older);
     if 0 < kin {
         return at16(marks, kin - 1) % 2 == 1;
     }
-    let joins = is_keyed_next(
-        n,
-        k,
-        link - 1,
-        x,
-        names,
-        labels,
-        nexts,
-        flags,
-        resets,
-        spots,
-        rows,
-        keys,
-        shelf,
-    );
+    let joins = graph.is_keyed_next(link - 1, x, names, keys, shelf);
     put_kin(x, sign, keys, older, kins);
     joins
 }
@@ -137,42 +114,35 @@ fn mark_of(block: usize, joins: bool) -> usize
 
 // The marks of all items.
 pub(crate) fn fill_marks(
-    n: usize,
-    k: usize,
+    graph: Graph,
     old: &[u64],
     stirred: &[u8],
     anchors: &[u16],
     names: &[u64],
-    labels: &[u16],
-    nexts: &[u16],
-    flags: &[u8],
-    resets: &[u16],
-    spots: &[u16],
-    rows: &[u16],
     keys: &mut [u64],
     marks: &mut [u16],
 )
-    requires { (n ≤ length marks.old) × (n ≤ 4096) }
+    requires { (graph.n ≤ length marks.old) × (graph.n ≤ 4096) }
     ensures keys_len_unchanged { (length keys.new ≡ length keys.old)
         × (length marks.new ≡ length marks.old) }
-    ensures marked_to { (F : Finite) → Keyed F n k names.now keys.old labels.now nexts.now
-        flags.now resets.now spots.now rows.now
-        → Settled (next F names.now) (related old.now) n stirred.now
-        → Anchored n old.now stirred.now anchors.now
-        → Step (next F names.now) n old.now
-        → MarkedTo n (next F names.now) anchors.now old.now marks.new
-        × Keyed F n k names.now keys.new labels.now nexts.now
-        flags.now resets.now spots.now rows.now }
+    ensures marked_to { (F : Finite) → Keyed F graph.entry.n graph.entry.k names.now keys.old graph.entry.labels.now
+        graph.entry.nexts.now
+        graph.entry.flags.now graph.entry.resets.now graph.entry.spots.now graph.entry.rows.now
+        → Settled (next F names.now) (related old.now) graph.entry.n stirred.now
+        → Anchored graph.entry.n old.now stirred.now anchors.now
+        → Step (next F names.now) graph.entry.n old.now
+        → MarkedTo graph.entry.n (next F names.now) anchors.now old.now marks.new
+        × Keyed F graph.entry.n graph.entry.k names.now keys.new graph.entry.labels.now graph.entry.nexts.now
+        graph.entry.flags.now graph.entry.resets.now graph.entry.spots.now graph.entry.rows.now }
 {
     // For the codes of an anchor that items are compared with; empty at first.
     let mut shelf = [0u64; 129];
     let mut older = [0u16; 4096];
     let mut kins = [0u16; 4096];
     let mut x = 0;
-    while x < n {
+    while x < graph.n {
         let joins = is_joined(
-            n, k, x, old, stirred, anchors, names, labels, nexts, flags, resets, spots, rows,
-            marks, keys, &mut shelf, &mut older, &mut kins,
+            graph, x, old, stirred, anchors, names, marks, keys, &mut shelf, &mut older, &mut kins,
         );
         put_link(x, mark_of(index_at(old, x), joins), marks);
         x = x + 1;

@@ -9,7 +9,7 @@ ghost use Rattle.rounds.specs.Firsts.{bucket_at, Indexed};
 ghost use Rattle.rounds.specs.Rounds.{judged_with};
 
 use crate::stores::{put_index, put_link};
-use comparison::{at16, at64, index_at, is_next, is_twin};
+use comparison::{Graph, at16, at64, index_at};
 
 // ---- Each item's lead in the proposal: the first item with its number. First items are found by an index over numbers.
 
@@ -85,54 +85,32 @@ fn list_firsts(n: usize, proposal: &[u64], firsts: &mut [u64])
 // ---- Judging by leads
 
 // Equal labels, and both conditions both ways, of two items with the same number.
-fn is_alike(
-    n: usize,
-    k: usize,
-    x: usize,
-    y: usize,
-    list: &[u64],
-    labels: &[u16],
-    nexts: &[u16],
-    flags: &[u8],
-    resets: &[u16],
-    spots: &[u16],
-    rows: &[u16],
-) -> bool
-    ensures { (F : Finite) → Held F n k labels.now nexts.now flags.now resets.now
-        spots.now rows.now → Closed (structure F) → Below n list.now
-        → x < n → y < n → related list.now x y ≡ true → result ≡ judged_with F list.now x y }
+fn is_alike(graph: Graph, x: usize, y: usize, list: &[u64]) -> bool
+    ensures { (F : Finite) → Held F graph.entry.n graph.entry.k graph.entry.labels.now graph.entry.nexts.now graph.entry.flags.now
+        graph.entry.resets.now
+        graph.entry.spots.now graph.entry.rows.now → Closed (structure F) → Below graph.entry.n list.now
+        → x < graph.entry.n → y < graph.entry.n → related list.now x y ≡ true → result ≡ judged_with F list.now x y }
 {
-    if at16(labels, x) != at16(labels, y) {
+    if at16(graph.labels, x) != at16(graph.labels, y) {
         return false;
     }
-    if is_twin(n, k, x, y, list, nexts, flags, resets, spots, rows) {
+    if graph.is_twin(x, y, list) {
         return true;
     }
-    is_next(n, k, x, y, list, labels, nexts, flags, resets, spots, rows)
+    graph.is_next(x, y, list)
 }
 
 // Is a partition a bisimulation, given by each item's lead?
-fn judge_firsts(
-    n: usize,
-    k: usize,
-    firsts: &[u64],
-    labels: &[u16],
-    nexts: &[u16],
-    flags: &[u8],
-    resets: &[u16],
-    spots: &[u16],
-    rows: &[u16],
-) -> bool
-    ensures { (F : Finite) → Held F n k labels.now nexts.now flags.now resets.now
-        spots.now rows.now → Closed (structure F) → Reps (related firsts.now) n firsts.now
+fn judge_firsts(graph: Graph, firsts: &[u64]) -> bool
+    ensures { (F : Finite) → Held F graph.entry.n graph.entry.k graph.entry.labels.now graph.entry.nexts.now graph.entry.flags.now
+        graph.entry.resets.now
+        graph.entry.spots.now graph.entry.rows.now → Closed (structure F) → Reps (related firsts.now) graph.entry.n firsts.now
         → result ≡ accepts F firsts.now }
 {
     let mut x = 0;
-    while x < n {
+    while x < graph.n {
         let y = index_at(firsts, x);
-        if !is_alike(
-            n, k, x, y, firsts, labels, nexts, flags, resets, spots, rows,
-        ) {
+        if !is_alike(graph, x, y, firsts) {
             return false;
         }
         x = x + 1;
@@ -142,25 +120,16 @@ fn judge_firsts(
 
 // Is the proposal a bisimulation? Judged by each item's lead in it, which is below n, while a proposal's numbers may be any. More than
 // 4,096 items are never a bisimulation to it. For fewer, where the slices hold no closed structure, the answer is a choice of the code.
-pub fn judge(
-    n: usize,
-    k: usize,
-    proposal: &[u64],
-    labels: &[u16],
-    nexts: &[u16],
-    flags: &[u8],
-    resets: &[u16],
-    spots: &[u16],
-    rows: &[u16],
-) -> bool
-    ensures value { (F : Finite) → Held F n k labels.now nexts.now flags.now resets.now
-        spots.now rows.now → Closed (structure F) → result ≡ accepts F proposal.now }
-    ensures value_2 { 4096 < n → result ≡ false }
+pub fn judge(graph: Graph, proposal: &[u64]) -> bool
+    ensures value { (F : Finite) → Held F graph.entry.n graph.entry.k graph.entry.labels.now graph.entry.nexts.now
+        graph.entry.flags.now graph.entry.resets.now
+        graph.entry.spots.now graph.entry.rows.now → Closed (structure F) → result ≡ accepts F proposal.now }
+    ensures value_2 { 4096 < graph.entry.n → result ≡ false }
 {
-    if 4096 < n {
+    if 4096 < graph.n {
         return false;
     }
     let mut firsts = [0u64; 4096];
-    list_firsts(n, proposal, &mut firsts);
-    judge_firsts(n, k, &firsts, labels, nexts, flags, resets, spots, rows)
+    list_firsts(graph.n, proposal, &mut firsts);
+    judge_firsts(graph, &firsts)
 }

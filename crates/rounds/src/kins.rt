@@ -8,7 +8,7 @@ ghost use Rattle.comparison.specs.Held.{Held};
 ghost use Rattle.rounds.specs.Rounds.{Kins, KinOf};
 
 use crate::stores::put_link;
-use comparison::{at16, at64, index_at, is_twin, open_edge, target_of};
+use comparison::{Graph, at16, at64, index_at};
 
 // How many kins of one sign are tried for an item. Only the speed depends on it.
 const KIN_COUNT: usize = 3;
@@ -22,25 +22,17 @@ const SIGN_STEP: usize = 8;
 
 // Takes an edge of item x into a sign: its action, and the weight and the block of each of its branches. Each branch counts by its place,
 // so that another order gives another sign as a rule.
-fn sign_edge(
-    x: usize,
-    e: usize,
-    names: &[u64],
-    resets: &[u16],
-    spots: &[u16],
-    rows: &[u16],
-    sign: usize,
-) -> usize
+fn sign_edge(graph: Graph, x: usize, e: usize, names: &[u64], sign: usize) -> usize
     requires { (e < 128) × (sign < 4096) }
     ensures { result < 4096 }
 {
-    let count = at16(rows, 32 * e + 2);
-    let mut sum = sign * SIGN_BASE + at16(rows, 32 * e);
+    let count = at16(graph.rows, 32 * e + 2);
+    let mut sum = sign * SIGN_BASE + at16(graph.rows, 32 * e);
     let mut factor = 11;
     let mut i = 0;
     while i < count {
-        let block = index_at(names, target_of(x, e, i, resets, spots, rows)) % 4096;
-        let weight = at16(rows, 32 * e + 3 + 3 * i);
+        let block = index_at(names, graph.target_of(x, e, i)) % 4096;
+        let weight = at16(graph.rows, 32 * e + 3 + 3 * i);
         sum = sum + (block * 41 + weight) * factor;
         factor = factor * 961 % SIGN_PRIME;
         i = i + 1;
@@ -50,21 +42,13 @@ fn sign_edge(
 
 // Takes an edge of item x into a sign by its number, and one whose number is a multiple of eight also by its action, its weights and where
 // it leads. To do so for every edge would take nearly as long as comparing them.
-fn sign_one(
-    x: usize,
-    e: usize,
-    names: &[u64],
-    resets: &[u16],
-    spots: &[u16],
-    rows: &[u16],
-    sign: usize,
-) -> usize
+fn sign_one(graph: Graph, x: usize, e: usize, names: &[u64], sign: usize) -> usize
     requires { (e < 128) × (sign < 4096) }
     ensures { result < 4096 }
 {
     let numbered = (sign * SIGN_BASE + e) % SIGN_PRIME;
     if e % SIGN_STEP == 0 {
-        return sign_edge(x, e, names, resets, spots, rows, numbered);
+        return sign_edge(graph, x, e, names, numbered);
     }
     numbered
 }
@@ -73,47 +57,27 @@ fn sign_one(
 // the same edges have the same, while those that are alike by edges of other numbers have others as a rule and are not found. Others seldom
 // have the same, but for items that differ in their delays, or in where edges lead whose numbers alone count. Nothing but its bound is
 // promised, and only the speed depends on it.
-pub(crate) fn sign_of(
-    k: usize,
-    x: usize,
-    names: &[u64],
-    flags: &[u8],
-    resets: &[u16],
-    spots: &[u16],
-    rows: &[u16],
-) -> usize
+pub(crate) fn sign_of(graph: Graph, x: usize, names: &[u64]) -> usize
     ensures { result < 4096 }
 {
-    if 128 < k {
+    if 128 < graph.k {
         return 0;
     }
     let mut sign = 0;
-    let mut e = open_edge(x, k, flags);
+    let mut e = graph.open_edge(x, graph.k);
     while 0 < e {
-        sign = sign_one(x, e - 1, names, resets, spots, rows, sign);
-        e = open_edge(x, e - 1, flags);
+        sign = sign_one(graph, x, e - 1, names, sign);
+        e = graph.open_edge(x, e - 1);
     }
     sign
 }
 
 // The link to a kin of item x, and 0 where none is found. The first one tried is the item before the link, and the one after a kin is the
 // item before its link in `older`.
-pub(crate) fn find_kin(
-    n: usize,
-    k: usize,
-    x: usize,
-    link: usize,
-    names: &[u64],
-    labels: &[u16],
-    nexts: &[u16],
-    flags: &[u8],
-    resets: &[u16],
-    spots: &[u16],
-    rows: &[u16],
-    older: &[u16],
-) -> usize
-    ensures { (F : Finite) → Held F n k labels.now nexts.now flags.now resets.now
-        spots.now rows.now → Closed (structure F) → x < n → Kins x older.now
+pub(crate) fn find_kin(graph: Graph, x: usize, link: usize, names: &[u64], older: &[u16]) -> usize
+    ensures { (F : Finite) → Held F graph.entry.n graph.entry.k graph.entry.labels.now graph.entry.nexts.now graph.entry.flags.now
+        graph.entry.resets.now
+        graph.entry.spots.now graph.entry.rows.now → Closed (structure F) → x < graph.entry.n → Kins x older.now
         → ((z : ℕ) → link ≡ suc z → z < x) → KinOf (next F names.now) x result }
 {
     let mut at = link;
@@ -122,7 +86,7 @@ pub(crate) fn find_kin(
         if at == 0 {
             return 0;
         }
-        if is_twin(n, k, at - 1, x, names, nexts, flags, resets, spots, rows) {
+        if graph.is_twin(at - 1, x, names) {
             return at;
         }
         at = at16(older, at - 1);

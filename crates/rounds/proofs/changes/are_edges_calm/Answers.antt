@@ -14,10 +14,12 @@ loop-e-init c =
     let open-edge = c.open_edge-e in
     let args = c.args in
     let pre = c.requires in (
-      omega (arith, open-edge.ensures, edge-most args.flags.now args.x args.k),
-      λ n opened inside. down-first (is_open args.flags.now
-          args.x) (EdgeCalm args.changed.now args.resets.now args.spots.now args.rows.now args.x) args.k open-edge.result
-          (open-edge.ensures ∙ edge-open n args.k args.flags.now args.x args.k opened pre.1 pre.0 inside (omega arith)),
+      omega (arith, open-edge.ensures, edge-most args.graph.flags.now args.x args.graph.k),
+      λ n opened inside. down-first (is_open args.graph.flags.now
+          args.x) (EdgeCalm args.changed.now args.graph.resets.now args.graph.spots.now args.graph.rows.now args.x) args.graph.k
+          open-edge.result
+          (open-edge.ensures ∙ edge-open n args.graph.k args.graph.flags.now args.x args.graph.k opened pre.1 pre.0 inside (omega
+          arith)),
     )
 
 pub returns-then-not-is_edge_calm : goal.returns-then-not-is_edge_calm
@@ -29,7 +31,7 @@ loop-e-smaller c =
     let args = c.args in
     let loop = c.loop-e in
     let loop-test = c.loop-e-test in
-    omega (arith, open-edge2.ensures, edge-most args.flags.now args.x (loop.e - 1), loop-test.true)
+    omega (arith, open-edge2.ensures, edge-most args.graph.flags.now args.x (loop.e - 1), loop-test.true)
 
 pub loop-e-preserved : goal.loop-e-preserved
 loop-e-preserved c =
@@ -40,11 +42,16 @@ loop-e-preserved c =
     let is-edge-calm = c.is_edge_calm in
     let if1 = c.if-not-is_edge_calm in
     let pre = c.requires in (
-      omega (arith, open-edge2.ensures, edge-most args.flags.now args.x (loop.e - 1), loop.invariant.0, loop-test.true),
-      λ n opened inside. down-on (is_open args.flags.now args.x) (EdgeCalm args.changed.now args.resets.now args.spots.now args.rows.now
-          args.x) args.k loop.e open-edge2.result loop-test.true (loop.invariant.1 n opened inside)
+      omega (arith, open-edge2.ensures, edge-most args.graph.flags.now args.x (loop.e - 1), loop.invariant.0, loop-test.true),
+      λ n opened inside. down-on (is_open args.graph.flags.now args.x) (EdgeCalm args.changed.now args.graph.resets.now
+          args.graph.spots.now args.graph.rows.now
+          args.x) args.graph.k loop.e open-edge2.result loop-test.true (loop.invariant.1 n opened inside)
           (is-edge-calm.ensures if1.false)
-          (open-edge2.ensures ∙ edge-open n args.k args.flags.now args.x (loop.e - 1) opened pre.1 (omega (arith, loop.invariant.0, pre.0))
+          (open-edge2.ensures ∙ edge-open n args.graph.k args.graph.flags.now args.x (loop.e - 1) opened pre.1 (omega (
+            arith,
+            loop.invariant.0,
+            pre.0,
+          ))
           inside
           (omega (arith, loop.invariant.0))),
     )
@@ -54,5 +61,6 @@ returns c =
     let args = c.args in
     let loop = c.loop-e in
     let loop-test = c.loop-e-test in
-    λ _ n opened inside. down-over (is_open args.flags.now args.x) (EdgeCalm args.changed.now args.resets.now args.spots.now
-    args.rows.now args.x) args.k loop.e loop-test.false (loop.invariant.1 n opened inside)
+    λ _ n opened inside. down-over (is_open args.graph.flags.now args.x) (EdgeCalm args.changed.now args.graph.resets.now
+    args.graph.spots.now
+    args.graph.rows.now args.x) args.graph.k loop.e loop-test.false (loop.invariant.1 n opened inside)

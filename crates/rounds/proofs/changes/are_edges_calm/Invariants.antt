@@ -7,8 +7,9 @@ use Rattle.rounds.proofs.changes.are_edges_calm.Given as goal
 
 abbrev pub invariant-loop-e : goal.invariant-loop-e
 invariant-loop-e l =
-    (l.e ≤ l.k) × ((n : ℕ) → Opened n l.k l.flags → l.x < n → Down (is_open l.flags l.x) (EdgeCalm l.changed l.resets l.spots l.rows l.x)
-    l.k l.e)
+    (l.e ≤ l.graph.k) × ((n : ℕ) → Opened n l.graph.k l.graph.flags.now → l.x < n → Down (is_open l.graph.flags.now l.x) (EdgeCalm
+    l.changed l.graph.resets.now l.graph.spots.now l.graph.rows.now l.x)
+    l.graph.k l.e)
 
 abbrev pub decreases-loop-e : goal.decreases-loop-e
 decreases-loop-e l = l.e

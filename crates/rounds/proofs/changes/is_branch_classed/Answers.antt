@@ -6,8 +6,8 @@ use Rattle.comparison.specs.Laws.Compare.{target-inside}
 use Rattle.rounds.specs.Laws.Changes.{branch-classed}
 use Rattle.rounds.proofs.changes.is_branch_classed.Goals as goal
 
-pub returns-then-n-target : goal.returns-then-n-target
-returns-then-n-target c = λ t. absurd (clash t refl)
+pub returns-then-graph-target : goal.returns-then-graph-target
+returns-then-graph-target c = λ t. absurd (clash t refl)
 
 pub returns-then-mask-ge16 : goal.returns-then-mask-ge16
 returns-then-mask-ge16 c = λ t. absurd (clash t refl)
@@ -23,10 +23,12 @@ returns c =
     let at16 = c.at16-mask in
     let at162 = c.at16-class in
     let at163 = c.at16 in
-    let if1 = c.if-n-target in
+    let if1 = c.if-graph-target in
     let if2 = c.if-mask-ge16 in
     let if3 = c.if-class-ge4096 in
-    λ t. branch-classed args.n args.resets.now args.spots.now args.rows.now args.x args.e args.i target-of.result at16.result
-    at162.result at163.result (target-of.ensures ∙ target-inside args.resets.now args.spots.now args.rows.now args.x args.e args.i pre.1
+    λ t. branch-classed args.graph.n args.graph.resets.now args.graph.spots.now args.graph.rows.now args.x args.e args.i
+    target-of.result at16.result
+    at162.result at163.result (target-of.ensures ∙ target-inside args.graph.resets.now args.graph.spots.now args.graph.rows.now
+    args.x args.e args.i pre.1
     pre.2 pre.3) if1.false at16.ensures.0 if2.false at162.ensures.0 if3.false at163.ensures.0
     (eqb-true at163.result at162.result t)

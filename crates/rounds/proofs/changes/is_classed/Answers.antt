@@ -9,8 +9,11 @@ use Rattle.rounds.proofs.changes.is_classed.Goals as goal
 
 pub loop-x-init : goal.loop-x-init
 loop-x-init c =
-    let args = c.args in
-    (omega arith, λ _. each_none (λ (y : ℕ). ItemClassed args.n args.k args.flags.now args.resets.now args.spots.now args.rows.now y))
+    let args = c.args in (
+      omega arith,
+      λ _. each_none (λ (y : ℕ). ItemClassed args.graph.n args.graph.k args.graph.flags.now args.graph.resets.now
+          args.graph.spots.now args.graph.rows.now y),
+    )
 
 pub is_item_classed-requires : goal.is_item_classed-requires
 is_item_classed-requires c =
@@ -30,7 +33,8 @@ loop-x-preserved c =
     let if1 = c.if-not-is_item_classed in (
       omega (arith, loop-test.true),
       λ opened.
-          each_on (λ (y : ℕ). ItemClassed args.n args.k args.flags.now args.resets.now args.spots.now args.rows.now y) loop.x
+          each_on (λ (y : ℕ). ItemClassed args.graph.n args.graph.k args.graph.flags.now args.graph.resets.now args.graph.spots.now
+          args.graph.rows.now y) loop.x
           (loop.invariant.1 opened) (is-item-classed.ensures if1.false opened loop-test.true),
     )
 
@@ -39,5 +43,6 @@ returns c =
     let args = c.args in
     let loop = c.loop-x in
     let loop-test = c.loop-x-test in
-    λ _ opened. each_over (λ (y : ℕ). ItemClassed args.n args.k args.flags.now args.resets.now args.spots.now args.rows.now y) args.n
+    λ _ opened. each_over (λ (y : ℕ). ItemClassed args.graph.n args.graph.k args.graph.flags.now args.graph.resets.now
+    args.graph.spots.now args.graph.rows.now y) args.graph.n
     loop.x loop-test.false (loop.invariant.1 opened)

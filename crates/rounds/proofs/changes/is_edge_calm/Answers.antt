@@ -14,7 +14,8 @@ pub loop-i-init : goal.loop-i-init
 loop-i-init c =
     let args = c.args in (
       omega arith,
-      each_none (λ (j : ℕ). get_or args.changed.now (target_at args.resets.now args.spots.now args.rows.now args.x args.e j) 0
+      each_none (λ (j : ℕ). get_or args.changed.now (target_at args.graph.resets.now args.graph.spots.now args.graph.rows.now
+          args.x args.e j) 0
           ≡ 0),
     )
 
@@ -38,9 +39,10 @@ loop-i-preserved c =
     let is-clear = c.is_clear in
     let if1 = c.if-not-is_clear in (
       omega (arith, loop-test.true),
-      each_on (λ (j : ℕ). get_or args.changed.now (target_at args.resets.now args.spots.now args.rows.now
+      each_on (λ (j : ℕ). get_or args.changed.now (target_at args.graph.resets.now args.graph.spots.now args.graph.rows.now
           args.x args.e j) 0 ≡ 0) loop.i loop.invariant.1
-          (ap (λ (t : ℕ). get_or args.changed.now t 0) (sym (target-of.ensures ∙ target-inside args.resets.now args.spots.now args.rows.now
+          (ap (λ (t : ℕ). get_or args.changed.now t 0) (sym (target-of.ensures ∙ target-inside args.graph.resets.now
+          args.graph.spots.now args.graph.rows.now
           args.x args.e loop.i pre.0 pre.1 (omega (arith, loop-test.true, at16.ensures.1)))) ∙ eqb-true _ 0 (sym is-clear.ensures ∙
           if1.false)),
     )
@@ -51,5 +53,6 @@ returns c =
     let loop = c.loop-i in
     let loop-test = c.loop-i-test in
     let at16 = c.at16-count in
-    λ _. each_over (λ (j : ℕ). get_or args.changed.now (target_at args.resets.now args.spots.now args.rows.now args.x args.e j) 0 ≡ 0)
-    (count_at args.rows.now args.e) loop.i (omega (arith, loop-test.false, at16.ensures.0)) loop.invariant.1
+    λ _. each_over (λ (j : ℕ). get_or args.changed.now (target_at args.graph.resets.now args.graph.spots.now args.graph.rows.now
+    args.x args.e j) 0 ≡ 0)
+    (count_at args.graph.rows.now args.e) loop.i (omega (arith, loop-test.false, at16.ensures.0)) loop.invariant.1

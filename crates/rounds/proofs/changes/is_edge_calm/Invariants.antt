@@ -7,7 +7,8 @@ use Rattle.rounds.proofs.changes.is_edge_calm.Given as goal
 
 abbrev pub invariant-loop-i : goal.invariant-loop-i
 invariant-loop-i l =
-    (l.i ≤ l.count) × ((j : ℕ) → j < l.i → get_or l.changed (target_at l.resets l.spots l.rows l.x l.e j) 0 ≡ 0)
+    (l.i ≤ l.count) × ((j : ℕ) → j < l.i → get_or l.changed (target_at l.graph.resets.now l.graph.spots.now l.graph.rows.now l.x
+    l.e j) 0 ≡ 0)
 
 abbrev pub decreases-loop-i : goal.decreases-loop-i
 decreases-loop-i l = l.count - l.i

@@ -10,8 +10,11 @@ use Rattle.rounds.proofs.changes.is_edge_classed.Goals as goal
 
 pub loop-i-init : goal.loop-i-init
 loop-i-init c =
-    let args = c.args in
-    (omega arith, each_none (λ (j : ℕ). BranchClassed args.n args.resets.now args.spots.now args.rows.now args.x args.e j))
+    let args = c.args in (
+      omega arith,
+      each_none (λ (j : ℕ). BranchClassed args.graph.n args.graph.resets.now args.graph.spots.now args.graph.rows.now
+          args.x args.e j),
+    )
 
 pub is_branch_classed-requires : goal.is_branch_classed-requires
 is_branch_classed-requires c =
@@ -37,7 +40,8 @@ loop-i-preserved c =
     let is-branch-classed = c.is_branch_classed in
     let if1 = c.if-not-is_branch_classed in (
       omega (arith, loop-test.true),
-      each_on (λ (j : ℕ). BranchClassed args.n args.resets.now args.spots.now args.rows.now args.x args.e j) loop.i loop.invariant.1
+      each_on (λ (j : ℕ). BranchClassed args.graph.n args.graph.resets.now args.graph.spots.now args.graph.rows.now args.x args.e
+          j) loop.i loop.invariant.1
           (is-branch-classed.ensures if1.false),
     )
 
@@ -47,5 +51,6 @@ returns c =
     let loop = c.loop-i in
     let loop-test = c.loop-i-test in
     let at16 = c.at16-count in
-    λ _. each_over (λ (j : ℕ). BranchClassed args.n args.resets.now args.spots.now args.rows.now args.x args.e j) (count_at
-    args.rows.now args.e) loop.i (omega (arith, loop-test.false, at16.ensures.0)) loop.invariant.1
+    λ _. each_over (λ (j : ℕ). BranchClassed args.graph.n args.graph.resets.now args.graph.spots.now args.graph.rows.now args.x
+    args.e j) (count_at
+    args.graph.rows.now args.e) loop.i (omega (arith, loop-test.false, at16.ensures.0)) loop.invariant.1

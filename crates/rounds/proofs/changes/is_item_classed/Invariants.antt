@@ -7,7 +7,8 @@ use Rattle.rounds.proofs.changes.is_item_classed.Given as goal
 
 abbrev pub invariant-loop-e : goal.invariant-loop-e
 invariant-loop-e l =
-    (l.e ≤ l.k) × (Opened l.n l.k l.flags → l.x < l.n → Down (is_open l.flags l.x) (EdgeClassed l.n l.resets l.spots l.rows l.x) l.k l.e)
+    (l.e ≤ l.graph.k) × (Opened l.graph.n l.graph.k l.graph.flags.now → l.x < l.graph.n → Down (is_open l.graph.flags.now l.x)
+    (EdgeClassed l.graph.n l.graph.resets.now l.graph.spots.now l.graph.rows.now l.x) l.graph.k l.e)
 
 abbrev pub decreases-loop-e : goal.decreases-loop-e
 decreases-loop-e l = l.e

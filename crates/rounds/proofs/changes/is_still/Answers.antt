@@ -10,7 +10,7 @@ use Rattle.rounds.proofs.changes.is_still.Goals as goal
 pub loop-x-init : goal.loop-x-init
 loop-x-init c =
     let args = c.args in
-    (omega arith, each_none (λ (y : ℕ). StillAt args.n args.changed.now args.nexts.now args.still.now y))
+    (omega arith, each_none (λ (y : ℕ). StillAt args.graph.n args.changed.now args.graph.nexts.now args.still.now y))
 
 pub returns-then-not-is_still_at : goal.returns-then-not-is_still_at
 returns-then-not-is_still_at c = λ t. absurd (clash t refl)
@@ -23,7 +23,8 @@ loop-x-preserved c =
     let is-still-at = c.is_still_at in
     let if1 = c.if-not-is_still_at in (
       omega (arith, loop-test.true),
-      each_on (λ (y : ℕ). StillAt args.n args.changed.now args.nexts.now args.still.now y) loop.x loop.invariant.1 (is-still-at.ensures
+      each_on (λ (y : ℕ). StillAt args.graph.n args.changed.now args.graph.nexts.now args.still.now y) loop.x loop.invariant.1
+          (is-still-at.ensures
           if1.false),
     )
 
@@ -32,5 +33,6 @@ returns c =
     let args = c.args in
     let loop = c.loop-x in
     let loop-test = c.loop-x-test in
-    λ _. each_over (λ (y : ℕ). StillAt args.n args.changed.now args.nexts.now args.still.now y) args.n loop.x loop-test.false
+    λ _. each_over (λ (y : ℕ). StillAt args.graph.n args.changed.now args.graph.nexts.now args.still.now y) args.graph.n loop.x
+    loop-test.false
     loop.invariant.1

@@ -18,12 +18,12 @@ returns-then-not-is_set c =
 pub returns-then-not-is_clear : goal.returns-then-not-is_clear
 returns-then-not-is_clear c = λ t. absurd (clash t refl)
 
-pub returns-then-n-next : goal.returns-then-n-next
-returns-then-n-next c =
+pub returns-then-graph-next : goal.returns-then-graph-next
+returns-then-graph-next c =
     let args = c.args in
     let is-clear = c.is_clear in
     let if2 = c.if-not-is_clear in
-    let if3 = c.if-n-next in
+    let if3 = c.if-graph-next in
     let at16 = c.at16-next in
     λ _ s. (
       eqb-true (get_or args.changed.now args.x 0) 0 (sym is-clear.ensures ∙ if2.false),
@@ -41,6 +41,6 @@ returns c =
     λ t s. (
       eqb-true (get_or args.changed.now args.x 0) 0 (sym is-clear.ensures ∙ if2.false),
       λ h. eqb-true
-          (get_or args.still.now (get_or args.nexts.now args.x 0) 0) 1 (ap (λ (z : ℕ). eqb (get_or args.still.now z 0) 1) (sym
+          (get_or args.still.now (get_or args.graph.nexts.now args.x 0) 0) 1 (ap (λ (z : ℕ). eqb (get_or args.still.now z 0) 1) (sym
           at16.ensures.0) ∙ sym is-set2.ensures ∙ t),
     )

@@ -10,7 +10,7 @@ use Rattle.rounds.proofs.changes.is_touched.Goals as goal
 pub loop-mask-init : goal.loop-mask-init
 loop-mask-init c =
     let args = c.args in
-    (omega arith, each_none (λ (m : ℕ). UntouchedBy args.used.now args.resets.now args.marks.now args.x m))
+    (omega arith, each_none (λ (m : ℕ). UntouchedBy args.used.now args.graph.resets.now args.marks.now args.x m))
 
 pub is_touched_by-requires : goal.is_touched_by-requires
 is_touched_by-requires c =
@@ -34,7 +34,7 @@ loop-mask-preserved c =
     let is-touched-by = c.is_touched_by in
     let if1 = c.if-is_touched_by in (
       omega (arith, loop-test.true),
-      each_on (λ (m : ℕ). UntouchedBy args.used.now args.resets.now args.marks.now args.x m) loop.mask loop.invariant.1
+      each_on (λ (m : ℕ). UntouchedBy args.used.now args.graph.resets.now args.marks.now args.x m) loop.mask loop.invariant.1
           (is-touched-by.ensures if1.false),
     )
 
@@ -43,5 +43,5 @@ returns c =
     let args = c.args in
     let loop = c.loop-mask in
     let loop-test = c.loop-mask-test in
-    λ _. each_over (λ (m : ℕ). UntouchedBy args.used.now args.resets.now args.marks.now args.x m) 16 loop.mask loop-test.false
+    λ _. each_over (λ (m : ℕ). UntouchedBy args.used.now args.graph.resets.now args.marks.now args.x m) 16 loop.mask loop-test.false
     loop.invariant.1

@@ -19,5 +19,6 @@ returns c =
     let args = c.args in
     let at16 = c.at16 in
     let is-set2 = c.is_set-2 in
-    λ f _ m. clash (eq-eqb (get_or args.marks.now (get_or args.resets.now (16 * args.x + args.mask) 0) 0) 1 m) (ap (λ (z : ℕ). eqb (get_or
+    λ f _ m. clash (eq-eqb (get_or args.marks.now (get_or args.graph.resets.now (16 * args.x + args.mask) 0) 0) 1 m) (ap (λ (z :
+    ℕ). eqb (get_or
     args.marks.now z 0) 1) (sym at16.ensures.0) ∙ sym is-set2.ensures ∙ f)

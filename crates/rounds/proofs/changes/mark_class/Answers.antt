@@ -28,5 +28,6 @@ returns c =
     let pre = c.requires in (
       ap length put-flag.ensures ∙ length-set args.marks.now at16.result 1 ∙ pre.1,
       rw put-flag.ensures (kept_set args.marks.now at16.result),
-      rw put-flag.ensures (marked-set args.changed.now args.resets.now args.marks.now args.x at16.result pre.1 at16.ensures.0),
+      rw put-flag.ensures (marked-set args.changed.now args.graph.resets.now args.marks.now args.x at16.result pre.1
+          at16.ensures.0),
     )

@@ -11,7 +11,7 @@ pub loop-x-init : goal.loop-x-init
 loop-x-init c =
     let pre = c.requires in
     let args = c.args in
-    (pre.1, omega arith, each_none (λ (y : ℕ). MarkedAt args.changed.now args.resets.now args.marks.now y))
+    (pre.1, omega arith, each_none (λ (y : ℕ). MarkedAt args.changed.now args.graph.resets.now args.marks.now y))
 
 pub mark_class-requires : goal.mark_class-requires
 mark_class-requires c =
@@ -28,7 +28,7 @@ loop-x-preserved c =
     let loop = c.loop-x in (
       mark-class.ensures.0,
       omega (arith, loop-test.true),
-      marked-on args.changed.now args.resets.now loop.marks mark-class.new.marks loop.x mark-class.ensures.1 loop.invariant.2
+      marked-on args.changed.now args.graph.resets.now loop.marks mark-class.new.marks loop.x mark-class.ensures.1 loop.invariant.2
           mark-class.ensures.2,
     )
 
@@ -44,5 +44,6 @@ returns c =
     let args = c.args in
     let loop-test = c.loop-x-test in (
       loop.invariant.0,
-      each_over (λ (y : ℕ). MarkedAt args.changed.now args.resets.now loop.marks y) args.n loop.x loop-test.false loop.invariant.2,
+      each_over (λ (y : ℕ). MarkedAt args.changed.now args.graph.resets.now loop.marks y) args.graph.n loop.x loop-test.false
+          loop.invariant.2,
     )

@@ -8,7 +8,7 @@ use Rattle.rounds.proofs.changes.mark_classes.Given as goal
 
 abbrev pub invariant-loop-x : goal.invariant-loop-x
 invariant-loop-x l =
-    (length l.marks ≡ most_items) × (l.x ≤ l.n) × ((y : ℕ) → y < l.x → MarkedAt l.changed l.resets l.marks y)
+    (length l.marks ≡ most_items) × (l.x ≤ l.graph.n) × ((y : ℕ) → y < l.x → MarkedAt l.changed l.graph.resets.now l.marks y)
 
 abbrev pub decreases-loop-x : goal.decreases-loop-x
-decreases-loop-x l = l.n - l.x
+decreases-loop-x l = l.graph.n - l.x

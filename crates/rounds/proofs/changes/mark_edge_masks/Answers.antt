@@ -13,7 +13,7 @@ pub loop-i-init : goal.loop-i-init
 loop-i-init c =
     let pre = c.requires in
     let args = c.args in
-    (pre.1, omega arith, λ i t. t, each_none (λ (j : ℕ). UsedAt args.rows.now args.used.now args.e j))
+    (pre.1, omega arith, λ i t. t, each_none (λ (j : ℕ). UsedAt args.graph.rows.now args.used.now args.e j))
 
 pub overflow_mul-e-in-loop-i : goal.overflow_mul-e-in-loop-i
 overflow_mul-e-in-loop-i c =
@@ -59,7 +59,8 @@ loop-i-preserved c =
       ap length put-flag.ensures ∙ length-set loop.used at162.result 1 ∙ loop.invariant.0,
       omega (arith, loop-test.true),
       rw put-flag.ensures (kept_on args.used.now loop.used at162.result loop.invariant.2),
-      rw put-flag.ensures (used-on args.rows.now loop.used args.e loop.i at162.result loop.invariant.0 at162.ensures.0 loop.invariant.3),
+      rw put-flag.ensures (used-on args.graph.rows.now loop.used args.e loop.i at162.result loop.invariant.0 at162.ensures.0
+          loop.invariant.3),
     )
 
 pub shape_of-used : goal.shape_of-used
@@ -76,7 +77,7 @@ returns c =
     let at16 = c.at16-count in (
       loop.invariant.0,
       loop.invariant.2,
-      each_over (λ (j : ℕ). UsedAt args.rows.now loop.used args.e j) (count_at args.rows.now args.e) loop.i (omega (
+      each_over (λ (j : ℕ). UsedAt args.graph.rows.now loop.used args.e j) (count_at args.graph.rows.now args.e) loop.i (omega (
         arith,
         loop-test.false,
         at16.ensures.0,

@@ -11,7 +11,7 @@ pub loop-e-init : goal.loop-e-init
 loop-e-init c =
     let pre = c.requires in
     let args = c.args in
-    (pre.1, omega arith, each_none (λ (f : ℕ). UsedBy args.rows.now args.used.now f))
+    (pre.1, omega arith, each_none (λ (f : ℕ). UsedBy args.graph.rows.now args.used.now f))
 
 pub mark_edge_masks-requires : goal.mark_edge_masks-requires
 mark_edge_masks-requires c =
@@ -28,7 +28,7 @@ loop-e-preserved c =
     let loop = c.loop-e in (
       mark-edge-masks.ensures.0,
       omega (arith, loop-test.true),
-      used-kept args.rows.now loop.used mark-edge-masks.new.used loop.e mark-edge-masks.ensures.1 loop.invariant.2
+      used-kept args.graph.rows.now loop.used mark-edge-masks.new.used loop.e mark-edge-masks.ensures.1 loop.invariant.2
           mark-edge-masks.ensures.2,
     )
 
@@ -42,5 +42,8 @@ pub returns : goal.returns
 returns c =
     let loop = c.loop-e in
     let args = c.args in
-    let loop-test = c.loop-e-test in
-    (loop.invariant.0, each_over (λ (f : ℕ). UsedBy args.rows.now loop.used f) args.k loop.e loop-test.false loop.invariant.2)
+    let loop-test = c.loop-e-test in (
+      loop.invariant.0,
+      each_over (λ (f : ℕ). UsedBy args.graph.rows.now loop.used f) args.graph.k loop.e loop-test.false
+          loop.invariant.2,
+    )

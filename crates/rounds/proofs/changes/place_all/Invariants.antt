@@ -8,4 +8,4 @@ abbrev pub invariant-loop-count : goal.invariant-loop-count
 invariant-loop-count l = (length l.placed ≡ length l.initial.placed) × (length l.order ≡ length l.initial.order)
 
 abbrev pub decreases-loop-count : goal.decreases-loop-count
-decreases-loop-count l = l.n - l.count
+decreases-loop-count l = l.graph.n - l.count

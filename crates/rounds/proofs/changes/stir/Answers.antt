@@ -8,7 +8,8 @@ returns-then-not-classed c =
     let args = c.args in
     record {
       stirred_len_unchanged = stir-all.ensures.0;
-      stirred = λ _ _. all-stirred args.n args.k args.changed.now args.nexts.now args.flags.now args.resets.now args.spots.now args.rows.now
+      stirred = λ _ _. all-stirred args.graph.n args.graph.k args.changed.now args.graph.nexts.now args.graph.flags.now
+          args.graph.resets.now args.graph.spots.now args.graph.rows.now
           stir-all.new.stirred stir-all.ensures.1;
     }
 
@@ -18,7 +19,8 @@ returns-then-not-is_still c =
     let args = c.args in
     record {
       stirred_len_unchanged = stir-all2.ensures.0;
-      stirred = λ _ _. all-stirred args.n args.k args.changed.now args.nexts.now args.flags.now args.resets.now args.spots.now args.rows.now
+      stirred = λ _ _. all-stirred args.graph.n args.graph.k args.changed.now args.graph.nexts.now args.graph.flags.now
+          args.graph.resets.now args.graph.spots.now args.graph.rows.now
           stir-all2.new.stirred stir-all2.ensures.1;
     }
 
@@ -32,7 +34,8 @@ returns c =
     let if1 = c.if-not-classed in
     record {
       stirred_len_unchanged = stir-some.ensures.stirred_len_unchanged;
-      stirred = λ opened yes. spared-stirred args.n args.k args.changed.now args.nexts.now args.flags.now args.resets.now args.spots.now
-          args.rows.now mark-still.new.still stir-some.new.stirred (is-still.ensures if2.false) (yes if1.false)
+      stirred = λ opened yes. spared-stirred args.graph.n args.graph.k args.changed.now args.graph.nexts.now args.graph.flags.now
+          args.graph.resets.now args.graph.spots.now
+          args.graph.rows.now mark-still.new.still stir-some.new.stirred (is-still.ensures if2.false) (yes if1.false)
           (stir-some.ensures.spared opened);
     }

@@ -10,7 +10,8 @@ returns c =
     let mark-classes = c.mark_classes in
     record {
       stirred_len_unchanged = stir-touched.ensures.stirred_len_unchanged;
-      spared = λ opened. rests-spared args.n args.k args.changed.now args.flags.now args.resets.now args.spots.now
-          args.rows.now mark-masks.new.used args.still.now mark-classes.new.marks stir-touched.new.stirred
+      spared = λ opened. rests-spared args.graph.n args.graph.k args.changed.now args.graph.flags.now args.graph.resets.now
+          args.graph.spots.now
+          args.graph.rows.now mark-masks.new.used args.still.now mark-classes.new.marks stir-touched.new.stirred
           mark-classes.ensures.1 mark-masks.ensures.1 (stir-touched.ensures.rests opened);
     }

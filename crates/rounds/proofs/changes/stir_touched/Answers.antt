@@ -13,8 +13,9 @@ loop-x-init c =
     let args = c.args in (
       refl,
       omega arith,
-      λ opened. each_none (λ (y : ℕ). RestsAt args.k args.changed.now args.flags.now args.resets.now args.spots.now
-          args.rows.now args.used.now args.still.now args.marks.now y (get_or args.stirred.now y 0)),
+      λ opened. each_none (λ (y : ℕ). RestsAt args.graph.k args.changed.now args.graph.flags.now args.graph.resets.now
+          args.graph.spots.now
+          args.graph.rows.now args.used.now args.still.now args.marks.now y (get_or args.stirred.now y 0)),
     )
 
 pub stirred_flag-flag-requires : goal.stirred_flag-flag-requires
@@ -38,10 +39,12 @@ loop-x-preserved c =
     let pre = c.requires in (
       ap length put-flag.ensures ∙ length-set loop.stirred loop.x stirred-flag.result ∙ loop.invariant.0,
       omega (arith, loop-test.true),
-      λ opened. rw put-flag.ensures (filled_on (λ (y v : ℕ). RestsAt args.k args.changed.now args.flags.now args.resets.now
-          args.spots.now args.rows.now args.used.now args.still.now args.marks.now y v) loop.stirred loop.x stirred-flag.result (omega
+      λ opened. rw put-flag.ensures (filled_on (λ (y v : ℕ). RestsAt args.graph.k args.changed.now args.graph.flags.now
+          args.graph.resets.now
+          args.graph.spots.now args.graph.rows.now args.used.now args.still.now args.marks.now y v) loop.stirred loop.x
+          stirred-flag.result (omega
           (arith, loop-test.true, loop.invariant.0, pre.2)) (loop.invariant.2 opened)
-          (stirred-flag.ensures args.n opened loop-test.true)),
+          (stirred-flag.ensures args.graph.n opened loop-test.true)),
     )
 
 pub shape_of-stirred : goal.shape_of-stirred
@@ -56,8 +59,10 @@ returns c =
     let loop-test = c.loop-x-test in
     record {
       stirred_len_unchanged = loop.invariant.0;
-      rests = λ opened. each_over (λ (y : ℕ). RestsAt args.k args.changed.now args.flags.now args.resets.now args.spots.now
-          args.rows.now args.used.now args.still.now args.marks.now y (get_or loop.stirred y 0)) args.n loop.x loop-test.false
+      rests = λ opened. each_over (λ (y : ℕ). RestsAt args.graph.k args.changed.now args.graph.flags.now args.graph.resets.now
+          args.graph.spots.now
+          args.graph.rows.now args.used.now args.still.now args.marks.now y (get_or loop.stirred y 0)) args.graph.n loop.x
+          loop-test.false
           (loop.invariant.2
           opened);
     }

@@ -8,9 +8,10 @@ use Rattle.rounds.proofs.changes.stir_touched.Given as goal
 
 abbrev pub invariant-loop-x : goal.invariant-loop-x
 invariant-loop-x l =
-    (length l.stirred ≡ length l.initial.stirred) × (l.x ≤ l.n)
-    × (Opened l.n l.k l.flags → (y : ℕ) → y < l.x → RestsAt l.k l.changed l.flags l.resets l.spots l.rows l.used
+    (length l.stirred ≡ length l.initial.stirred) × (l.x ≤ l.graph.n)
+    × (Opened l.graph.n l.graph.k l.graph.flags.now → (y : ℕ) → y < l.x → RestsAt l.graph.k l.changed l.graph.flags.now
+    l.graph.resets.now l.graph.spots.now l.graph.rows.now l.used
     l.still l.marks y (get_or l.stirred y 0))
 
 abbrev pub decreases-loop-x : goal.decreases-loop-x
-decreases-loop-x l = l.n - l.x
+decreases-loop-x l = l.graph.n - l.x

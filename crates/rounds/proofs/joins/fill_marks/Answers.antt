@@ -26,7 +26,8 @@ loop-x-init c =
         λ y h. absurd (omega arith),
         record {
           keyed = keyed;
-          shelved = shelf-none args.k args.names.now args.flags.now args.resets.now args.spots.now args.rows.now;
+          shelved = shelf-none args.graph.k args.names.now args.graph.flags.now args.graph.resets.now args.graph.spots.now
+              args.graph.rows.now;
         },
       ),
     )

@@ -19,7 +19,8 @@ returns-then-is_clear c =
       keys_len_unchanged = (refl, refl, refl, refl);
       kins = λ olds kins. (kins-kept args.older.now args.x olds, kins-kept args.kins.now args.x kins);
       value = λ F equipped settled anchored step marked olds kins hx. (
-        sym (joined-calm (next F args.names.now) args.n args.old.now args.stirred.now args.anchors.now anchored settled args.x hx
+        sym (joined-calm (next F args.names.now) args.graph.n args.old.now args.stirred.now args.anchors.now anchored settled
+            args.x hx
             (eqb-true (get_or args.stirred.now args.x 0) 0 (sym is-clear.ensures ∙ if1.true))),
         equipped,
       );
@@ -35,7 +36,8 @@ returns-then-link-eq0 c =
       keys_len_unchanged = (refl, refl, refl, refl);
       kins = λ olds kins. (kins-kept args.older.now args.x olds, kins-kept args.kins.now args.x kins);
       value = λ F equipped settled anchored step marked olds kins hx. (
-        sym (joined-none (next F args.names.now) args.n args.old.now args.stirred.now args.anchors.now anchored args.x at16.result
+        sym (joined-none (next F args.names.now) args.graph.n args.old.now args.stirred.now args.anchors.now anchored args.x
+            at16.result
             (at16.ensures.0 ∙ ap (λ (b : ℕ). get_or args.anchors.now b 0) index_at.ensures) if2.true),
         equipped,
       );
@@ -54,9 +56,9 @@ returns-then-is_twin c =
       keys_len_unchanged = (refl, refl, refl, refl);
       kins = λ olds kins. (kins-kept args.older.now args.x olds, kins-kept args.kins.now args.x kins);
       value = λ F equipped settled anchored step marked olds kins hx.
-          let below = (anchor-of (next F args.names.now) args.n args.old.now args.stirred.now args.anchors.now anchored args.x
+          let below = (anchor-of (next F args.names.now) args.graph.n args.old.now args.stirred.now args.anchors.now anchored args.x
           at16.result link if2.false).below in (
-            sym (joined-some (next F args.names.now) args.n args.old.now args.stirred.now args.anchors.now anchored args.x
+            sym (joined-some (next F args.names.now) args.graph.n args.old.now args.stirred.now args.anchors.now anchored args.x
                 at16.result link if2.false
                 ∙ twins-meet equipped.keyed.held equipped.keyed.closed args.names.now (at16.result - 1) args.x below hx
                 (is-twin.ensures.y_value if3.true equipped.keyed.held.onward equipped.keyed.held.opened below hx)),
@@ -82,7 +84,7 @@ returns-then-kin-gt0 c =
           let (hz, t) = find-kin.ensures F equipped.keyed.held equipped.keyed.closed hx olds (λ y e. kins sign_of.result y
           (sym
           at162.ensures.0 ∙ e)) z some in (
-            kin-joined (next F args.names.now) args.n args.old.now args.stirred.now args.anchors.now anchored step.classes
+            kin-joined (next F args.names.now) args.graph.n args.old.now args.stirred.now args.anchors.now anchored step.classes
                 step.finer
                 args.marks.now z args.x at163.result hz hx t marked at163.ensures.0,
             equipped,
@@ -113,9 +115,9 @@ returns c =
       kins = put-kin.ensures.kins;
       value = λ F equipped settled anchored step marked olds kins hx.
           let (same, kept) = is-keyed-next.ensures.value F equipped
-          (anchor-of (next F args.names.now) args.n args.old.now args.stirred.now args.anchors.now anchored args.x
+          (anchor-of (next F args.names.now) args.graph.n args.old.now args.stirred.now args.anchors.now anchored args.x
           at16.result link if2.false).below hx in (
-            same ∙ sym (joined-some (next F args.names.now) args.n args.old.now args.stirred.now args.anchors.now
+            same ∙ sym (joined-some (next F args.names.now) args.graph.n args.old.now args.stirred.now args.anchors.now
                 anchored args.x at16.result link if2.false),
             kept,
           );

@@ -21,8 +21,9 @@ returns-then-is_twin c =
     let at16 = c.at16 in
     let if1 = c.if-at16 in
     let at162 = c.at16-2 in
-    λ F held closed below hx hy r. sym (is-twin.ensures.y_value if2.true held.onward held.opened hx hy) ∙ next-held F args.n
-    args.k args.list.now args.labels.now args.nexts.now args.flags.now args.resets.now args.spots.now args.rows.now held closed
+    λ F held closed below hx hy r. sym (is-twin.ensures.y_value if2.true held.onward held.opened hx hy) ∙ next-held F args.graph.n
+    args.graph.k args.list.now args.graph.labels.now args.graph.nexts.now args.graph.flags.now args.graph.resets.now
+    args.graph.spots.now args.graph.rows.now held closed
     args.x args.y hx hy ∙ judged-next F args.list.now args.x args.y (sym (held.label args.x hx) ∙ sym at16.ensures.0 ∙
     if1.false ∙ at162.ensures.0 ∙ held.label args.y hy) r
 

@@ -21,8 +21,8 @@ returns-then-not-is_alike c =
     let if1 = c.if-not-is_alike in
     λ F held closed reps.
     let is = index_at.ensures ∙ reps.rep loop.x loop-test.true in
-    let inside : index_at.result < args.n = omega (arith, is, lead_low (related args.firsts.now) loop.x, loop-test.true) in
-    let judged = is-alike.ensures F held closed (reps-below args.n (related args.firsts.now) args.firsts.now held.few reps)
+    let inside : index_at.result < args.graph.n = omega (arith, is, lead_low (related args.firsts.now) loop.x, loop-test.true) in
+    let judged = is-alike.ensures F held closed (reps-below args.graph.n (related args.firsts.now) args.firsts.now held.few reps)
     loop-test.true inside (lead-alike args.firsts.now loop.x index_at.result is) in
     sym (judged-not F closed args.firsts.now loop.x (omega (arith, held.size, loop-test.true)) (ap (judged_with F
     args.firsts.now loop.x) (sym is) ∙ sym judged ∙ if1.true))
@@ -47,8 +47,8 @@ loop-x-preserved c =
     let if1 = c.if-not-is_alike in
     λ F held closed reps.
     let is = index_at.ensures ∙ reps.rep loop.x loop-test.true in
-    let inside : index_at.result < args.n = omega (arith, is, lead_low (related args.firsts.now) loop.x, loop-test.true) in
-    let judged = is-alike.ensures F held closed (reps-below args.n (related args.firsts.now) args.firsts.now held.few reps)
+    let inside : index_at.result < args.graph.n = omega (arith, is, lead_low (related args.firsts.now) loop.x, loop-test.true) in
+    let judged = is-alike.ensures F held closed (reps-below args.graph.n (related args.firsts.now) args.firsts.now held.few reps)
     loop-test.true inside (lead-alike args.firsts.now loop.x index_at.result is) in
     judged-on F args.firsts.now loop.x index_at.result (loop.invariant F held closed reps) is (sym judged ∙ if1.false)
 
@@ -57,5 +57,6 @@ returns c =
     let args = c.args in
     let loop = c.loop-x in
     let loop-test = c.loop-x-test in
-    λ F held closed reps. sym (judged-all F closed args.firsts.now args.n held.size (λ x h. loop.invariant F held closed reps x
+    λ F held closed reps. sym (judged-all F closed args.firsts.now args.graph.n held.size (λ x h. loop.invariant F held closed reps
+    x
     (omega (arith, loop-test.false))))

@@ -9,9 +9,10 @@ use Rattle.rounds.proofs.judging.judge_firsts.Given as goal
 
 abbrev pub invariant-loop-x : goal.invariant-loop-x
 invariant-loop-x l =
-    (F : Finite) → Held F l.n l.k l.labels l.nexts l.flags l.resets l.spots l.rows → Closed (structure F)
-    → Reps (related l.firsts) l.n l.firsts →
+    (F : Finite) → Held F l.graph.n l.graph.k l.graph.labels.now l.graph.nexts.now l.graph.flags.now l.graph.resets.now
+    l.graph.spots.now l.graph.rows.now → Closed (structure F)
+    → Reps (related l.firsts) l.graph.n l.firsts →
     JudgedTo F l.firsts l.x
 
 abbrev pub decreases-loop-x : goal.decreases-loop-x
-decreases-loop-x l = l.n - l.x
+decreases-loop-x l = l.graph.n - l.x

@@ -18,7 +18,7 @@ returns-then-is_twin c =
     let if2 = c.if-is_twin in
     λ F held closed hx olds kin z e.
     let hz : z < args.x = loop.invariant olds kin z e in
-    let hn : z < args.n = omega (arith, hz, hx) in
+    let hn : z < args.graph.n = omega (arith, hz, hx) in
     let is : loop.at - 1 ≡ z = omega (arith, e) in (
       hz,
       twins-meet held closed args.names.now z args.x hn hx (rw is at (c.is_twin.ensures.y_value if2.true

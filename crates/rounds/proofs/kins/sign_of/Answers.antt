@@ -4,19 +4,19 @@ use native.Mathlib.Omega.{arith}
 use Rattle.comparison.specs.Laws.Open.{edge-most}
 use Rattle.rounds.proofs.kins.sign_of.Goals as goal
 
-pub returns-then-k-gt128 : goal.returns-then-k-gt128
-returns-then-k-gt128 c = omega arith
+pub returns-then-graph-gt128 : goal.returns-then-graph-gt128
+returns-then-graph-gt128 c = omega arith
 
 pub loop-e-init : goal.loop-e-init
 loop-e-init c =
     let open-edge = c.open_edge-e in
     let args = c.args in
-    let if1 = c.if-k-gt128 in (
+    let if1 = c.if-graph-gt128 in (
       omega arith,
       omega (
         arith,
         open-edge.ensures,
-        edge-most args.flags.now args.x args.k,
+        edge-most args.graph.flags.now args.x args.graph.k,
         if1.false,
       ),
     )
@@ -33,7 +33,7 @@ loop-e-smaller c =
     let args = c.args in
     let loop = c.loop-e in
     let loop-test = c.loop-e-test in
-    omega (arith, open-edge2.ensures, edge-most args.flags.now args.x (loop.e - 1), loop-test.true)
+    omega (arith, open-edge2.ensures, edge-most args.graph.flags.now args.x (loop.e - 1), loop-test.true)
 
 pub loop-e-preserved : goal.loop-e-preserved
 loop-e-preserved c =
@@ -45,7 +45,7 @@ loop-e-preserved c =
       omega (
         arith,
         open-edge2.ensures,
-        edge-most args.flags.now args.x (loop.e
+        edge-most args.graph.flags.now args.x (loop.e
             - 1),
         loop.invariant.1,
       ),

@@ -20,5 +20,5 @@ returns c =
     let z : ℕ = link - 1 in
     let some : link ≡ suc z = omega (arith, if1.false) in
     let (hz, t) = find-kin.ensures F held closed hx olds kin z some in
-    led-by-kin (next F args.names.now) args.n args.x z c.index_at.result args.new.now classes hx hz reps
+    led-by-kin (next F args.names.now) args.graph.n args.x z c.index_at.result args.new.now classes hx hz reps
     c.index_at.ensures t

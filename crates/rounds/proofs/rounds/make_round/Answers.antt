@@ -42,7 +42,7 @@ returns c =
       led = λ F keyed step settled.
           let anchored = find-anchors.ensures.anchored step.reps in
           let (marked, known) = fill-marks.ensures.marked_to F keyed settled anchored step in
-          next-round.ensures.led F known (marks-sort (next F args.names.now) args.n args.old.now args.stirred.now
+          next-round.ensures.led F known (marks-sort (next F args.names.now) args.graph.n args.old.now args.stirred.now
           find-anchors.new.anchors anchored
           step.classes step.finer fill-marks.new.marks marked
           first_round.new.list first_round.ensures.led.reps);

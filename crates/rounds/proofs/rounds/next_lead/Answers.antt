@@ -18,7 +18,7 @@ returns-then-x-start c =
       older_len_unchanged = (refl, refl, refl, refl, ap length put-link.ensures ∙ length-set args.links.now args.x 0);
       kins = λ olds kins. (kins-kept args.older.now args.x olds, kins-kept args.kins.now args.x kins);
       value = λ F equipped sorted chains reps olds kins.
-          let (led, linked) = placed-own (next F args.names.now) args.n args.mid.now sorted.step args.links.now
+          let (led, linked) = placed-own (next F args.names.now) args.graph.n args.mid.now sorted.step args.links.now
           put-link.new.links args.x pre.0 pre.2
           chains put-link.ensures (omega (arith, if1.true, index_at.ensures)) in
           (led, linked, equipped);
@@ -37,7 +37,7 @@ returns-then-at16-eq1 c =
       older_len_unchanged = (refl, refl, refl, refl, ap length put-link.ensures ∙ length-set args.links.now args.x 0);
       kins = λ olds kins. (kins-kept args.older.now args.x olds, kins-kept args.kins.now args.x kins);
       value = λ F equipped sorted chains reps olds kins.
-          let (led, linked) = placed-known (next F args.names.now) args.n args.mid.now sorted.step args.links.now
+          let (led, linked) = placed-known (next F args.names.now) args.graph.n args.mid.now sorted.step args.links.now
           put-link.new.links args.x pre.0 pre.2
           chains put-link.ensures index_at.result
           (sorted.joins args.x pre.0 (ap (λ (v : ℕ). v % 2) (sym at16.ensures.0) ∙ if2.true) ∙ sym
@@ -63,9 +63,10 @@ returns-then-near-x c =
       older_len_unchanged = (refl, refl, refl, refl, ap length put-link.ensures ∙ length-set args.links.now args.x 0);
       kins = λ olds kins. (kins-kept args.older.now args.x olds, kins-kept args.kins.now args.x kins);
       value = λ F equipped sorted chains reps olds kins.
-          let found = kin-lead.ensures F equipped.keyed.held equipped.keyed.closed equipped.keyed.below sorted.step.classes pre.0 reps
+          let found = kin-lead.ensures F equipped.keyed.held equipped.keyed.closed equipped.keyed.below sorted.step.classes pre.0
+          reps
           olds (λ z e. omega (arith, e, if1.false)) in
-          let (led, linked) = placed-known (next F args.names.now) args.n args.mid.now sorted.step args.links.now
+          let (led, linked) = placed-known (next F args.names.now) args.graph.n args.mid.now sorted.step args.links.now
           put-link.new.links args.x pre.0 pre.2
           chains put-link.ensures kin-lead.result (kin-found (next F args.names.now) args.x kin-lead.result found
           if3.true) if3.true in
@@ -85,9 +86,10 @@ returns-then-lead-x c =
       older_len_unchanged = (refl, refl, refl, refl, ap length put-link.ensures ∙ length-set args.links.now args.x 0);
       kins = λ olds kins. (kins-kept args.older.now args.x olds, kins-kept args.kins.now args.x kins);
       value = λ F equipped sorted chains reps olds kins.
-          let found = kin-lead2.ensures F equipped.keyed.held equipped.keyed.closed equipped.keyed.below sorted.step.classes pre.0 reps
+          let found = kin-lead2.ensures F equipped.keyed.held equipped.keyed.closed equipped.keyed.below sorted.step.classes pre.0
+          reps
           olds (λ z e. kins sign_of.result z (sym at162.ensures.0 ∙ e)) in
-          let (led, linked) = placed-known (next F args.names.now) args.n args.mid.now sorted.step args.links.now
+          let (led, linked) = placed-known (next F args.names.now) args.graph.n args.mid.now sorted.step args.links.now
           put-link.new.links args.x pre.0 pre.2
           chains put-link.ensures kin-lead2.result (kin-found (next F args.names.now) args.x kin-lead2.result found
           if4.true) if4.true in

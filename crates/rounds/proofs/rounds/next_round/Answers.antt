@@ -29,7 +29,8 @@ loop-x-init c =
         led-none (next F args.names.now) args.new.now,
         record {
           keyed = keyed;
-          shelved = shelf-none args.k args.names.now args.flags.now args.resets.now args.spots.now args.rows.now;
+          shelved = shelf-none args.graph.k args.names.now args.graph.flags.now args.graph.resets.now args.graph.spots.now
+              args.graph.rows.now;
         },
       ),
     )
@@ -128,7 +129,16 @@ returns c =
     in
     let loop-test = c.loop-x-test in
     record {
-      keys_len_unchanged = (loop.invariant.0, loop.invariant.1, loop.invariant.2, omega (arith, loop.invariant.3, loop.invariant.4));
+      keys_len_unchanged = (
+        loop.invariant.0,
+        loop.invariant.1,
+        loop.invariant.2,
+        omega (
+          arith,
+          loop.invariant.3,
+          loop.invariant.4,
+        ),
+      );
       led = λ F keyed sorted.
           let (chains, led, known) = loop.invariant.10 F keyed sorted in (
             subst (λ (i : ℕ). Led (next F args.names.now) loop.new i loop.count) (omega (

@@ -9,14 +9,17 @@ use Rattle.rounds.proofs.rounds.next_round.Given as goal
 
 abbrev pub invariant-loop-x : goal.invariant-loop-x
 invariant-loop-x l =
-    (length l.keys ≡ length l.initial.keys) × (length l.links ≡ length l.initial.links) × (length l.new ≡ l.n) × (l.count ≤ l.x)
-    × (l.x ≤ l.n)
+    (length l.keys ≡ length l.initial.keys) × (length l.links ≡ length l.initial.links) × (length l.new ≡ l.graph.n) × (l.count ≤
+    l.x)
+    × (l.x ≤ l.graph.n)
     × (length l.shelf ≡ 129) × (length l.older ≡ 4096) × (length l.kins ≡ 4096) × Kins l.x l.older × Kins l.x l.kins
-    × ((F : Finite) → Keyed F l.n l.k l.names l.initial.keys l.labels l.nexts l.flags l.resets l.spots l.rows
-    → Sorted (next F l.names) l.n l.marks l.mid
+    × ((F : Finite) → Keyed F l.graph.n l.graph.k l.names l.initial.keys l.graph.labels.now l.graph.nexts.now l.graph.flags.now
+    l.graph.resets.now l.graph.spots.now l.graph.rows.now
+    → Sorted (next F l.names) l.graph.n l.marks l.mid
     → Chains (next F l.names) (related l.mid) l.links l.x × Led (next F l.names) l.new l.x l.count
-    × Equipped F l.n l.k l.names l.keys l.shelf l.labels l.nexts l.flags l.resets l.spots l.rows)
+    × Equipped F l.graph.n l.graph.k l.names l.keys l.shelf l.graph.labels.now l.graph.nexts.now l.graph.flags.now
+    l.graph.resets.now l.graph.spots.now l.graph.rows.now)
 
 abbrev pub decreases-loop-x : goal.decreases-loop-x
 decreases-loop-x l =
-    l.n - l.x
+    l.graph.n - l.x

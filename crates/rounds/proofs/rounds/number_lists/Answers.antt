@@ -26,7 +26,7 @@ slice_bounds-one-end-2 c =
     let args = c.args in
     let is-roomy = c.is_roomy in
     let if1 = c.if-not-is_roomy in
-    sym (length-take-le args.n args.first.now (is-roomy.ensures.0 if1.false).1)
+    sym (length-take-le args.graph.n args.first.now (is-roomy.ensures.0 if1.false).1)
 
 pub slice_bounds-two-end : goal.slice_bounds-two-end
 slice_bounds-two-end c =
@@ -39,7 +39,7 @@ slice_bounds-two-end-2 c =
     let args = c.args in
     let is-roomy = c.is_roomy in
     let if1 = c.if-not-is_roomy in
-    sym (length-take-le args.n args.second.now (is-roomy.ensures.0 if1.false).2)
+    sym (length-take-le args.graph.n args.second.now (is-roomy.ensures.0 if1.false).2)
 
 pub run_rounds-requires : goal.run_rounds-requires
 run_rounds-requires c =
@@ -47,7 +47,7 @@ run_rounds-requires c =
     let is-roomy = c.is_roomy in
     let if1 = c.if-not-is_roomy in
     let roomy = is-roomy.ensures.0 if1.false in
-    (length-take-le args.n args.first.now roomy.1, length-take-le args.n args.second.now roomy.2, roomy.0)
+    (length-take-le args.graph.n args.first.now roomy.1, length-take-le args.graph.n args.second.now roomy.2, roomy.0)
 
 pub returns : goal.returns
 returns c =
@@ -58,14 +58,14 @@ returns c =
     record {
       first_after = λ F held closed one two.
           let done = run-rounds.ensures.first_after F held closed in (
-            ap (λ l. l ++ drop args.n args.first.now) done.0,
-            ap (λ l. l ++ drop args.n args.second.now) done.1,
+            ap (λ l. l ++ drop args.graph.n args.first.now) done.0,
+            ap (λ l. l ++ drop args.graph.n args.second.now) done.1,
             done.2,
             done.3,
           );
       first_unchanged = (
-        drop_at run-rounds.new.first (drop args.n args.first.now) args.n (run-rounds.ensures.first_len.0),
-        drop_at run-rounds.new.second (drop args.n args.second.now) args.n (run-rounds.ensures.first_len.1),
+        drop_at run-rounds.new.first (drop args.graph.n args.first.now) args.graph.n (run-rounds.ensures.first_len.0),
+        drop_at run-rounds.new.second (drop args.graph.n args.second.now) args.graph.n (run-rounds.ensures.first_len.1),
         λ full. absurd (full (is-roomy.ensures.0 if1.false)),
       );
     }

@@ -71,11 +71,11 @@ returns-then-more-count c =
       first_len_2 = (make-round.ensures.keys_len_unchanged.1, loop.invariant.5);
       rested = λ F held closed classed t p.
           let (t', p') = loop.invariant.8 F held closed classed t p in
-          let step = turned-step F closed loop.second loop.count loop.made t' args.n held.size in
+          let step = turned-step F closed loop.second loop.count loop.made t' args.graph.n held.size in
           let keyed = prepared-keyed held closed step p' forget-keys.new.keys forget-keys.ensures.forgotten in
           let (led, _) = make-round.ensures.led F keyed (prepared-step held closed step p') (prepared-settled held closed
           step p') in
-          turned-over F closed loop.second loop.count loop.made t' args.n held.size make-round.new.new make-round.result
+          turned-over F closed loop.second loop.count loop.made t' args.graph.n held.size make-round.new.new make-round.result
           (prepared-led held closed step p' led) if1.true;
     }
 
@@ -127,16 +127,17 @@ loop-count-preserved c =
       omega (arith, if1.false, loop.invariant.7),
       λ F held closed classed t p.
           let (t', p') = loop.invariant.8 F held closed classed t p in
-          let step = turned-step F closed loop.second loop.count loop.made t' args.n held.size in
+          let step = turned-step F closed loop.second loop.count loop.made t' args.graph.n held.size in
           let keyed = prepared-keyed held closed step p' forget-keys.new.keys forget-keys.ensures.forgotten in
           let stepped = prepared-step held closed step p' in
           let (led, known) = make-round.ensures.led F keyed stepped (prepared-settled held closed step p') in
           let followed = follow-round.ensures.followed held.opened classed in
           rw copy.ensures (
-            turned_on F closed loop.second loop.count loop.made t' args.n held.size make-round.new.new make-round.result
+            turned_on F closed loop.second loop.count loop.made t' args.graph.n held.size make-round.new.new make-round.result
                 (prepared-led held closed step p' led) if1.false,
             prepared-on held closed step p' led known (reps-own stepped.classes led.reps)
-                (follow-round.ensures.named (leaders-kept (next F loop.names) args.n loop.second make-round.new.new stepped led.reps)
+                (follow-round.ensures.named (leaders-kept (next F loop.names) args.graph.n loop.second make-round.new.new stepped
+                led.reps)
                 p'.named.tagged) followed.1.0 followed.1.1,
           ),
     )

@@ -12,17 +12,21 @@ use Rattle.rounds.proofs.rounds.refine.Given as goal
 
 abbrev pub invariant-loop-count : goal.invariant-loop-count
 invariant-loop-count l =
-    (length l.tags ≡ length l.initial.tags) × (length l.names ≡ length l.initial.names) × (length l.stirred ≡ length l.initial.stirred)
+    (length l.tags ≡ length l.initial.tags) × (length l.names ≡ length l.initial.names) × (length l.stirred ≡ length
+    l.initial.stirred)
     × (length l.keys ≡
     length l.initial.keys)
-    × (length l.first ≡ l.n) × (length l.second ≡ l.n) × (l.count ≤ l.n) × (l.made ≤ l.count) × ((F : Finite)
-    → Held F l.n l.k l.labels l.nexts l.flags l.resets l.spots l.rows → Closed (structure F)
-    → (l.classed ≡ true → Classed l.n l.k l.flags l.resets
-    l.spots l.rows)
-    → Turned F l.initial.second l.blocks 0 → Prepared F l.n l.k l.initial.second l.initial.tags l.initial.names l.initial.keys
-    l.initial.stirred l.nexts l.flags l.resets l.spots l.rows
-    → (Turned F l.second l.count l.made × Prepared F l.n l.k l.second l.tags l.names l.keys l.stirred l.nexts l.flags l.resets l.spots
-    l.rows))
+    × (length l.first ≡ l.graph.n) × (length l.second ≡ l.graph.n) × (l.count ≤ l.graph.n) × (l.made ≤ l.count) × ((F : Finite)
+    → Held F l.graph.n l.graph.k l.graph.labels.now l.graph.nexts.now l.graph.flags.now l.graph.resets.now l.graph.spots.now
+    l.graph.rows.now → Closed (structure F)
+    → (l.classed ≡ true → Classed l.graph.n l.graph.k l.graph.flags.now l.graph.resets.now
+    l.graph.spots.now l.graph.rows.now)
+    → Turned F l.initial.second l.blocks 0 → Prepared F l.graph.n l.graph.k l.initial.second l.initial.tags l.initial.names
+    l.initial.keys
+    l.initial.stirred l.graph.nexts.now l.graph.flags.now l.graph.resets.now l.graph.spots.now l.graph.rows.now
+    → (Turned F l.second l.count l.made × Prepared F l.graph.n l.graph.k l.second l.tags l.names l.keys l.stirred l.graph.nexts.now
+    l.graph.flags.now l.graph.resets.now l.graph.spots.now
+    l.graph.rows.now))
 
 abbrev pub decreases-loop-count : goal.decreases-loop-count
-decreases-loop-count l = l.n - l.count
+decreases-loop-count l = l.graph.n - l.count

@@ -9,12 +9,12 @@ use lib.ListN.{length-replicate, get_or-replicate, replicate}
 use Prim.Native.Nat.{ℕ}
 use Rattle.rounds.proofs.rounds.run_rounds.Goals as goal
 
-pub returns-then-k-gt128 : goal.returns-then-k-gt128
-returns-then-k-gt128 c =
+pub returns-then-graph-gt128 : goal.returns-then-graph-gt128
+returns-then-graph-gt128 c =
     let pre = c.requires in
     record {
       first_len = (pre.0, pre.1);
-      first_after = λ F held closed. absurd (omega (arith, held.few-edges, c.if-k-gt128.true));
+      first_after = λ F held closed. absurd (omega (arith, held.few-edges, c.if-graph-gt128.true));
     }
 
 pub first_names-requires : goal.first_names-requires
@@ -30,7 +30,7 @@ list_order-requires c =
 pub is_classed-classed-requires : goal.is_classed-classed-requires
 is_classed-classed-requires c =
     let pre = c.requires in
-    let if1 = c.if-k-gt128
+    let if1 = c.if-graph-gt128
     in
     (pre.2, omega (arith, if1.false))
 
@@ -38,7 +38,7 @@ pub refine-counted-requires : goal.refine-counted-requires
 refine-counted-requires c =
     let pre = c.requires in
     let first_round = c.first_round-blocks in
-    let if1 = c.if-k-gt128 in
+    let if1 = c.if-graph-gt128 in
     let first-names = c.first_names in
     record {
       first_len = (
@@ -99,15 +99,17 @@ returns c =
     record {
       first_len = (number-blocks.ensures.list_len, number-blocks2.ensures.list_len);
       first_after = λ F held closed. let led = first_round.ensures.led in
-          let named = first-names.ensures.by_index (reps-below (related args.labels.now) args.n first_round.new.list led.reps) in
+          let named = first-names.ensures.by_index (reps-below (related args.graph.labels.now) args.graph.n first_round.new.list
+          led.reps) in
           let rested = refine.ensures.rested F held closed (λ t. is-classed.ensures t held.opened)
-          (turned-first F closed args.labels.now first_round.new.list args.n first_round.result held.size held.label led)
+          (turned-first F closed args.graph.labels.now first_round.new.list args.graph.n first_round.result held.size held.label
+          led)
           (prepared-first held closed first_round.new.list first-names.new.tags first-names.new.names
           (replicate 4096 0) (replicate 4096 1) named (λ x h. get_or-replicate {A = ℕ} 4096 x 1 0 (omega (arith, h, pre.2)))) in (
-            number-blocks.ensures.list_after (last-own F closed refine.new.first args.n held.size rested.first)
-                ∙ last-numbered F closed refine.new.first args.n held.size rested.first,
-            number-blocks2.ensures.list_after (last-own F closed refine.new.second args.n held.size rested.second)
-                ∙ last-numbered F closed refine.new.second args.n held.size rested.second,
+            number-blocks.ensures.list_after (last-own F closed refine.new.first args.graph.n held.size rested.first)
+                ∙ last-numbered F closed refine.new.first args.graph.n held.size rested.first,
+            number-blocks2.ensures.list_after (last-own F closed refine.new.second args.graph.n held.size rested.second)
+                ∙ last-numbered F closed refine.new.second args.graph.n held.size rested.second,
             rested.counted,
             rested.made,
           );

@@ -14,10 +14,10 @@ returns-then-found c =
     record {
       keys_len_unchanged = (find-lead.ensures.keys_len_unchanged.0, find-lead.ensures.keys_len_unchanged.1, refl);
       value = λ F before equipped step chains cleared long e h.
-          let (searched, known) = find-lead.ensures.searched F equipped step (chains-cleared (next F args.names.now) args.n
+          let (searched, known) = find-lead.ensures.searched F equipped step (chains-cleared (next F args.names.now) args.graph.n
           args.mid.now step before args.links.now
           args.x pre.0 long chains cleared) pre.0 e h in
-          let (led, linked) = placed-hit (next F args.names.now) args.n args.mid.now step before args.links.now args.x
+          let (led, linked) = placed-hit (next F args.names.now) args.graph.n args.mid.now step before args.links.now args.x
           pre.0 long chains cleared
           find-lead.result.hit find-lead.result.at searched if1.true in
           (led, linked, known);
@@ -38,10 +38,10 @@ returns c =
             ∙ length-set args.links.now find-lead.result.at args.x,
       );
       value = λ F before equipped step chains cleared long e h.
-          let (searched, known) = find-lead.ensures.searched F equipped step (chains-cleared (next F args.names.now) args.n
+          let (searched, known) = find-lead.ensures.searched F equipped step (chains-cleared (next F args.names.now) args.graph.n
           args.mid.now step before args.links.now
           args.x pre.0 long chains cleared) pre.0 e h in
-          let (led, linked) = placed-new (next F args.names.now) args.n args.mid.now step before args.links.now args.x
+          let (led, linked) = placed-new (next F args.names.now) args.graph.n args.mid.now step before args.links.now args.x
           pre.0 long chains cleared
           find-lead.result.hit find-lead.result.at searched if1.false put-link.new.links put-link.ensures in
           (led, linked, known);
