@@ -13,6 +13,7 @@ use Rattle.table.specs.declared.model.Branch.{Branch}
 use Rattle.regions.specs.Graph.{bounds_of, landing, available, first}
 use Rattle.regions.specs.View.{number_in, label_of, delay_numbers}
 use Rattle.clocks.specs.declared.region.Region.{Region}
+use Rattle.regions.specs.declared.shown.GraphMut.{GraphMut}
 
 -- How many numbers each takes: the flags of a region, the masks of a region, the locations of a set of clocks, the row of an edge. These
 -- four stand in comparison too (Held), which knows nothing of regions; partition joins the two (`shown-held` of Laws.Shown).
@@ -73,3 +74,33 @@ pub record Roomy (labels nexts flags resets spots rows : List ℕ) : Type 0 wher
   pub resets-room : 4096 * mask_room ≤ length resets
   pub spots-room : 4096 * spot_room ≤ length spots
   pub rows-room : 128 * row_room ≤ length rows
+
+-- ---- The slices as they are lent
+
+-- What they hold.
+abbrev pub ShownIn : Model → List Region → GraphMut → Type 0
+ShownIn m found g = Shown m found g.labels.now g.nexts.now g.flags.now g.resets.now g.spots.now g.rows.now
+
+-- They are long enough.
+abbrev pub RoomyIn : GraphMut → Type 0
+RoomyIn g = Roomy g.labels.now g.nexts.now g.flags.now g.resets.now g.spots.now g.rows.now
+
+-- They are the same slices.
+abbrev pub SameSlices : (before after : GraphMut) → Type 0
+SameSlices g h =
+    (h.labels.ghost_name ≡ g.labels.ghost_name)
+    × (h.nexts.ghost_name ≡ g.nexts.ghost_name)
+    × (h.flags.ghost_name ≡ g.flags.ghost_name)
+    × (h.resets.ghost_name ≡ g.resets.ghost_name)
+    × (h.spots.ghost_name ≡ g.spots.ghost_name)
+    × (h.rows.ghost_name ≡ g.rows.ghost_name)
+
+-- And they hold the same.
+abbrev pub Unchanged : (before after : GraphMut) → Type 0
+Unchanged g h =
+    (h.labels.now ≡ g.labels.now)
+    × (h.nexts.now ≡ g.nexts.now)
+    × (h.flags.now ≡ g.flags.now)
+    × (h.resets.now ≡ g.resets.now)
+    × (h.spots.now ≡ g.spots.now)
+    × (h.rows.now ≡ g.rows.now)

@@ -1,7 +1,8 @@
 -- One region by itself, as the layer above asks for it: its label, what it reaches by delay, and its edges. It stands among the first
 -- n of any lent entries; those that a graph call left are such. And a table by itself: its clocks, and the labels of its locations.
 use Rattle.std.specs.Prelude.{ℕ, zero, suc, ◌+◌, ◌*◌, ◌<◌, ◌≡◌, Bool, true, cond, ◌&&◌, List, []}
-use Rattle.std.specs.Prelude.{◌∷◌, ◌++◌, map, leb, ltb, length, get_or, drop}
+use Rattle.std.specs.Prelude.{◌∷◌, ◌++◌, map, leb, ltb, length, get_or, drop, Option, Some, None, Result, Ok, Err}
+use Rattle.table.specs.Reasons.{refusal_at}
 use Rattle.table.specs.Model.{Model}
 use Rattle.table.specs.Reading.{Answer, refusal, accepted}
 use Rattle.table.specs.Reads.{edge_of}
@@ -11,17 +12,15 @@ use Rattle.regions.specs.Explore.{listed}
 use Rattle.regions.specs.View.{number_in, label_of, Way, way_of}
 use Rattle.regions.specs.Shown.{row_room}
 use Rattle.clocks.specs.declared.region.Region.{Region}
-use Rattle.regions.specs.declared.sight.Checked.{Checked}
-use Rattle.regions.specs.declared.sight.Checked.TheVariants as C
-use Rattle.regions.specs.declared.sight.Sight.{Sight}
-use Rattle.regions.specs.declared.sight.Sight.TheVariants as S
+use Rattle.table.specs.declared.refusals.Refusal.{Refusal}
+use Rattle.regions.specs.declared.sight.Seen.{Seen}
 
 -- ---- A table by itself
 
 -- It is refused by reading, 1 to 13, or read: how many clocks its model has.
-abbrev pub checked_of : Answer → Checked
-checked_of (refusal number place) = C.Refused number place
-checked_of (accepted m) = C.Read m.clocks
+abbrev pub checked_of : Answer → Result ℕ Refusal
+checked_of (refusal reason place) = Err (refusal_at reason place)
+checked_of (accepted m) = Ok m.clocks
 
 -- The labels of the first n locations; 0 past the last (a choice of ours: no region of a graph is there).
 abbrev pub location_labels : Model → ℕ → List ℕ
@@ -30,7 +29,7 @@ location_labels m (suc n) = location_labels m n ++ (get_or m.labels n 0 ∷ [])
 
 -- What `label_locations` leaves in a slice: as many labels as it is long, or what it held if the table is refused.
 abbrev pub labels_after : Answer → (labels : List ℕ) → List ℕ
-labels_after (refusal number place) labels = labels
+labels_after (refusal reason place) labels = labels
 labels_after (accepted m) labels = location_labels m (length labels)
 
 -- An entry with a number of 4,096 or more is not looked at: zeros stand for it (a choice of ours). So they do for bytes past the end of
@@ -79,14 +78,19 @@ abbrev pub is_seen : (n x entries delays rows : ℕ) → Bool
 is_seen n x entries delays rows =
     leb n max_entries && (ltb x n && (leb (entry_bytes * n) entries && (ltb n delays && leb (128 * row_room) rows)))
 
--- The answer: the table is refused by reading; or the region is not seen; or its label, how many regions it reaches by delay, and how
--- many edges the model has.
-abbrev pub sight_of : Bool → (es : List ℕ) (n x : ℕ) → Answer → Sight
-sight_of seen es n x (refusal number place) = S.Refused number place
-sight_of seen es n x (accepted m) =
-    cond seen
-    (S.Seen (label_of m (region_at es x)) (length (delay_list m (listed es n) (region_at es x))) (length m.edges))
-    S.Unseen
+-- What is said of a region that is seen: its label, how many regions it reaches by delay, and how many edges the model has.
+abbrev pub seen_of : Model → (es : List ℕ) (n x : ℕ) → Seen
+seen_of m es n x =
+    record {
+      label = label_of m (region_at es x);
+      reached = length (delay_list m (listed es n) (region_at es x));
+      edges = length m.edges;
+    }
+
+-- The answer: the table is refused by reading; or the region is not seen; or what is said of it.
+abbrev pub sight_of : Bool → (es : List ℕ) (n x : ℕ) → Answer → Result (Option Seen) Refusal
+sight_of seen es n x (refusal reason place) = Err (refusal_at reason place)
+sight_of seen es n x (accepted m) = Ok (cond seen (Some (seen_of m es n x)) None)
 
 -- What the slices then hold, where it is seen. What stands elsewhere in the rows, past the last edge too, is a choice of the code; what
 -- every choice has in common is said here.

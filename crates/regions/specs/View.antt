@@ -50,10 +50,10 @@ steps_of m found r = steps_from m found r m.edges
 
 -- The bounds of the clocks of the model that a table was read as; a table that is refused has no clocks (a choice of ours).
 abbrev pub bounds_read : Answer → Bounds
-bounds_read (refusal number place) = record { count = 0; bound = 0 ∷ 0 ∷ 0 ∷ 0 ∷ [] }
+bounds_read (refusal reason place) = record { count = 0; bound = 0 ∷ 0 ∷ 0 ∷ 0 ∷ [] }
 bounds_read (accepted m) = bounds_of m
 
 -- How many edges a table that was read has; a table that is refused has none (a choice of ours).
 abbrev pub edges_read : Answer → ℕ
-edges_read (refusal number place) = 0
+edges_read (refusal reason place) = 0
 edges_read (accepted m) = length m.edges

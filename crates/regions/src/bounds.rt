@@ -47,7 +47,7 @@ fn largest_edge(bytes: &[u8], count: usize, places: &[usize]) -> u8
     let mut best = 0;
     let mut i = 0;
     while i < count {
-        best = larger(best, largest_guard(bytes, table::number_at(places, i)));
+        best = larger(best, largest_guard(bytes, slices::at(places, i, 0)));
         i = i + 1;
     }
     best

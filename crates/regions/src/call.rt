@@ -13,18 +13,11 @@ use crate::edges::link_edges;
 use crate::entry::ENTRY_BYTES;
 use crate::explore::explore_all;
 use crate::limits::{list_limits, meets_invariant};
-use crate::slices::at_most;
+use crate::numbers::at_most;
 use clocks::{Bounds, Region};
-use table::{Reading, Shape};
+use table::{Reason, Refusal, Shape};
 
 const MAX_ENTRIES: usize = 4096;
-
-// The answer: refused, with document 01's number and place, or N.
-#[derive(Clone, Copy)]
-pub enum Graph {
-    Refused { number: u8, place: usize },
-    Regions(usize),
-}
 
 // The initial location with all clocks 0.
 fn first_of(shape: Shape) -> Region
@@ -59,7 +52,7 @@ fn graph_from(
     follows: &[u8],
     bounds: Bounds,
     entries: &mut [u8],
-) -> Graph
+) -> Result<usize, Refusal>
     ensures { (m : Model) → Reads bytes.now shape m → Limited m limits.now → Placed m places.now
         → Linked m starts.now follows.now → bounds ≡ bounds_of m
         → (result ≡ graph_of (from_answer (room_for (length entries.old)) (accepted m)))
@@ -67,26 +60,20 @@ fn graph_from(
 {
     let start = first_of(shape);
     if !meets_invariant(limits, bounds, start) {
-        return Graph::Refused {
-            number: 14,
-            place: 0,
-        };
+        return Err(Reason::BrokenStart.at(0));
     }
     let cap = whole_entries(entries.len());
     let met = explore_all(
         bytes, shape, limits, places, starts, follows, bounds, start, cap, entries,
     );
     if met.full {
-        return Graph::Refused {
-            number: 15,
-            place: 0,
-        };
+        return Err(Reason::TooManyRegions.at(0));
     }
-    Graph::Regions(met.count)
+    Ok(met.count)
 }
 
 // The graph of a table that was read.
-pub(crate) fn graph_of(bytes: &[u8], shape: Shape, entries: &mut [u8]) -> Graph
+pub(crate) fn graph_of(bytes: &[u8], shape: Shape, entries: &mut [u8]) -> Result<usize, Refusal>
     ensures { (m : Model) → Reads bytes.now shape m
         → (result ≡ graph_of (from_answer (room_for (length entries.old)) (accepted m)))
         × (entries.new ≡ entries_after entries.old (from_answer (room_for (length entries.old)) (accepted m))) }
@@ -97,7 +84,7 @@ pub(crate) fn graph_of(bytes: &[u8], shape: Shape, entries: &mut [u8]) -> Graph
     let edges = at_most(shape.edges, 128);
     let mut starts = [0u8; 256];
     let mut follows = [0u8; 128];
-    link_edges(list, edges, &mut starts, &mut follows);
+    link_edges(&list, edges, &mut starts, &mut follows);
     let mut limits = [65535u16; 1024];
     list_limits(bytes, shape, &mut limits);
     let bounds = bounds_of(bytes, shape, &places);
@@ -107,17 +94,11 @@ pub(crate) fn graph_of(bytes: &[u8], shape: Shape, entries: &mut [u8]) -> Graph
 }
 
 // Explores the regions of a table into the lent entries.
-pub fn explore_table(bytes: &[u8], entries: &mut [u8]) -> Graph
+pub fn explore_table(bytes: &[u8], entries: &mut [u8]) -> Result<usize, Refusal>
     ensures value { result ≡ graph_of (outcome_of bytes.now (room_for (length entries.old))) }
     ensures entries_after { entries.new
         ≡ entries_after entries.old (outcome_of bytes.now (room_for (length entries.old))) }
 {
-    let reading = table::read(bytes);
-    match reading {
-        Reading::Refused { number, place } => Graph::Refused {
-            number: number,
-            place: place,
-        },
-        Reading::Accepted(shape) => graph_of(bytes, shape, entries),
-    }
+    let shape = table::read(bytes)?;
+    graph_of(bytes, shape, entries)
 }

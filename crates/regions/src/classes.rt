@@ -8,7 +8,7 @@ ghost use Rattle.regions.specs.Filling.{bare, Distinct, Classed, Grouped, SetRoo
 
 use crate::entry::read_entry;
 use crate::index::{Lookup, add, find};
-use crate::slices::{load, store};
+use crate::numbers::{load, store};
 use clocks::{Bounds, Region};
 
 // The number of a set of clocks, and how many there are now.

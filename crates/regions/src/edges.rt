@@ -6,7 +6,7 @@ ghost use Rattle.table.specs.Reads.{Lists};
 ghost use Rattle.regions.specs.Edges.{Linked};
 
 use crate::entry::byte_at;
-use crate::slices::put_byte;
+use crate::numbers::put_byte;
 use table::Edge;
 
 // The link at a place, and none past the end.
@@ -17,9 +17,9 @@ pub(crate) fn edge_link(links: &[u8], i: usize) -> usize
 }
 
 // Links the first edges of the edge list, from the last of them to edge 0.
-pub(crate) fn link_edges(list: [Edge; 128], count: usize, starts: &mut [u8], follows: &mut [u8])
+pub(crate) fn link_edges(list: &[Edge], count: usize, starts: &mut [u8], follows: &mut [u8])
     requires { count ≤ 128 }
-    ensures { (m : Model) → Lists m list → count ≡ length m.edges
+    ensures { (m : Model) → Lists m list.now → count ≡ length m.edges
         → starts.old ≡ replicate 256 0 → length follows.old ≡ 128
         → Linked m starts.new follows.new }
 {

@@ -17,7 +17,7 @@ use crate::guards::{is_available, landing_of};
 use crate::index::{Lookup, add, find};
 use crate::limits::meets_invariant;
 use crate::marks::mark_place;
-use crate::slices::put_byte;
+use crate::numbers::put_byte;
 use clocks::{Bounds, Region};
 use table::{Branch, Shape};
 
@@ -246,7 +246,7 @@ fn meet_edges(
     let mut i = 0;
     while i < edges {
         if link == i + 1 {
-            let place = table::number_at(places, i);
+            let place = slices::at(places, i, 0);
             let met = meet_edge(
                 bytes,
                 limits,

@@ -9,7 +9,7 @@ ghost use Rattle.regions.specs.Marks.{Tested};
 use crate::entry::byte_at;
 use crate::limits::meets_invariant;
 use crate::marks::mark_place;
-use crate::slices::put_byte;
+use crate::numbers::put_byte;
 use clocks::{Bounds, Region, Verdict};
 use table::{Branch, Guard};
 

@@ -20,7 +20,7 @@ use crate::entry::read_entry;
 use crate::guards::is_available;
 use crate::index::{Lookup, find, link_entry};
 use crate::limits::meets_invariant;
-use crate::slices::store;
+use crate::numbers::store;
 use clocks::{Bounds, Region};
 use table::Shape;
 
@@ -180,7 +180,7 @@ fn mark_edges(
     let mut e = 0;
     while e < edges {
         if link == e + 1 {
-            let place = table::number_at(places, e);
+            let place = slices::at(places, e, 0);
             last = open_after(bytes, limits, place, bounds, r, e, last, &mut tested);
             link = edge_link(follows, e);
         }

@@ -12,7 +12,7 @@ ghost use Rattle.regions.specs.Sight.{delay_list};
 use crate::entry::{read_entry, same_region};
 use crate::index::{hash_of, link_at};
 use crate::limits::meets_invariant;
-use crate::slices::store;
+use crate::numbers::store;
 use clocks::{Bounds, Region};
 
 // The number of a region among the first n entries, and n where it is not there. A region that stands there twice has the lower

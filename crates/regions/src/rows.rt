@@ -6,7 +6,7 @@ ghost use Rattle.table.specs.Reads.{ReadsEdge, Lists, edge_of};
 ghost use Rattle.regions.specs.Edges.{Placed};
 ghost use Rattle.regions.specs.Filling.{Before, Fitting, RowTo, RowsTo};
 
-use crate::slices::{at_most, store_three};
+use crate::numbers::{at_most, store_three};
 use table::Edge;
 
 const MAX_BRANCHES: usize = 8;
@@ -49,19 +49,19 @@ fn show_row(
 pub(crate) fn show_rows(
     bytes: &[u8],
     places: &[usize],
-    list: [Edge; 128],
+    list: &[Edge],
     edges: usize,
     rows: &mut [u16],
 )
     requires { (edges ≤ 128) × (128 * 32 ≤ length rows.old) }
     ensures { (m : Model) → read_table bytes.now ≡ accepted m
-        → Placed m places.now → Lists m list
+        → Placed m places.now → Lists m list.now
         → ((e : ℕ) → e < length m.edges → Fitting (edge_of m e)) → edges ≡ length m.edges
         → RowsTo m edges rows.new }
 {
     let mut e = 0;
     while e < edges {
-        let place = table::number_at(places, e);
+        let place = slices::at(places, e, 0);
         let edge = table::edge_of(list, e);
         let action = edge.action as usize;
         let denominator = edge.denominator as usize;

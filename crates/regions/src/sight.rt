@@ -1,9 +1,10 @@
 // One region by itself, for the layer above: its label, what it reaches by delay, and its edges, from entries that are lent.
-ghost use Rattle.std.specs.Prelude.{ℕ, ◌+◌, ◌*◌, ◌≤◌, ◌<◌, ◌≡◌, true, false, length};
+ghost use Rattle.std.specs.Prelude.{ℕ, ◌+◌, ◌*◌, ◌≤◌, ◌<◌, ◌≡◌, true, false, length, Ok};
 ghost use Rattle.table.specs.Model.{Model};
 ghost use Rattle.table.specs.Reading.{read_table, refusal, accepted};
 ghost use Rattle.table.specs.Access.{edge_struct};
 ghost use Rattle.table.specs.Reads.{Reads, ReadsEdge, Lists, edge_of};
+ghost use Rattle.table.specs.declared.refusals.Reason.{Reason};
 ghost use Rattle.regions.specs.Graph.{bounds_of};
 ghost use Rattle.regions.specs.Edges.{Placed};
 ghost use Rattle.regions.specs.Limits.{Limited};
@@ -19,10 +20,10 @@ use crate::entry::{ENTRY_BYTES, read_entry};
 use crate::guards::{is_available, landing_of};
 use crate::limits::list_limits;
 use crate::moves::link_all;
+use crate::numbers::{at_most, store};
 use crate::reach::{list_delays, number_by};
-use crate::slices::{at_most, store};
 use clocks::{Bounds, Region};
-use table::{Edge, Reading, Shape};
+use table::{Edge, Refusal, Shape};
 
 const MOST_REGIONS: usize = 4096;
 
@@ -30,41 +31,20 @@ const MOST_BRANCHES: usize = 8;
 
 const ROW: usize = 32;
 
-// What reading a table comes to: a refusal, 1 to 13, or the count of clocks of its model.
-#[derive(Clone, Copy)]
-pub enum Checked {
-    Refused { number: u8, place: usize },
-    Read(u8),
-}
-
-// What is said of a region: the table is refused, with 1 to 13; it is not among the entries, or there is no room; or its label, how
-// many regions it reaches by delay, and how many edges the model has.
-#[derive(Clone, Copy)]
-pub enum Sight {
-    Refused {
-        number: u8,
-        place: usize,
-    },
-    Unseen,
-    Seen {
-        label: u8,
-        reached: usize,
-        edges: usize,
-    },
+// What is said of a region: its label, how many regions it reaches by delay, and how many edges the model has.
+#[derive(Clone, Copy, Debug, PartialEq, Eq)]
+pub struct Seen {
+    pub label: u8,
+    pub reached: usize,
+    pub edges: usize,
 }
 
 // Reads a table, and says how many clocks its model has.
-pub fn check_table(bytes: &[u8]) -> Checked
+pub fn check_table(bytes: &[u8]) -> Result<u8, Refusal>
     ensures { result ≡ checked_of (read_table bytes.now) }
 {
-    let reading = table::read(bytes);
-    match reading {
-        Reading::Refused { number, place } => Checked::Refused {
-            number: number,
-            place: place,
-        },
-        Reading::Accepted(shape) => Checked::Read(shape.clocks),
-    }
+    let shape = table::read(bytes)?;
+    Ok(shape.clocks)
 }
 
 // Stores the labels of the first locations of a table that was read, as many as the slice is long; 0 past the last location.
@@ -83,13 +63,8 @@ fn store_location_labels(bytes: &[u8], shape: Shape, labels: &mut [u8])
 pub fn label_locations(bytes: &[u8], labels: &mut [u8])
     ensures { labels.new ≡ labels_after (read_table bytes.now) labels.old }
 {
-    let reading = table::read(bytes);
-    match reading {
-        Reading::Refused {
-            number: _,
-            place: _,
-        } => {}
-        Reading::Accepted(shape) => store_location_labels(bytes, shape, labels),
+    if let Ok(shape) = table::read(bytes) {
+        store_location_labels(bytes, shape, labels);
     }
 }
 
@@ -178,7 +153,7 @@ fn list_steps(
     bytes: &[u8],
     limits: &[u16],
     places: &[usize],
-    list: [Edge; 128],
+    list: &[Edge],
     edges: usize,
     bounds: Bounds,
     r: Region,
@@ -191,13 +166,13 @@ fn list_steps(
     requires index { Index entries.now heads.now links.now n }
     requires n_le_max_entries { (n ≤ max_entries) × (edges ≤ 128) × (128 * 32 ≤ length rows.old) }
     ensures { (m : Model) → read_table bytes.now ≡ accepted m → Limited m limits.now
-        → Placed m places.now → Lists m list
+        → Placed m places.now → Lists m list.now
         → ((e : ℕ) → e < length m.edges → Fitting (edge_of m e)) → bounds ≡ bounds_of m → edges ≡ length m.edges
         → (e : ℕ) → e < edges → Stepping m (listed entries.now n) r e rows.new }
 {
     let mut e = 0;
     while e < edges {
-        let place = table::number_at(places, e);
+        let place = slices::at(places, e, 0);
         let edge = table::edge_of(list, e);
         list_step(
             bytes,
@@ -245,7 +220,7 @@ fn see_steps(
     link_all(entries, n, &mut heads, &mut links);
     let r = read_entry(entries, x);
     list_steps(
-        bytes, &limits, &places, list, edges, bounds, r, entries, &heads, &links, n, rows,
+        bytes, &limits, &places, &list, edges, bounds, r, entries, &heads, &links, n, rows,
     );
     list_delays(&limits, bounds, entries, &heads, &links, n, r, delays)
 }
@@ -278,9 +253,9 @@ fn see_read(
     x: usize,
     delays: &mut [u16],
     rows: &mut [u16],
-) -> Sight
+) -> Option<Seen>
     ensures value { (m : Model) → Reads bytes.now shape m
-        → result ≡ sight_of (is_seen n x (length entries.now) (length delays.old) (length rows.old))
+        → Ok result ≡ sight_of (is_seen n x (length entries.now) (length delays.old) (length rows.old))
         entries.now n x (accepted m) }
     ensures sighted { (m : Model) → Reads bytes.now shape m
         → is_seen n x (length entries.now) (length delays.old) (length rows.old) ≡ true
@@ -289,16 +264,16 @@ fn see_read(
         → (delays.new ≡ delays.old) × (rows.new ≡ rows.old) }
 {
     if !is_seen(n, x, entries.len(), delays.len(), rows.len()) {
-        return Sight::Unseen;
+        return None;
     }
     let location = read_entry(entries, x).location as usize;
     let label = table::label_at(bytes, shape, location);
     let reached = see_steps(bytes, shape, entries, n, x, delays, rows);
-    Sight::Seen {
-        label: label,
-        reached: reached,
+    Some(Seen {
+        label,
+        reached,
         edges: shape.edges,
-    }
+    })
 }
 
 // Region x among the first n entries, as the model of a table has it: the numbers of what it reaches by delay in a slice, and its edges
@@ -310,23 +285,17 @@ pub fn show_region(
     x: usize,
     delays: &mut [u16],
     rows: &mut [u16],
-) -> Sight
+) -> Result<Option<Seen>, Refusal>
     ensures value { result ≡ sight_of (is_seen n x (length entries.now) (length delays.old) (length rows.old))
         entries.now n x (read_table bytes.now) }
     ensures sighted { (m : Model) → read_table bytes.now ≡ accepted m
         → is_seen n x (length entries.now) (length delays.old) (length rows.old) ≡ true
         → Sighted m entries.now n x delays.old delays.new rows.new }
-    ensures by_index { (number place : ℕ) → read_table bytes.now ≡ refusal number place
+    ensures by_index { (reason : Reason) (place : ℕ) → read_table bytes.now ≡ refusal reason place
         → (delays.new ≡ delays.old) × (rows.new ≡ rows.old) }
     ensures delays_unchanged { is_seen n x (length entries.now) (length delays.old) (length rows.old) ≡ false
         → (delays.new ≡ delays.old) × (rows.new ≡ rows.old) }
 {
-    let reading = table::read(bytes);
-    match reading {
-        Reading::Refused { number, place } => Sight::Refused {
-            number: number,
-            place: place,
-        },
-        Reading::Accepted(shape) => see_read(bytes, shape, entries, n, x, delays, rows),
-    }
+    let shape = table::read(bytes)?;
+    Ok(see_read(bytes, shape, entries, n, x, delays, rows))
 }

@@ -5,22 +5,17 @@ ghost use Rattle.regions.specs.View.{bounds_read, edges_read};
 
 use crate::bounds::bounds_for;
 use clocks::Bounds;
-use table::Reading;
 
 // The bounds of the clocks of the model of a table.
 pub fn bounds_read(bytes: &[u8]) -> Bounds
     ensures { result ≡ bounds_read (read_table bytes.now) }
 {
-    let reading = table::read(bytes);
-    match reading {
-        Reading::Refused {
-            number: _,
-            place: _,
-        } => Bounds {
+    match table::read(bytes) {
+        Ok(shape) => bounds_for(bytes, shape),
+        Err(_) => Bounds {
             count: 0,
-            bound: [0, 0, 0, 0],
+            bound: [0; 4],
         },
-        Reading::Accepted(shape) => bounds_for(bytes, shape),
     }
 }
 
@@ -28,12 +23,8 @@ pub fn bounds_read(bytes: &[u8]) -> Bounds
 pub fn edge_count(bytes: &[u8]) -> usize
     ensures { result ≡ edges_read (read_table bytes.now) }
 {
-    let reading = table::read(bytes);
-    match reading {
-        Reading::Refused {
-            number: _,
-            place: _,
-        } => 0,
-        Reading::Accepted(shape) => shape.edges,
+    match table::read(bytes) {
+        Ok(shape) => shape.edges,
+        Err(_) => 0,
     }
 }

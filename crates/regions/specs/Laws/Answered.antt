@@ -1,6 +1,6 @@
 -- Laws for the code of the graph call: entries that were listed are the bytes of their regions, and how its steps are put together.
 use Rattle.std.specs.Prelude.{ℕ, zero, suc, ◌+◌, ◌*◌, ◌≤◌, ◌≡◌, refl, true, false}
-use Rattle.std.specs.Prelude.{List, [], ◌∷◌, ◌++◌, length, get_or, take, drop}
+use Rattle.std.specs.Prelude.{List, [], ◌∷◌, ◌++◌, length, get_or, take, drop, Ok, Err}
 use Rattle.std.proofs.Common.{arith, sym, ◌∙◌, ap, ap₂, append_assoc, append-nil, take-append-drop}
 use Rattle.std.proofs.Common.{length-drop, take-add, get_or-drop, ext_get_or}
 use Rattle.table.specs.Model.{Model}
@@ -9,7 +9,8 @@ use Rattle.regions.specs.Entries.{entry_bytes, bytes_of, region_at}
 use Rattle.regions.specs.Graph.{bounds_of, meets, next_of, first}
 use Rattle.regions.specs.Worklist.{complete, full, explore}
 use Rattle.regions.specs.Explore.{same_region, listed, listed-length, Left}
-use Rattle.regions.specs.declared.call.Graph.TheVariants.{Refused, Regions}
+use Rattle.table.specs.Reasons.{refusal_at}
+use Rattle.table.specs.declared.refusals.Reason.TheVariants.{BrokenStart, TooManyRegions}
 use Rattle.clocks.specs.declared.region.Region.{Region}
 use Rattle.regions.specs.Call.{from_found, refused, from_answer, graph_of, flat, entries_after}
 
@@ -75,7 +76,7 @@ left_is es es' count left =
 -- ---- The steps of the code, put together
 
 module _ (cap : ℕ) (es : List ℕ) (m : Model) where
-  pub breaks : meets (bounds_of m) m.invariants (first m) ≡ false → from_answer cap (accepted m) ≡ refused 14 0
+  pub breaks : meets (bounds_of m) m.invariants (first m) ≡ false → from_answer cap (accepted m) ≡ refused BrokenStart 0
   breaks h = rw h
 
   pub explores : meets (bounds_of m) m.invariants (first m) ≡ true
@@ -85,7 +86,7 @@ module _ (cap : ℕ) (es : List ℕ) (m : Model) where
   -- There was no room for all regions.
   pub is_cut : meets (bounds_of m) m.invariants (first m) ≡ true → (es' : List ℕ) (count : ℕ) → Left es es' count
       → explore same_region (next_of m) cap (first m) ≡ full (listed es' count)
-      → (Refused 15 0 ≡ graph_of (from_answer cap (accepted m))) × (es' ≡ entries_after es (from_answer cap (accepted m)))
+      → (Err (refusal_at TooManyRegions 0) ≡ graph_of (from_answer cap (accepted m))) × (es' ≡ entries_after es (from_answer cap (accepted m)))
   is_cut h es' count left e =
       let out = explores h ∙ ap from_found e in (
         sym (ap graph_of out),
@@ -97,10 +98,10 @@ module _ (cap : ℕ) (es : List ℕ) (m : Model) where
   -- All regions are listed.
   pub is_whole : meets (bounds_of m) m.invariants (first m) ≡ true → (es' : List ℕ) (count : ℕ) → Left es es' count
       → explore same_region (next_of m) cap (first m) ≡ complete (listed es' count)
-      → (Regions count ≡ graph_of (from_answer cap (accepted m))) × (es' ≡ entries_after es (from_answer cap (accepted m)))
+      → (Ok count ≡ graph_of (from_answer cap (accepted m))) × (es' ≡ entries_after es (from_answer cap (accepted m)))
   is_whole h es' count left e =
       let out = explores h ∙ ap from_found e in (
-        ap Regions (sym (listed-length es' count)) ∙ sym (ap graph_of out),
+        ap Ok (sym (listed-length es' count)) ∙ sym (ap graph_of out),
         left_is es es' count left
             ∙ ap (λ k. flat (listed es' count) ++ drop (entry_bytes * k) es) (sym (listed-length es' count))
             ∙ sym (ap (entries_after es) out),

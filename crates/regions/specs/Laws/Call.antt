@@ -8,6 +8,8 @@ use mathlib.Core.List.{List, [], ◌∷◌, ◌++◌, Memᴰ}
 use Rattle.table.specs.Model.{Model, Edge}
 use Rattle.table.specs.declared.model.Branch.{Branch}
 use Rattle.table.specs.Reading.{Answer, refusal, accepted, read_table}
+use Rattle.table.specs.declared.refusals.Reason.{Reason}
+use Rattle.table.specs.declared.refusals.Reason.TheVariants.{BrokenStart, TooManyRegions}
 use Rattle.clocks.specs.Packed.{delayed}
 use Rattle.regions.specs.Graph.{every, bounds_of, meets, fits, landing, lands, available, delay_next, gather, edge_next, next_of, first}
 use Rattle.regions.specs.Graph.{Leads, by-delay, by-edge, Reached, begun, led}
@@ -125,13 +127,13 @@ module _ (m : Model) where
       }
 
 abbrev kind_of : Outcome → ℕ
-kind_of (refused number place) = 0
+kind_of (refused reason place) = 0
 kind_of (cut found) = 1
 kind_of (whole found) = 2
 
 -- The regions that an outcome lists.
 abbrev pub regions_in : Outcome → List Region
-regions_in (refused number place) = []
+regions_in (refused reason place) = []
 regions_in (cut found) = found
 regions_in (whole found) = found
 
@@ -144,11 +146,11 @@ module _ (table : List ℕ) (cap : ℕ) (out : Outcome) (explored : 0 < kind_of 
     pub gives : from_found found ≡ out
 
   ran-from : (a : Answer) → read_table table ≡ a → from_answer cap a ≡ out → Ran
-  ran-from (refusal number place) t e = absurd (omega (arith, ap kind_of e))
+  ran-from (refusal reason place) t e = absurd (omega (arith, ap kind_of e))
   ran-from (accepted m) t e = go (meets (bounds_of m) m.invariants (first m)) refl e
     where
       go : (b : Bool) → meets (bounds_of m) m.invariants (first m) ≡ b
-          → cond b (from_found (explore same_region (next_of m) cap (first m))) (refused 14 0) ≡ out → Ran
+          → cond b (from_found (explore same_region (next_of m) cap (first m))) (refused BrokenStart 0) ≡ out → Ran
       go false h g = absurd (omega (arith, ap kind_of g))
       go true h g =
           record {
@@ -226,36 +228,36 @@ module _ (table : List ℕ) (cap : ℕ) (found : List Region) where
       rw (b.read, b.meets-first, larger-complete same_region (next_of b.model) cap cap' (first b.model) found h c) refl
 
 -- A refusal below 15 is that of reading the table, or 14, where region 0 breaks its invariant.
-pub refused-graph : (table : List ℕ) (cap number place : ℕ) → outcome_of table cap ≡ refused number place
-    → (read_table table ≡ refusal number place)
+pub refused-graph : (table : List ℕ) (cap : ℕ) (reason : Reason) (place : ℕ) → outcome_of table cap ≡ refused reason place
+    → (read_table table ≡ refusal reason place)
     ⊎ ((m : Model) × (read_table table ≡ accepted m) × (meets (bounds_of m) m.invariants (first m) ≡ false)
-    × (number ≡ 14) × (place ≡ 0))
+    × (reason ≡ BrokenStart) × (place ≡ 0))
 unfolding outcome_of
-refused-graph table cap number place e = by_answer (read_table table) refl e
+refused-graph table cap reason place e = by_answer (read_table table) refl e
   where
-    numbers : Outcome → ℕ × ℕ
-    numbers (refused n p) = (n, p)
-    numbers (cut found) = (0, 0)
-    numbers (whole found) = (0, 0)
+    answer : Outcome → Answer
+    answer (refused r p) = refusal r p
+    answer (cut found) = refusal TooManyRegions 0
+    answer (whole found) = refusal TooManyRegions 0
 
-    no_found : (f : Found Region) → from_found f ≡ refused number place → ⊥
+    no_found : (f : Found Region) → from_found f ≡ refused reason place → ⊥
     no_found (complete found) g = omega (arith, ap kind_of g)
     no_found (full found) g = omega (arith, ap kind_of g)
 
-    by_answer : (a : Answer) → read_table table ≡ a → from_answer cap a ≡ refused number place
-        → (read_table table ≡ refusal number place)
+    by_answer : (a : Answer) → read_table table ≡ a → from_answer cap a ≡ refused reason place
+        → (read_table table ≡ refusal reason place)
         ⊎ ((m : Model) × (read_table table ≡ accepted m) × (meets (bounds_of m) m.invariants (first m) ≡ false)
-        × (number ≡ 14) × (place ≡ 0))
-    by_answer (refusal n p) t g = inl (t ∙ ap (λ (x : ℕ × ℕ). refusal x.0 x.1) (ap numbers g))
+        × (reason ≡ BrokenStart) × (place ≡ 0))
+    by_answer (refusal r p) t g = inl (t ∙ ap answer g)
     by_answer (accepted m) t g = go (meets (bounds_of m) m.invariants (first m)) refl g
       where
         go : (b : Bool) → meets (bounds_of m) m.invariants (first m) ≡ b
-            → cond b (from_found (explore same_region (next_of m) cap (first m))) (refused 14 0) ≡ refused number place
-            → (read_table table ≡ refusal number place)
+            → cond b (from_found (explore same_region (next_of m) cap (first m))) (refused BrokenStart 0) ≡ refused reason place
+            → (read_table table ≡ refusal reason place)
             ⊎ ((m : Model) × (read_table table ≡ accepted m) × (meets (bounds_of m) m.invariants (first m) ≡ false)
-            × (number ≡ 14) × (place ≡ 0))
+            × (reason ≡ BrokenStart) × (place ≡ 0))
         go true h k = absurd (no_found (explore same_region (next_of m) cap (first m)) k)
-        go false h k = inr (m, t, h, sym (ap (λ (x : ℕ × ℕ). x.0) (ap numbers k)), sym (ap (λ (x : ℕ × ℕ). x.1) (ap numbers k)))
+        go false h k = inr (m, t, h, cc, cc)
 
 module _ (table : List ℕ) (cap cap' : ℕ) (found : List Region) (h : cap ≤ cap') (e : outcome_of table cap ≡ cut found) where
   items-of : (f : Found Region) → items_of f ≡ regions_in (from_found f)

@@ -1,5 +1,5 @@
 -- What the slices of the graph hold once all of them are filled (`shown`), and what the graph call says of the entries that it leaves.
-use Rattle.std.specs.Prelude.{ℕ, suc, ◌+◌, ◌*◌, ◌≤◌, ◌<◌, ◌≡◌, refl, true, length, get_or}
+use Rattle.std.specs.Prelude.{ℕ, suc, ◌+◌, ◌*◌, ◌≤◌, ◌<◌, ◌≡◌, refl, true, length, get_or, Result, Ok, Err}
 use Rattle.std.proofs.Common.{arith, sym, ◌∙◌, ap₂, subst}
 use Rattle.std.proofs.Math.Path.{ap}
 use mathlib.Core.List.{List, Memᴰ}
@@ -27,7 +27,7 @@ use Rattle.regions.specs.Laws.Numbers.{answers-n}
 use Rattle.regions.specs.Laws.Rows.{edge-fits}
 use Rattle.regions.specs.Laws.Worklist.{member}
 use Rattle.regions.specs.Laws.View.{landing-number}
-use Rattle.regions.specs.declared.call.Graph.TheVariants.{Refused, Regions}
+use Rattle.table.specs.declared.refusals.Refusal.{Refusal}
 use Rattle.clocks.specs.declared.region.Bounds.{Bounds}
 use Rattle.clocks.specs.declared.region.Region.{Region}
 
@@ -132,14 +132,14 @@ module _ (table : List ℕ) (m : Model) (bytes : Bytes table) (read : read_table
 -- ---- The graph call
 
 -- A refusal does not list all regions.
-pub not-refused : (number place : ℕ) (o : Outcome) (found : List Region) → Refused number place ≡ graph_of o → o ≡ whole found → ⊥
-not-refused number place o found e is =
-    let t : Refused number place ≡ Regions (length found) = e ∙ ap graph_of is in
+pub not-refused : (r : Refusal) (o : Outcome) (found : List Region) → Err r ≡ graph_of o → o ≡ whole found → ⊥
+not-refused r o found e is =
+    let t : ◌≡◌ {A = Result ℕ Refusal} (Err r) (Ok (length found)) = e ∙ ap graph_of is in
     let z : ◌≡◌ {A = ℕ} 0 1 = cc in
     omega arith
 
 module _ (table es es' : List ℕ) (m : Model) (cap : ℕ) (read : read_table table ≡ accepted m) (n : ℕ)
-    (answer : Regions n ≡ graph_of (from_answer cap (accepted m))) (left : es' ≡ entries_after es (from_answer cap (accepted m))) where
+    (answer : Ok n ≡ graph_of (from_answer cap (accepted m))) (left : es' ≡ entries_after es (from_answer cap (accepted m))) where
   outcome-read : outcome_of table cap ≡ from_answer cap (accepted m)
   unfolding outcome_of
   outcome-read = ap (from_answer cap) read
@@ -152,7 +152,7 @@ module _ (table es es' : List ℕ) (m : Model) (cap : ℕ) (read : read_table ta
 
   module _ (found : List Region) (is : from_answer cap (accepted m) ≡ whole found) where
     found-long : length found ≡ n
-    found-long = let e : Regions (length found) ≡ Regions n = sym (ap graph_of is) ∙ sym answer in cc
+    found-long = let e : ◌≡◌ {A = Result ℕ Refusal} (Ok (length found)) (Ok n) = sym (ap graph_of is) ∙ sym answer in cc
 
     -- The first n entries are the regions.
     pub list-found : listed es' n ≡ found

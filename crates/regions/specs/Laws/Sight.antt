@@ -1,7 +1,7 @@
 -- Laws for the code that says what is known of one region: the labels of locations, whether the region is seen, the rows of its edges,
 -- and their branches.
 use Rattle.std.specs.Prelude.{ℕ, zero, suc, ◌+◌, ◌*◌, ◌%◌, ◌≤◌, ◌<◌, ◌≡◌, refl, Bool, true, false, cond, ◌&&◌, List}
-use Rattle.std.specs.Prelude.{[], ◌∷◌, ◌++◌, map, leb, ltb, eqb, length, get_or, take, set, drop}
+use Rattle.std.specs.Prelude.{[], ◌∷◌, ◌++◌, map, leb, ltb, eqb, length, get_or, take, set, drop, Some, None, Ok}
 use Rattle.std.proofs.Common.{arith, add-one, sym, ◌∙◌, ap, ap₂, subst, length-set, length-append, take_all, take-suc-set}
 use Rattle.std.proofs.Common.{get_or-set_same, get_or-set_other, eqb-true, ltb-true, ltb-false, leb-true, lt-ltb, le-ltb, le-leb}
 use Rattle.std.proofs.lemmas.Bool.{false≢true, eqb-false, lt-leb}
@@ -21,7 +21,7 @@ use Rattle.regions.specs.Filling.{Before, Fitting}
 use Rattle.regions.specs.Sight.{location_labels, entry_in, delay_list, ways_from, Ways, Stepping, is_seen, sight_of, Sighted}
 use Rattle.regions.specs.Laws.Filling.{before-none, before_on}
 use Rattle.clocks.specs.declared.region.Region.{Region}
-use Rattle.regions.specs.declared.sight.Sight.TheVariants as S
+use Rattle.table.specs.declared.refusals.Reason.{Reason}
 
 -- An entry with a number below 4,096 is looked at.
 pub entry-inside : (es : List ℕ) (j : ℕ) → j < max_entries → entry_in es j ≡ region_at es j
@@ -271,7 +271,7 @@ steps_on m found r k l l' fitting inside before steps step e h = go (eqb e k) re
 -- ---- The call
 
 abbrev is_refusal : Answer → Bool
-is_refusal (refusal number place) = true
+is_refusal (refusal reason place) = true
 is_refusal (accepted m) = false
 
 -- Region x, under another name.
@@ -286,17 +286,17 @@ sighted m es n x r k delays delays' rows' is reached rows =
     × (delays' ≡ delay_list m (listed es n) q ++ drop (length (delay_list m (listed es n) q)) delays)) is reached in
     (count, record { delays-are = shown; rows_are = λ e h. subst (λ (q : Region). Stepping m (listed es n) q e rows') is (rows e h) })
 
-pub sight-unseen : (m : Model) (es : List ℕ) (n x : ℕ) (seen : Bool) → seen ≡ false → S.Unseen ≡ sight_of seen es n x (accepted m)
+pub sight-unseen : (m : Model) (es : List ℕ) (n x : ℕ) (seen : Bool) → seen ≡ false → Ok None ≡ sight_of seen es n x (accepted m)
 sight-unseen m es n x seen out = rw out
 
 pub sight-seen : (m : Model) (es : List ℕ) (n x : ℕ) (seen : Bool) → seen ≡ true → (r : Region) (label reached edges : ℕ)
     → r ≡ region_at es x → label ≡ get_or m.labels r.location 0 → reached ≡ length (delay_list m (listed es n) (region_at es x))
-    → edges ≡ length m.edges → S.Seen label reached edges ≡ sight_of seen es n x (accepted m)
+    → edges ≡ length m.edges → Ok (Some (record { label = label; reached = reached; edges = edges })) ≡ sight_of seen es n x (accepted m)
 unfolding label_of
 sight-seen m es n x seen out r label reached edges is named long many =
     let called : label ≡ label_of m (region_at es x) = named ∙ ap (λ (q : Region). get_or m.labels q.location 0) is in
     rw (out, called, long, many)
 
 -- A table is not both refused and read.
-pub refused-not : (number place : ℕ) (m : Model) → refusal number place ≡ accepted m → ⊥
-refused-not number place m e = let t : true ≡ false = ap is_refusal e in false≢true (sym t)
+pub refused-not : (reason : Reason) (place : ℕ) (m : Model) → refusal reason place ≡ accepted m → ⊥
+refused-not reason place m e = let t : true ≡ false = ap is_refusal e in false≢true (sym t)

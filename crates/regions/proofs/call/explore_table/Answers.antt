@@ -1,31 +1,31 @@
 -- `explore_table` meets its contract. Assumes nothing.
 use mathlib.Core.Path.{sym, ◌∙◌, ap}
 use lib.ListN.{length}
+use Rattle.std.specs.Prelude.{Err, ◌≡◌}
+use Rattle.std.proofs.Common.{rules}
 use Rattle.table.proofs.Laws.Reads.{refusal-of, reads_of}
 use Rattle.regions.specs.Call.{room_for, from_answer, outcome_of, graph_of, entries_after}
 use Rattle.regions.proofs.call.explore_table.Goals as goal
 
-pub returns-in-Refused : goal.returns-in-Refused
+pub returns-in_err-shape : goal.returns-in_err-shape
 unfolding outcome_of
-returns-in-Refused c =
+returns-in_err-shape c =
     let args = c.args in
-    let read = c.read-reading in
+    let same : c.from_residual.result ≡ Err c.in_err-shape.field-0.0 = search rules in
     let out = ap (from_answer (room_for (length args.entries.now)))
-    (refusal-of args.bytes.now _ _ (sym c.in-Refused.is ∙ read.ensures)) in
+    (refusal-of args.bytes.now _ (sym c.in_err-shape.was ∙ c.read.ensures)) in
     record {
-      value = sym (ap graph_of out);
+      value = same ∙ sym (ap graph_of out);
       entries_after = sym (ap (entries_after args.entries.now) out);
     }
 
-pub returns-in-Accepted : goal.returns-in-Accepted
+pub returns : goal.returns
 unfolding outcome_of
-returns-in-Accepted c =
+returns c =
     let args = c.args in
-    let read = c.read-reading in
-    let graph-of = c.graph_of in
-    let (m, reads) = reads_of args.bytes.now _ (sym c.in-Accepted.is ∙ read.ensures) in
+    let (m, reads) = reads_of args.bytes.now _ (sym c.in_ok-shape.was ∙ c.read.ensures) in
     let out = ap (from_answer (room_for (length args.entries.now))) reads.answer in
-    let done = graph-of.ensures m reads in
+    let done = c.graph_of.ensures m reads in
     record {
       value = done.0 ∙ sym (ap graph_of out);
       entries_after = done.1 ∙ sym (ap (entries_after args.entries.now) out);

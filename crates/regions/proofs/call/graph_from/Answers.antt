@@ -2,6 +2,7 @@
 use Prim.Native.Nat.{ℕ}
 use mathlib.Core.Path.{◌≡◌, sym, ◌∙◌, ap, ap₂}
 use mathlib.Core.Bool.{Bool}
+use Rattle.std.proofs.Common.{Err}
 use Rattle.regions.specs.Graph.{meets, next_of, first}
 use Rattle.regions.specs.Worklist.{explore}
 use Rattle.regions.specs.Explore.{same_region, listed, found_of}
@@ -23,7 +24,7 @@ returns-then-not-meets_invariant c =
     let out = breaks (room_for (length args.entries.now)) args.entries.now m
     (ap₂ (λ (x : Bounds) (q : Region). meets x m.invariants q) (sym same) (sym start)
     ∙ sym (meets-invariant.ensures m limited) ∙ c.if-not-meets_invariant.true) in
-    (sym (ap graph_of out), sym (ap (entries_after args.entries.now) out))
+    (ap Err c.at.ensures ∙ sym (ap graph_of out), sym (ap (entries_after args.entries.now) out))
 
 pub returns-then-met : goal.returns-then-met
 returns-then-met c =
@@ -35,14 +36,15 @@ returns-then-met c =
     let whole-entries = c.whole_entries-cap in
     λ m reads limited placed linked same.
     let start : first_of.result ≡ first m = first_of.ensures m (counts-read args.bytes.now args.shape m reads).initial in
-    is_cut (room_for (length args.entries.now)) args.entries.now m
+    let (answer, left) = is_cut (room_for (length args.entries.now)) args.entries.now m
     (ap₂ (λ (x : Bounds) (q : Region). meets x m.invariants q) (sym same) (sym start)
     ∙ sym (meets-invariant.ensures m limited) ∙ if1.false)
     explore-all.new.entries
     explore-all.result.count explore-all.ensures.left
     (ap₂ (λ (k : ℕ) (q : Region). explore same_region (next_of m) k q) (sym whole-entries.ensures) (sym start)
     ∙ explore-all.ensures.start_value m reads limited placed linked same
-    ∙ ap (λ (b : Bool). found_of b (listed explore-all.new.entries explore-all.result.count)) c.if-met.true)
+    ∙ ap (λ (b : Bool). found_of b (listed explore-all.new.entries explore-all.result.count)) c.if-met.true) in
+    (ap Err c.at-then-met.ensures ∙ answer, left)
 
 pub returns : goal.returns
 returns c =

@@ -79,7 +79,7 @@ returns-then-met c =
     let meet-edge = c.meet_edge-met in
     let loop-test = c.loop-i-test in
     let if1 = c.if-link-i in
-    let number_at = c.number_at-place in
+    let at-place = c.at-place in
     record {
       kept = kept_on args.cap args.n args.entries.now args.heads.now args.nexts.now loop.entries loop.heads loop.nexts
           meet-edge.new.entries
@@ -90,10 +90,10 @@ returns-then-met c =
           let here : loop.i < length m.edges = omega (arith, loop-test.true) in
           let (link, all) = loop.invariant.3 m reads.answer few limited placed linked same in
           let mine = link_here m args.r.location loop.i here (sym link ∙ if1.true ∙ add-one loop.i) in
-          let edge : ReadsEdge args.bytes.now number_at.result m loop.i = record {
+          let edge : ReadsEdge args.bytes.now at-place.result m loop.i = record {
             answer = reads.answer;
             place_is =
-                number_at.ensures ∙ placed loop.i here;
+                at-place.ensures ∙ placed loop.i here;
           } in
           let one = meet-edge.ensures.all_met m loop.i limited edge (sym mine) same in
           loop-full (edge_next m args.r) m.edges loop.i no_edge args.cap args.n loop.listed args.entries.now loop.entries all here
@@ -128,9 +128,9 @@ loop-i-preserved c =
                 let here : loop.i < length m.edges = omega (arith, loop-test.true, few) in
                 let (link, all) = loop.invariant.3 m answer few limited placed linked same in
                 let mine = link_here m args.r.location loop.i here (sym link ∙ w.if-link-i.true ∙ add-one loop.i) in
-                let edge : ReadsEdge args.bytes.now w.number_at-place.result m loop.i = record {
+                let edge : ReadsEdge args.bytes.now w.at-place.result m loop.i = record {
                   answer = answer;
-                  place_is = w.number_at-place.ensures ∙ placed
+                  place_is = w.at-place.ensures ∙ placed
                       loop.i here;
                 } in
                 let one = met.ensures.all_met m loop.i limited edge (sym mine) same in (

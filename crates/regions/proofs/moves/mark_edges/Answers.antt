@@ -88,9 +88,9 @@ loop-e-preserved c =
                 let here : e < length m.edges = omega (arith, loop-test.true, few) in
                 let (link, old, run) = loop.invariant.2 m answer limited placed linked same few in
                 let mine : (edge_of m e).source ≡ l = link_here m l e here (sym link ∙ w.if-link-e.true ∙ add-one e) in
-                let edge : ReadsEdge args.bytes.now w.number_at-place.result m e = record {
+                let edge : ReadsEdge args.bytes.now w.at-place.result m e = record {
                   answer = answer;
-                  place_is = w.number_at-place.ensures ∙ placed e
+                  place_is = w.at-place.ensures ∙ placed e
                       here;
                 } in
                 let now-last : w.open_after-last.result ≡ open_below p (suc e) =

@@ -42,13 +42,13 @@ loop-e-preserved c =
     let loop = c.loop-e in
     let loop-test = c.loop-e-test in
     let args = c.args in
-    let number_at = c.number_at-place in
+    let at-place = c.at-place in
     let Edge-of = c.edge_of-edge in (
       (show-row.ensures.before.as_long) ∙ loop.invariant.0,
       λ m answer placed lists fits few. let here : loop.e < length m.edges
           = omega (arith, loop-test.true, few) in let is = Edge-of.ensures ∙ lists loop.e in let edge : ReadsEdge args.bytes.now
-          number_at.result m loop.e =
-          record { answer = answer; place_is = number_at.ensures ∙ placed loop.e here } in rows_on m loop.e
+          at-place.result m loop.e =
+          record { answer = answer; place_is = at-place.ensures ∙ placed loop.e here } in rows_on m loop.e
           loop.rows show-row.new.rows fits here show-row.ensures.before (loop.invariant.1 m answer placed lists fits few)
           (show-row.ensures.row_to m loop.e edge (fits loop.e here) (ap (λ (x : EdgeStruct). x.action) is)
           (ap (λ (x : EdgeStruct). x.denominator) is)),

@@ -6,14 +6,8 @@ use Rattle.table.proofs.Laws.Reads.{counts-read, sound-read}
 use Rattle.regions.specs.Laws.Shown.{shown}
 use Rattle.regions.proofs.shown.show_listed.Goals as goal
 
-pub show_targets-requires : goal.show_targets-requires
-show_targets-requires c =
-    let pre = c.requires in
-    let at_most = c.at_most-edges in
-    (pre.n_le_max_entries.0, pre.roomy.resets-room, pre.roomy.spots-room, at_most.ensures.0)
-
-pub returns : goal.returns
-returns c =
+pub returns-clause-shown : goal.returns-clause-shown
+returns-clause-shown c =
     let show-steps = c.show_steps in
     let args = c.args in
     let at_most = c.at_most-edges in

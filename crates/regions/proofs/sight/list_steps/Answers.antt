@@ -53,7 +53,7 @@ loop-e-preserved c =
     let loop = c.loop-e in
     let loop-test = c.loop-e-test in
     let args = c.args in
-    let number_at = c.number_at-place in
+    let at-place = c.at-place in
     let Edge-of = c.edge_of-edge in (
       list-step.ensures.before.as_long ∙ loop.invariant.0,
       λ m answer limited placed lists fits same few. let here : loop.e < length m.edges = omega (
@@ -61,8 +61,8 @@ loop-e-preserved c =
         loop-test.true,
         few,
       ) in
-          let edge : ReadsEdge args.bytes.now number_at.result m
-          loop.e = record { answer = answer; place_is = number_at.ensures ∙ placed loop.e here } in
+          let edge : ReadsEdge args.bytes.now at-place.result m
+          loop.e = record { answer = answer; place_is = at-place.ensures ∙ placed loop.e here } in
           steps_on m (listed args.entries.now args.n) args.r loop.e loop.rows
           list-step.new.rows fits here list-step.ensures.before
           (loop.invariant.1 m answer limited placed lists fits same few)

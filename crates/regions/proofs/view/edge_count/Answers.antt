@@ -4,12 +4,10 @@ use Rattle.table.proofs.Laws.Reads.{reads_of, refusal-of, counts-read}
 use Rattle.regions.specs.View.{edges_read}
 use Rattle.regions.proofs.view.edge_count.Goals as goal
 
-pub returns-in-Refused : goal.returns-in-Refused
-returns-in-Refused c =
-    let args = c.args in
-    let read = c.read-reading in
-    sym (ap edges_read (refusal-of args.bytes.now _ _ (sym c.in-Refused.is ∙ read.ensures)))
+pub returns-in-Err : goal.returns-in-Err
+returns-in-Err c = sym (ap edges_read (refusal-of c.args.bytes.now _ c.in-Err.ensures))
 
-pub returns-in-Accepted : goal.returns-in-Accepted
-returns-in-Accepted c = let (m, reads) = reads_of c.args.bytes.now _ (sym c.in-Accepted.is ∙ c.read-reading.ensures) in
+pub returns-in-Ok : goal.returns-in-Ok
+returns-in-Ok c =
+    let (m, reads) = reads_of c.args.bytes.now _ c.in-Ok.ensures in
     (counts-read c.args.bytes.now _ m reads).edges ∙ sym (ap edges_read reads.answer)

@@ -2,7 +2,7 @@
 use mathlib.Core.Path.{sym}
 use Prim.Native.Nat.{◌%◌}
 use lib.Seq.{set_out}
-use Rattle.regions.proofs.slices.store.Goals as goal
+use Rattle.regions.proofs.numbers.store.Goals as goal
 
 pub returns-else-at-list : goal.returns-else-at-list
 returns-else-at-list c =

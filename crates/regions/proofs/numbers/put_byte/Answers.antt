@@ -1,7 +1,7 @@
 -- `put_byte` meets its contract. Assumes nothing.
 use mathlib.Core.Path.{sym}
 use lib.Seq.{set_out}
-use Rattle.regions.proofs.slices.put_byte.Goals as goal
+use Rattle.regions.proofs.numbers.put_byte.Goals as goal
 
 pub returns-else-at-list : goal.returns-else-at-list
 returns-else-at-list c =

@@ -3,7 +3,7 @@ use Prim.Native.Nat.{ℕ, ◌+◌, ◌%◌}
 use mathlib.Core.Path.{◌∙◌, ap}
 use mathlib.Core.List.{List}
 use lib.ListN.{set}
-use Rattle.regions.proofs.slices.store_three.Goals as goal
+use Rattle.regions.proofs.numbers.store_three.Goals as goal
 
 pub returns : goal.returns
 returns c =
