@@ -1,10 +1,11 @@
 -- A clock as a cell, and what delay and reset do to the clocks of a region (document 01, "Regions"). A cell carries the bound of
 -- its own clock: document 01 has one M for all. The fraction of a cell is a number that orders the clocks: in a region it is the
 -- rank, in a state any numerator over a common denominator.
-use Rattle.std.specs.Prelude.{ℕ, zero, suc, ◌+◌, ◌≤◌, ◌<◌, max, ◌≡◌, refl, Bool, true, false}
+use Rattle.std.specs.Prelude.{ℕ, zero, suc, ◌+◌, ◌-◌, ◌≤◌, ◌<◌, max, ◌≡◌, refl, Bool, true, false}
 use Rattle.std.specs.Prelude.{cond, ◌&&◌, ◌||◌, List, [], ◌∷◌, map, eqb, ltb}
-use Rattle.std.proofs.Common.{arith, add-one, sym, ◌∙◌, ap, ap₂, ne_eqb}
-use Rattle.std.proofs.Math.Bool.{or-false}
+use Rattle.std.specs.List.{list_any}
+use Rattle.std.proofs.Common.{arith, add-one, sym, ◌∙◌, ap₂, eqb-true, eq-eqb, ne_eqb}
+use Rattle.std.proofs.lemmas.Bool.{eqb-false}
 use Rattle.table.specs.Model.{reset_in}
 
 -- "A clock above M is *over*. Else it has an integer part and a rank."
@@ -113,44 +114,32 @@ delay cs =
     cond (all is_over cs) nothing
     (cond (some standing cs) (cells (map (leave (some leaving cs)) cs)) (cells (map (arrive (highest cs)) cs)))
 
--- Laws for the code: what a clock of rank 0, and one of another rank, does at the beginning of a delay.
-
-pub leave-zero : (any : Bool) (m w f : ℕ) → f ≡ 0 → leave any (at m w f) ≡ cond (ltb w m) (at m w 1) (over m)
-leave-zero any m w f e = ap (λ k. leave any (at m w k)) e
-
+-- What a clock of another rank than 0 does at the beginning of a delay.
 pub leave-ranked : (any : Bool) (m w f : ℕ) → (f ≡ 0 → ⊥) → leave any (at m w f) ≡ at m w (cond any (suc f) f)
 leave-ranked any m w zero e = absurd (e refl)
 leave-ranked any m w (suc f) e = refl
 
--- One more number is looked at in finding a rank.
-pub rank_step : (fs : List ℕ) (k n n' : ℕ) (b : Bool) → n ≡ rank fs k → b ≡ member (k + 1) fs → n' ≡ cond b (suc n) n
-    → n' ≡ rank fs (k + 1)
-rank_step fs k n n' b en eb e =
-    e ∙ ap₂ (λ (t : Bool) (x : ℕ). cond t (suc x) x) (eb ∙ ap (λ j. member j fs) (add-one k)) en ∙ sym (ap (rank fs) (add-one k))
+-- One more number is looked at in finding a rank, by a test of each fraction.
 
-pub counted-most : (b : Bool) (n n' : ℕ) → n' ≡ cond b (suc n) n → n' ≤ suc n
-counted-most true n n' e = omega arith
-counted-most false n n' e = omega arith
+tested : (k : ℕ) (fs : List ℕ) → list_any (λ x. eqb x k) fs ≡ member k fs
+tested k [] = refl
+tested k (x ∷ fs) = ap₂ (λ a b. a || b) (turned (eqb x k) refl) (tested k fs)
+  where
+    turned : (b : Bool) → eqb x k ≡ b → b ≡ eqb k x
+    turned true e = sym (eq-eqb k x (sym (eqb-true x k e)))
+    turned false e = sym (ne_eqb k x (λ q. eqb-false x k e (sym q)))
 
-pub member-last : (k a b c d : ℕ) → (k ≡ a → ⊥) → (k ≡ b → ⊥) → (k ≡ c → ⊥) → eqb k d ≡ member k (a ∷ b ∷ c ∷ d ∷ [])
-member-last k a b c d ha hb hc = rw (ne_eqb k a ha, ne_eqb k b hb, ne_eqb k c hc) (sym (or-false (eqb k d)))
+pub rank_found : (fs : List ℕ) (k : ℕ) → 0 < k → list_any (λ x. eqb x k) fs ≡ true → rank fs k ≡ rank fs (k - 1) + 1
+rank_found fs zero h e = absurd (omega arith)
+rank_found fs (suc k) h e =
+    let back : suc k - 1 ≡ k = omega arith in
+    rw (sym (tested (suc k) fs) ∙ e, back, add-one)
 
--- The highest rank is the largest fraction.
-
-largest : List ℕ → ℕ
-largest [] = 0
-largest (x ∷ l) = max x (largest l)
-
-highest-is : (cs : List Cell) → highest cs ≡ largest (map fraction_of cs)
-unfolding largest
-highest-is [] = refl
-highest-is (c ∷ cs) = ap (max (fraction_of c)) (highest-is cs)
-
-pub highest-four : (a b c d : ℕ) (cs : List Cell) → (a ∷ b ∷ c ∷ d ∷ []) ≡ map fraction_of cs → max a (max b (max c d)) ≡ highest cs
-unfolding largest
-highest-four a b c d cs e =
-    let last : d ≡ max d 0 = omega arith in
-    ap (λ n. max a (max b (max c n))) last ∙ ap largest e ∙ sym (highest-is cs)
+pub rank_absent : (fs : List ℕ) (k : ℕ) → 0 < k → list_any (λ x. eqb x k) fs ≡ false → rank fs k ≡ rank fs (k - 1)
+rank_absent fs zero h e = absurd (omega arith)
+rank_absent fs (suc k) h e =
+    let back : suc k - 1 ≡ k = omega arith in
+    rw (sym (tested (suc k) fs) ∙ e, back)
 
 -- The three cases of delay.
 

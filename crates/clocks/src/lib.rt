@@ -2,9 +2,7 @@
 #![tactic(auto)]
 
 mod clock;
-mod four;
 mod region;
 
 pub use clock::{Clock, OVER};
-pub use four::{larger, or_four};
-pub use region::{Bounds, Moved, Region, Verdict, byte_of, clock_at, kept};
+pub use region::{Bounds, Region};

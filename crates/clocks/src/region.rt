@@ -1,16 +1,14 @@
 // A region by value, in nine bytes: delay, reset and guard test.
-ghost use Rattle.std.specs.Prelude.{ℕ, ◌≡◌, get_or};
-ghost use Rattle.clocks.specs.Atoms.{atom, verdict};
-ghost use Rattle.clocks.specs.Packed.{cell_of, clock_at, four_at, byte_at, wholes, ranks, region_of, delayed, after_reset};
+ghost use Rattle.std.specs.Prelude.{ℕ, ◌≡◌, map};
+ghost use Rattle.clocks.specs.Atoms.{atom};
+ghost use Rattle.clocks.specs.Cells.{some, leaving, leave, highest, arrive, restarted, close};
+ghost use Rattle.clocks.specs.Packed.{cell_of, cells_of, four_of, clock_at, four_at, region_of, delayed, after_reset};
 
 use crate::clock::{Clock, OVER};
-use crate::four::{
-    Four, all_over, arrive_all, close_all, highest_of, leave_all, restart_all, some_leaving,
-    some_standing,
-};
+use std::array;
 
 // How many clocks a model has, and the bound of each.
-#[derive(Clone, Copy)]
+#[derive(Clone, Copy, Debug, PartialEq, Eq)]
 pub struct Bounds {
     pub count: u8,
     pub bound: [u8; 4],
@@ -18,168 +16,120 @@ pub struct Bounds {
 
 // A region: its location, and of each clock the integer part (16 for over) and the rank (0 for over). Clocks beyond the count
 // hold 0 in both.
-#[derive(Clone, Copy)]
+#[derive(Clone, Copy, Debug, PartialEq, Eq)]
 pub struct Region {
     pub location: u8,
     pub whole: [u8; 4],
     pub rank: [u8; 4],
 }
 
-// The region that follows, if any does; otherwise the region itself stands there.
-#[derive(Clone, Copy)]
-pub struct Moved {
-    pub any: bool,
-    pub region: Region,
-}
-
-// What an atom says of a region. No other comparison than the five occurs in a model that was read.
-#[derive(Clone, Copy)]
-pub enum Verdict {
-    Holds,
-    Fails,
-    Unknown,
-}
-
-// Byte i of four, and 0 past them.
-pub fn byte_of(four: [u8; 4], i: usize) -> u8
-    ensures { result ≡ get_or four i 0 }
+// All clocks at the beginning of a delay from where some clock has rank 0.
+fn leave_all(clocks: [Clock; 4]) -> [Clock; 4]
+    ensures { result ≡ four_of (map (leave (some leaving (cells_of clocks))) (cells_of clocks)) }
 {
-    if i < 4 { four[i] } else { 0 }
+    let any = clocks.iter().any(|k| k.is_leaving());
+    clocks.map(|k| k.leave(any))
 }
 
-// Clock i of a region. A clock beyond the count takes no part: it counts as over.
-pub fn clock_at(r: Region, bounds: Bounds, i: usize) -> Clock
-    ensures { result ≡ clock_at bounds r i }
+// All clocks where those of highest rank come to whole numbers.
+fn arrive_all(clocks: [Clock; 4]) -> [Clock; 4]
+    ensures { result ≡ four_of (map (arrive (highest (cells_of clocks))) (cells_of clocks)) }
 {
-    let count = bounds.count as usize;
-    if i < count {
-        let bound = bounds.bound;
-        let whole = r.whole;
-        let rank = r.rank;
-        return Clock {
-            bound: byte_of(bound, i),
-            whole: byte_of(whole, i),
-            rank: byte_of(rank, i),
-        };
-    }
-    Clock {
-        bound: 0,
-        whole: OVER,
-        rank: 0,
-    }
+    let top = clocks.iter().fold(0, |top, k| top.max(k.fraction()));
+    clocks.map(|k| k.arrive(top))
 }
 
-fn clocks_of(r: Region, bounds: Bounds) -> Four
-    ensures { result ≡ four_at bounds r }
+// All clocks, those of the mask at 0.
+fn restart_all(clocks: [Clock; 4], mask: u8) -> [Clock; 4]
+    ensures { cells_of result ≡ restarted mask 0 (cells_of clocks) }
 {
-    Four {
-        a: clock_at(r, bounds, 0),
-        b: clock_at(r, bounds, 1),
-        c: clock_at(r, bounds, 2),
-        d: clock_at(r, bounds, 3),
-    }
+    array::from_fn(|i| clocks[i].restart_if(table::resets(mask, i as u8)))
 }
 
-// A byte of clock i, and 0 beyond the count.
-pub fn kept(count: u8, i: u8, x: u8) -> u8
-    ensures { result ≡ byte_at count i x }
+// All clocks with their ranks closed up.
+fn close_all(clocks: [Clock; 4]) -> [Clock; 4]
+    ensures { result ≡ four_of (close (cells_of clocks)) }
 {
-    if i < count { x } else { 0 }
-}
-
-fn whole_parts(count: u8, k: Four) -> [u8; 4]
-    ensures { result ≡ wholes count k }
-{
-    [
-        kept(count, 0, k.a.whole),
-        kept(count, 1, k.b.whole),
-        kept(count, 2, k.c.whole),
-        kept(count, 3, k.d.whole),
-    ]
-}
-
-fn rank_parts(count: u8, k: Four) -> [u8; 4]
-    ensures { result ≡ ranks count k }
-{
-    [
-        kept(count, 0, k.a.rank),
-        kept(count, 1, k.b.rank),
-        kept(count, 2, k.c.rank),
-        kept(count, 3, k.d.rank),
-    ]
-}
-
-// The region with these clocks at a location.
-fn region_of(bounds: Bounds, location: u8, k: Four) -> Region
-    ensures { result ≡ region_of bounds location k }
-{
-    let count = bounds.count;
-    Region {
-        location: location,
-        whole: whole_parts(count, k),
-        rank: rank_parts(count, k),
-    }
+    let fractions = clocks.map(|k| k.fraction());
+    clocks.map(|k| k.close(fractions))
 }
 
 impl Region {
+    // Clock i of the region. A clock beyond the count takes no part: it counts as over.
+    #[tactic(auto, unfolding(crate::specs::Packed::clock_at))]
+    pub fn clock_at(self, bounds: Bounds, i: usize) -> Clock
+        ensures { result ≡ clock_at bounds self i }
+    {
+        if i < usize::from(bounds.count) {
+            Clock {
+                bound: bounds.bound.get(i).copied().unwrap_or(0),
+                whole: self.whole.get(i).copied().unwrap_or(0),
+                rank: self.rank.get(i).copied().unwrap_or(0),
+            }
+        } else {
+            Clock {
+                bound: 0,
+                whole: OVER,
+                rank: 0,
+            }
+        }
+    }
+
+    fn clocks(self, bounds: Bounds) -> [Clock; 4]
+        ensures { result ≡ four_at bounds self }
+    {
+        array::from_fn(|i| self.clock_at(bounds, i))
+    }
+
+    // The region with these clocks at the same location.
+    fn with_clocks(self, bounds: Bounds, clocks: [Clock; 4]) -> Region
+        ensures { result ≡ region_of bounds self.location clocks }
+    {
+        let count = usize::from(bounds.count);
+        Region {
+            location: self.location,
+            whole: array::from_fn(|i| if i < count { clocks[i].whole } else { 0 }),
+            rank: array::from_fn(|i| if i < count { clocks[i].rank } else { 0 }),
+        }
+    }
+
     // The region that follows by delay, if any does.
-    pub fn delay(self, bounds: Bounds) -> Moved
+    pub fn delay(self, bounds: Bounds) -> Option<Region>
         ensures { result ≡ delayed bounds self }
     {
-        let f = clocks_of(self, bounds);
-        let location = self.location;
-        if all_over(f) {
-            return Moved {
-                any: false,
-                region: self,
-            };
+        let clocks = self.clocks(bounds);
+        if clocks.iter().all(|k| k.is_over()) {
+            return None;
         }
-        if some_standing(f) {
-            let left = leave_all(f, some_leaving(f));
-            return Moved {
-                any: true,
-                region: region_of(bounds, location, left),
-            };
-        }
-        let arrived = arrive_all(f, highest_of(f));
-        Moved {
-            any: true,
-            region: region_of(bounds, location, arrived),
-        }
+        let next = if clocks.iter().any(|k| k.is_standing()) {
+            leave_all(clocks)
+        } else {
+            arrive_all(clocks)
+        };
+        Some(self.with_clocks(bounds, next))
     }
 
     // The region after a reset of the clocks of a mask.
     pub fn reset(self, bounds: Bounds, mask: u8) -> Region
         ensures { result ≡ after_reset bounds self mask }
     {
-        let f = clocks_of(self, bounds);
-        let location = self.location;
-        let left = close_all(restart_all(f, mask));
-        region_of(bounds, location, left)
+        let clocks = self.clocks(bounds);
+        self.with_clocks(bounds, close_all(restart_all(clocks, mask)))
     }
 
-    // What an atom says of the region.
-    pub fn test(self, bounds: Bounds, clock: u8, comparison: u8, constant: u8) -> Verdict
+    // What an atom says of the region: nothing where there is no such comparison, which no model that was read has.
+    #[tactic(auto, unfolding(crate::specs::Atoms::atom))]
+    pub fn test(self, bounds: Bounds, clock: u8, comparison: u8, constant: u8) -> Option<bool>
         ensures { result ≡ atom comparison constant (cell_of (clock_at bounds self clock)) }
     {
-        let k = clock_at(self, bounds, clock as usize);
+        let k = self.clock_at(bounds, usize::from(clock));
         match comparison {
-            0 => verdict_of(k.is_below(constant)),
-            1 => verdict_of(k.is_at_most(constant)),
-            2 => verdict_of(!k.is_at_most(constant)),
-            3 => verdict_of(!k.is_below(constant)),
-            4 => verdict_of(k.is_equal(constant)),
-            _ => Verdict::Unknown,
+            0 => Some(k.is_below(constant)),
+            1 => Some(k.is_at_most(constant)),
+            2 => Some(!k.is_at_most(constant)),
+            3 => Some(!k.is_below(constant)),
+            4 => Some(k.is_equal(constant)),
+            _ => None,
         }
-    }
-}
-
-fn verdict_of(holds: bool) -> Verdict
-    ensures { result ≡ verdict holds }
-{
-    if holds {
-        Verdict::Holds
-    } else {
-        Verdict::Fails
     }
 }

@@ -1,37 +1,29 @@
--- `rank_of` meets its contract. The loop's invariant: the count is the rank of the number looked at last. The measure is what is
--- left of the fraction. Assumes nothing.
-use mathlib.Core.Path.{◌≡◌, ◌∙◌, ap, refl}
-use mathlib.Core.List.{[], ◌∷◌}
-use native.Mathlib.Omega.{arith}
-use Rattle.clocks.specs.Cells.{rank, rank_step, counted-most}
+-- One more number is looked at.
+use Rattle.std.proofs.Common.{◌≡◌, ◌≤◌, ◌-◌, ◌+◌, ◌∙◌, ap, sym, arith}
+use Rattle.clocks.specs.Cells.{rank, rank_found, rank_absent}
 use Rattle.clocks.proofs.clock.rank_of.Goals as goal
-
-pub loop-k-init : goal.loop-k-init
-loop-k-init c = (refl, omega arith, omega arith)
-
-pub counted-n-requires : goal.counted-n-requires
-counted-n-requires c =
-    let loop = c.loop-k in
-    let fits = c.ranges in
-    omega (arith, loop.invariant, c.loop-k-test.true, fits.f)
+use Rattle.clocks.proofs.clock.rank_of.Goals.{then-contains, else-contains}
 
 pub loop-k-preserved : goal.loop-k-preserved
 loop-k-preserved c =
     let args = c.args in
     let loop = c.loop-k in
-    let counted = c.counted-n in
-    let is_member = c.is_member in
-    let loop-test = c.loop-k-test in (
-      rank_step (args.a ∷ args.b ∷ args.c ∷ args.d ∷ []) loop.k loop.n counted.result is_member.result loop.invariant.0
-          is_member.ensures counted.ensures,
-      omega
-          (arith, counted-most is_member.result loop.n counted.result counted.ensures, loop.invariant.1),
-      omega (arith, loop-test.true),
-    )
+    let counts : (c.if-contains.rank ≡ rank args.fractions loop.k-counter) × (c.if-contains.rank ≤ loop.rank + 1) =
+    elim c.if-contains.branch [
+      | then-contains w ↦ (omega (arith, rank_found args.fractions loop.k-counter (omega arith) (sym c.contains.ensures.value ∙ w.if-contains.true)), omega arith)
+      | else-contains w ↦ (omega (arith, rank_absent args.fractions loop.k-counter (omega arith) (sym c.contains.ensures.value ∙ w.if-contains.false)), omega arith)
+    ] in
+    let back : loop.k-counter ≡ loop.k-counter + 1 - 1 = omega arith in
+    (counts.0 ∙ ap (rank args.fractions) back, omega arith, omega arith)
 
-pub returns : goal.returns
-returns c =
-    let loop = c.loop-k in
+pub returns-after-contains : goal.returns-after-contains
+returns-after-contains c =
     let args = c.args in
-    let done : loop.k ≡ args.f = omega (arith, loop.invariant.2, c.loop-k-test.false) in
-    (loop.invariant.0 ∙ ap (rank (args.a ∷ args.b ∷ args.c ∷ args.d ∷ [])) done, omega (arith, loop.invariant.1, loop.invariant.2))
+    let loop = c.loop-k in
+    let counts : (c.if-contains.rank ≡ rank args.fractions loop.k-counter) × (c.if-contains.rank ≤ loop.rank + 1) =
+    elim c.if-contains.branch [
+      | then-contains w ↦ (omega (arith, rank_found args.fractions loop.k-counter (omega arith) (sym c.contains.ensures.value ∙ w.if-contains.true)), omega arith)
+      | else-contains w ↦ (omega (arith, rank_absent args.fractions loop.k-counter (omega arith) (sym c.contains.ensures.value ∙ w.if-contains.false)), omega arith)
+    ] in
+    let last : loop.k-counter ≡ args.fraction = omega arith in
+    (counts.0 ∙ ap (rank args.fractions) last, omega arith)

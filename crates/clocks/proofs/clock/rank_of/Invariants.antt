@@ -1,13 +1,7 @@
--- `rank_of` meets its contract. The loop's invariant: the count is the rank of the number looked at last. The measure is what is
--- left of the fraction. Assumes nothing.
-use Prim.Native.Nat.{◌-◌, ◌≤◌}
-use mathlib.Core.Path.{◌≡◌}
-use mathlib.Core.List.{[], ◌∷◌}
+-- The count is the rank of the number looked at last, and at most that number.
+use Rattle.std.proofs.Common.{◌<◌, ◌≤◌, ◌≡◌, ◌-◌, ◌+◌}
 use Rattle.clocks.specs.Cells.{rank}
 use Rattle.clocks.proofs.clock.rank_of.Given as goal
 
 abbrev pub invariant-loop-k : goal.invariant-loop-k
-invariant-loop-k l = (l.n ≡ rank (l.a ∷ l.b ∷ l.c ∷ l.d ∷ []) l.k) × (l.n ≤ l.k) × (l.k ≤ l.f)
-
-abbrev pub decreases-loop-k : goal.decreases-loop-k
-decreases-loop-k l = l.f - l.k
+invariant-loop-k l = (l.rank ≡ rank l.fractions (l.k-counter - 1)) × (l.rank < l.k-counter) × (l.k-counter ≤ l.fraction + 1)

@@ -1,45 +1,36 @@
--- `delay` meets its contract: the three cases of delay, by the tests that the code makes. Assumes nothing.
-use Prim.Native.Nat.{ℕ}
-use mathlib.Core.Path.{sym, ◌∙◌, ap}
-use mathlib.Core.Bool.{Bool}
-use mathlib.Core.List.{map}
-use Rattle.clocks.specs.Cells.{leave, arrive}
-use Rattle.clocks.specs.Packed.{cells_of, four_of, moved_nothing, moved-leaves, moved-arrives}
+-- The three cases of delay, by the tests that the code makes.
+use Rattle.std.proofs.Common.{rules, ◌≡◌, sym, ◌∙◌}
+use Rattle.std.proofs.lemmas.Iterator.{YieldsList-from_slice}
+use Rattle.std.proofs.lemmas.Iterator.Search.{any_from_yields_List, all_from_yields_List}
+use Rattle.clocks.specs.Cells.{is_over, standing, all, some}
+use Rattle.clocks.specs.Packed.{cell_of, cells_of, all-cells, some-cells, moved_nothing, moved-leaves, moved-arrives}
+use Rattle.clocks.specs.declared.clock.Clock.{Clock}
 use Rattle.clocks.proofs.region.Region.delay.Goals as goal
+use Rattle.clocks.proofs.region.Region.delay.Goals.{then-any, else-any}
 
-pub returns-then-all_over : goal.returns-then-all_over
-returns-then-all_over c =
-    let args = c.args in
-    let clocks-of = c.clocks_of-f in
-    moved_nothing args.bounds args.self clocks-of.result clocks-of.ensures
-    (sym c.all_over.ensures ∙ c.if-all_over.true)
-
-pub returns-then-some_standing : goal.returns-then-some_standing
-returns-then-some_standing c =
-    let args = c.args in
-    let clocks-of = c.clocks_of-f in
-    let leave-all = c.leave_all-left in
-    let region-of = c.region_of in
-    let all-over = c.all_over in
-    let if1 = c.if-all_over in
-    let some-standing = c.some_standing in
-    let if2 = c.if-some_standing in
-    let some-leaving = c.some_leaving in
-    moved-leaves args.bounds args.self clocks-of.result clocks-of.ensures leave-all.result region-of.result region-of.ensures
-    (sym all-over.ensures ∙ if1.false) (sym some-standing.ensures ∙ if2.true)
-    (leave-all.ensures ∙ ap (λ (b : Bool). four_of (map (leave b) (cells_of clocks-of.result))) some-leaving.ensures)
+pub returns-then-all : goal.returns-then-all
+returns-then-all c =
+    let clocks = c.clocks-clocks in
+    let over : c.all.result ≡ all is_over (cells_of clocks.result) =
+    all_from_yields_List (λ (k : Clock). is_over (cell_of k)) _ _ c.all.result c.all.ensures.ran
+    (YieldsList-from_slice _ c.iter.ensures.rest) (λ x b q k. search rules) ∙ all-cells is_over clocks.result in
+    moved_nothing c.args.bounds c.args.self clocks.result clocks.ensures (sym over ∙ c.if-all.true)
 
 pub returns : goal.returns
 returns c =
-    let args = c.args in
-    let clocks-of = c.clocks_of-f in
-    let arrive-all = c.arrive_all-arrived in
-    let region-of2 = c.region_of-2 in
-    let all-over = c.all_over in
-    let if1 = c.if-all_over in
-    let some-standing = c.some_standing in
-    let if2 = c.if-some_standing in
-    let highest-of = c.highest_of in
-    moved-arrives args.bounds args.self clocks-of.result clocks-of.ensures arrive-all.result region-of2.result
-    region-of2.ensures (sym all-over.ensures ∙ if1.false) (sym some-standing.ensures ∙ if2.false)
-    (arrive-all.ensures ∙ ap (λ (n : ℕ). four_of (map (arrive n) (cells_of clocks-of.result))) highest-of.ensures)
+    let clocks = c.clocks-clocks in
+    let made = c.with_clocks in
+    let over : c.all.result ≡ all is_over (cells_of clocks.result) =
+    all_from_yields_List (λ (k : Clock). is_over (cell_of k)) _ _ c.all.result c.all.ensures.ran
+    (YieldsList-from_slice _ c.iter.ensures.rest) (λ x b q k. search rules) ∙ all-cells is_over clocks.result in
+    let stands : c.any.result ≡ some standing (cells_of clocks.result) =
+    any_from_yields_List (λ (k : Clock). standing (cell_of k)) _ _ c.any.result c.any.ensures.ran
+    (YieldsList-from_slice _ c.iter-2.ensures.rest) (λ x b q k. search rules) ∙ some-cells standing clocks.result in
+    elim c.if-any.branch [
+      | then-any w ↦
+          moved-leaves c.args.bounds c.args.self clocks.result clocks.ensures c.if-any.next made.result made.ensures
+          (sym over ∙ c.if-all.false) (sym stands ∙ w.if-any.true) (w.next-is ∙ w.leave_all-next.ensures)
+      | else-any w ↦
+          moved-arrives c.args.bounds c.args.self clocks.result clocks.ensures c.if-any.next made.result made.ensures
+          (sym over ∙ c.if-all.false) (sym stands ∙ w.if-any.false) (w.next-is ∙ w.arrive_all-next.ensures)
+    ]

@@ -1,13 +1,8 @@
--- `reset` meets its contract: restart, then close up. Assumes nothing.
+-- Restart, then close up.
 use Rattle.clocks.specs.Packed.{reset-done}
 use Rattle.clocks.proofs.region.Region.reset.Goals as goal
 
 pub returns : goal.returns
 returns c =
-    let args = c.args in
-    let clocks-of = c.clocks_of-f in
-    let restart-all = c.restart_all in
-    let close-all = c.close_all-left in
-    let region-of = c.region_of in
-    reset-done args.bounds args.self clocks-of.result clocks-of.ensures args.mask restart-all.result close-all.result
-    region-of.result restart-all.ensures close-all.ensures region-of.ensures
+    reset-done c.args.bounds c.args.self c.clocks-clocks.result c.clocks-clocks.ensures c.args.mask c.restart_all.result
+    c.close_all.result c.with_clocks.result c.restart_all.ensures c.close_all.ensures c.with_clocks.ensures
