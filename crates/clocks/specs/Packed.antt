@@ -1,6 +1,7 @@
 -- A region as the code holds it (document 01: "An entry is nine bytes: location, four integer parts (16 for over), four ranks (0
 -- for over). Clocks beyond n hold 0."), and the cells that it stands for.
-use Rattle.std.specs.Prelude.{ℕ, ◌<◌, ◌≤◌, min, ◌≡◌, refl, Bool, true, false, cond, ◌&&◌, ◌||◌, List, [], ◌∷◌, map, eqb, ltb, get_or, Option, Some, None}
+use Rattle.std.specs.Prelude.{ℕ, ◌<◌, ◌≤◌, min, ◌≡◌, refl, Bool, true, false, cond, ◌&&◌, ◌||◌, List, [], ◌∷◌, map}
+use Rattle.std.specs.Prelude.{eqb, ltb, get_or, Option, Some, None}
 use Rattle.std.specs.List.{list_all, list_any}
 use Rattle.std.proofs.Common.{◌∙◌}
 use Rattle.std.proofs.Math.Path.{sym, ap}
@@ -29,7 +30,8 @@ cells_of ks = map cell_of ks
 -- Four clocks. Where there are fewer cells, the others count as over.
 abbrev pub four_of : List Cell → List Clock
 four_of cs =
-    clock_of (get_or cs 0 (over 0)) ∷ clock_of (get_or cs 1 (over 0)) ∷ clock_of (get_or cs 2 (over 0)) ∷ clock_of (get_or cs 3 (over 0)) ∷ []
+    clock_of (get_or cs 0 (over 0)) ∷ clock_of (get_or cs 1 (over 0))
+    ∷ clock_of (get_or cs 2 (over 0)) ∷ clock_of (get_or cs 3 (over 0)) ∷ []
 
 -- A clock that takes no part: it counts as over.
 abbrev pub no_clock : Clock

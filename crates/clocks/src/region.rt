@@ -6,6 +6,7 @@ ghost use Rattle.clocks.specs.Packed.{cell_of, cells_of, four_of, clock_at, four
 
 use crate::clock::{Clock, OVER};
 use std::array;
+use table::Comparison;
 
 // How many clocks a model has, and the bound of each.
 #[derive(Clone, Copy, Debug, PartialEq, Eq)]
@@ -122,14 +123,14 @@ impl Region {
     pub fn test(self, bounds: Bounds, clock: u8, comparison: u8, constant: u8) -> Option<bool>
         ensures { result ≡ atom comparison constant (cell_of (clock_at bounds self clock)) }
     {
+        let comparison = Comparison::try_from(comparison).ok()?;
         let k = self.clock_at(bounds, usize::from(clock));
-        match comparison {
-            0 => Some(k.is_below(constant)),
-            1 => Some(k.is_at_most(constant)),
-            2 => Some(!k.is_at_most(constant)),
-            3 => Some(!k.is_below(constant)),
-            4 => Some(k.is_equal(constant)),
-            _ => None,
-        }
+        Some(match comparison {
+            Comparison::Less => k.is_below(constant),
+            Comparison::AtMost => k.is_at_most(constant),
+            Comparison::Greater => !k.is_at_most(constant),
+            Comparison::AtLeast => !k.is_below(constant),
+            Comparison::Equal => k.is_equal(constant),
+        })
     }
 }

@@ -6,24 +6,26 @@ use Rattle.clocks.proofs.clock.rank_of.Goals.{then-contains, else-contains}
 
 pub loop-k-preserved : goal.loop-k-preserved
 loop-k-preserved c =
-    let args = c.args in
-    let loop = c.loop-k in
-    let counts : (c.if-contains.rank ≡ rank args.fractions loop.k-counter) × (c.if-contains.rank ≤ loop.rank + 1) =
+    let fs = c.args.fractions in
+    let k = c.loop-k.k-counter in
+    let found = sym c.contains.ensures.value in
+    let counts : (c.if-contains.rank ≡ rank fs k) × (c.if-contains.rank ≤ c.loop-k.rank + 1) =
     elim c.if-contains.branch [
-      | then-contains w ↦ (omega (arith, rank_found args.fractions loop.k-counter (omega arith) (sym c.contains.ensures.value ∙ w.if-contains.true)), omega arith)
-      | else-contains w ↦ (omega (arith, rank_absent args.fractions loop.k-counter (omega arith) (sym c.contains.ensures.value ∙ w.if-contains.false)), omega arith)
+      | then-contains w ↦ (omega (arith, rank_found fs k (omega arith) (found ∙ w.if-contains.true)), omega arith)
+      | else-contains w ↦ (omega (arith, rank_absent fs k (omega arith) (found ∙ w.if-contains.false)), omega arith)
     ] in
-    let back : loop.k-counter ≡ loop.k-counter + 1 - 1 = omega arith in
-    (counts.0 ∙ ap (rank args.fractions) back, omega arith, omega arith)
+    let back : k ≡ k + 1 - 1 = omega arith in
+    (counts.0 ∙ ap (rank fs) back, omega arith, omega arith)
 
 pub returns-after-contains : goal.returns-after-contains
 returns-after-contains c =
-    let args = c.args in
-    let loop = c.loop-k in
-    let counts : (c.if-contains.rank ≡ rank args.fractions loop.k-counter) × (c.if-contains.rank ≤ loop.rank + 1) =
+    let fs = c.args.fractions in
+    let k = c.loop-k.k-counter in
+    let found = sym c.contains.ensures.value in
+    let counts : (c.if-contains.rank ≡ rank fs k) × (c.if-contains.rank ≤ c.loop-k.rank + 1) =
     elim c.if-contains.branch [
-      | then-contains w ↦ (omega (arith, rank_found args.fractions loop.k-counter (omega arith) (sym c.contains.ensures.value ∙ w.if-contains.true)), omega arith)
-      | else-contains w ↦ (omega (arith, rank_absent args.fractions loop.k-counter (omega arith) (sym c.contains.ensures.value ∙ w.if-contains.false)), omega arith)
+      | then-contains w ↦ (omega (arith, rank_found fs k (omega arith) (found ∙ w.if-contains.true)), omega arith)
+      | else-contains w ↦ (omega (arith, rank_absent fs k (omega arith) (found ∙ w.if-contains.false)), omega arith)
     ] in
-    let last : loop.k-counter ≡ args.fraction = omega arith in
-    (counts.0 ∙ ap (rank args.fractions) last, omega arith)
+    let last : k ≡ c.args.fraction = omega arith in
+    (counts.0 ∙ ap (rank fs) last, omega arith)
