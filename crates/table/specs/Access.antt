@@ -11,7 +11,7 @@ use Rattle.table.specs.declared.model.Guard.{Guard}
 use Rattle.table.specs.declared.model.Branch.{Branch}
 use Rattle.table.specs.declared.model.Edge.{Edge as EdgeStruct}
 use Rattle.table.specs.declared.model.Shape.{Shape}
-use Rattle.table.specs.declared.records.Body.{Body}
+use Rattle.table.specs.declared.bodies.Body.{Body}
 
 abbrev pub no_invariant : Invariant
 no_invariant = record { location = 0; clock = 0; comparison = 0; constant = 0 }

@@ -4,7 +4,7 @@ use Rattle.table.specs.Format.{body_length, body_lengths, two_bytes}
 use Rattle.table.specs.declared.model.Invariant.{Invariant}
 use Rattle.table.specs.declared.model.Guard.{Guard}
 use Rattle.table.specs.declared.model.Branch.{Branch}
-use Rattle.table.specs.declared.records.Body.{Body}
+use Rattle.table.specs.declared.bodies.Body.{Body}
 
 -- "A record is one byte of kind and a body."
 pub data Record : Type 0 where

@@ -12,6 +12,8 @@ use Rattle.table.specs.Records.{Record, header, location, invariant, edge, guard
 use Rattle.table.specs.declared.model.Invariant.{Invariant}
 use Rattle.table.specs.declared.model.Guard.{Guard}
 use Rattle.table.specs.declared.model.Branch.{Branch}
+use Rattle.table.specs.declared.records.Stage.{Stage}
+use Rattle.table.specs.declared.records.Stage.TheVariants.{AtStart, InLocations, InInvariants, InGuards, InBranches}
 use Rattle.table.specs.declared.records.Progress.{Progress}
 use Rattle.table.specs.Reasons.{number, refusal_at}
 use Rattle.table.specs.declared.refusals.Reason.{Reason}
@@ -39,26 +41,24 @@ decide [] next = next
 decide (r ∷ rows) next = cond r.holds (Err (refusal_at r.reason r.place)) (decide rows next)
 
 -- "Order: header, as many locations as it says, invariant atoms, edges, end. An edge is followed by its guard atoms,
--- then its branches." The stage says which records may follow.
--- Nothing was read: only a header may follow.
-abbrev pub at_start : ℕ
-at_start = 0
+-- then its branches." The stage says which records may follow. The stages, in their order:
+--   AtStart        nothing was read: only a header may follow
+--   InLocations    locations are missing: only a location may follow
+--   InInvariants   all locations are there, and no edge is: an invariant atom, an edge or the end may follow
+--   InGuards       the last edge has no branch yet: a guard atom, a branch, an edge or the end may follow
+--   InBranches     the last edge has a branch: a branch, an edge or the end may follow
+abbrev pub turn : Stage → ℕ
+turn AtStart = 0
+turn InLocations = 1
+turn InInvariants = 2
+turn InGuards = 3
+turn InBranches = 4
 
--- Locations are missing: only a location may follow.
-abbrev pub in_locations : ℕ
-in_locations = 1
+abbrev pub sooner : Stage → Stage → Bool
+sooner a b = ltb (turn a) (turn b)
 
--- All locations are there, and no edge is: an invariant atom, an edge or the end may follow.
-abbrev pub in_invariants : ℕ
-in_invariants = 2
-
--- The last edge has no branch yet: a guard atom, a branch, an edge or the end may follow.
-abbrev pub in_guards : ℕ
-in_guards = 3
-
--- The last edge has a branch: a branch, an edge or the end may follow.
-abbrev pub in_branches : ℕ
-in_branches = 4
+abbrev pub apart : Stage → Stage → Bool
+apart a b = not (eqb (turn a) (turn b))
 
 -- A clock that does not exist has its bit set: some bit from n on.
 abbrev pub bit_beyond : ℕ → ℕ → Bool
@@ -74,7 +74,7 @@ unbalanced p = not (eqb p.weights p.denominator)
 
 abbrev pub header_rows : Progress → ℕ → ℕ → ℕ → ℕ → List Row
 header_rows p at clocks locations initial =
-    row OutOfOrder at (ltb at_start p.stage)
+    row OutOfOrder at (sooner AtStart p.stage)
     ∷ row BadHeader at (ltb max_clocks clocks)
     ∷ row BadHeader at (ltb locations 1)
     ∷ row BadHeader at (ltb max_locations locations)
@@ -82,11 +82,11 @@ header_rows p at clocks locations initial =
     ∷ []
 
 abbrev pub location_rows : Progress → ℕ → List Row
-location_rows p at = row OutOfOrder at (not (eqb p.stage in_locations)) ∷ []
+location_rows p at = row OutOfOrder at (apart p.stage InLocations) ∷ []
 
 abbrev pub invariant_rows : Progress → ℕ → Invariant → List Row
 invariant_rows p at a =
-    row OutOfOrder at (not (eqb p.stage in_invariants))
+    row OutOfOrder at (apart p.stage InInvariants)
     ∷ row UnknownName at (leb p.locations a.location)
     ∷ row UnknownName at (leb p.clocks a.clock)
     ∷ row UnknownComparison at (ltb last_bound a.comparison)
@@ -96,7 +96,7 @@ invariant_rows p at a =
 
 abbrev pub edge_rows : Progress → ℕ → ℕ → ℕ → List Row
 edge_rows p at source denominator =
-    row OutOfOrder at (ltb p.stage in_invariants)
+    row OutOfOrder at (sooner p.stage InInvariants)
     ∷ row UnknownName at (leb p.locations source)
     ∷ row BadWeight at (eqb denominator 0)
     ∷ row BadWeight at (ltb max_denominator denominator)
@@ -106,7 +106,7 @@ edge_rows p at source denominator =
 
 abbrev pub guard_rows : Progress → ℕ → Guard → List Row
 guard_rows p at g =
-    row OutOfOrder at (not (eqb p.stage in_guards))
+    row OutOfOrder at (apart p.stage InGuards)
     ∷ row UnknownName at (leb p.clocks g.clock)
     ∷ row UnknownComparison at (ltb last_comparison g.comparison)
     ∷ row LargeConstant at (ltb max_constant g.constant)
@@ -115,7 +115,7 @@ guard_rows p at g =
 
 abbrev pub branch_rows : Progress → ℕ → Branch → List Row
 branch_rows p at b =
-    row OutOfOrder at (ltb p.stage in_guards)
+    row OutOfOrder at (sooner p.stage InGuards)
     ∷ row UnknownName at (leb p.locations b.target)
     ∷ row UnknownName at (bit_beyond b.mask p.clocks)
     ∷ row BadWeight at (eqb b.weight 0)
@@ -125,7 +125,7 @@ branch_rows p at b =
 -- `size` is the table's length.
 abbrev pub end_rows : Progress → ℕ → ℕ → List Row
 end_rows p at size =
-    row OutOfOrder at (ltb p.stage in_invariants)
+    row OutOfOrder at (sooner p.stage InInvariants)
     ∷ row UnequalWeights p.place (unbalanced p)
     ∷ row TrailingBytes (at + 1) (ltb (at + 1) size)
     ∷ []
@@ -142,7 +142,7 @@ rows_of p at size end = end_rows p at size
 -- What is remembered. A header begins anew; locations and invariant atoms leave all that is known of edges as it is; edges,
 -- guard atoms and branches leave the header's numbers and the counts of locations and invariant atoms.
 
-abbrev pub fresh : ℕ → ℕ → ℕ → ℕ → Progress
+abbrev pub fresh : Stage → ℕ → ℕ → ℕ → Progress
 fresh stage n l i =
     record {
       stage = stage;
@@ -159,7 +159,7 @@ fresh stage n l i =
       weights = 0;
     }
 
-abbrev pub with_counts : Progress → (stage labels invariants : ℕ) → Progress
+abbrev pub with_counts : Progress → Stage → (labels invariants : ℕ) → Progress
 with_counts p stage labels invariants =
     record {
       stage = stage;
@@ -176,7 +176,7 @@ with_counts p stage labels invariants =
       weights = p.weights;
     }
 
-abbrev pub with_edge : Progress → (stage edges place denominator guards branches weights : ℕ) → Progress
+abbrev pub with_edge : Progress → Stage → (edges place denominator guards branches weights : ℕ) → Progress
 with_edge p stage edges place denominator guards branches weights =
     record {
       stage = stage;
@@ -196,25 +196,25 @@ with_edge p stage edges place denominator guards branches weights =
 -- Before the first record, and after each record that is not refused.
 
 abbrev pub start : Progress
-start = fresh at_start 0 0 0
+start = fresh AtStart 0 0 0
 
 abbrev pub after_header : ℕ → ℕ → ℕ → Progress
-after_header n l i = fresh in_locations n l i
+after_header n l i = fresh InLocations n l i
 
 abbrev pub after_location : Progress → Progress
-after_location p = with_counts p (cond (leb p.locations (p.labels + 1)) in_invariants in_locations) (p.labels + 1) p.invariants
+after_location p = with_counts p (cond (leb p.locations (p.labels + 1)) InInvariants InLocations) (p.labels + 1) p.invariants
 
 abbrev pub after_invariant : Progress → Progress
 after_invariant p = with_counts p p.stage p.labels (p.invariants + 1)
 
 abbrev pub after_edge : Progress → ℕ → ℕ → Progress
-after_edge p at w = with_edge p in_guards (p.edges + 1) at w 0 0 0
+after_edge p at w = with_edge p InGuards (p.edges + 1) at w 0 0 0
 
 abbrev pub after_guard : Progress → Progress
 after_guard p = with_edge p p.stage p.edges p.place p.denominator (p.guards + 1) p.branches p.weights
 
 abbrev pub after_branch : Progress → ℕ → Progress
-after_branch p w = with_edge p in_branches p.edges p.place p.denominator p.guards (p.branches + 1) (p.weights + w)
+after_branch p w = with_edge p InBranches p.edges p.place p.denominator p.guards (p.branches + 1) (p.weights + w)
 
 unfoldable pub next_of : Progress → ℕ → Record → Step
 next_of p at (header n l i) = Ok (Some (after_header n l i))

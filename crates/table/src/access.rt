@@ -1,162 +1,147 @@
-// The parts of a model, read out of the table's bytes by walking from record to record. Every accessor is total: its first
+// Reads the parts of a model out of the table's bytes by walking from record to record. Every accessor is total: its first
 // clause says what it gives of any bytes, by that walk; its second, that of a table that was read, with its shape or the place
 // of one of its edges, this is the item of the model, and an item of zeros past the last (a choice of ours).
 ghost use Rattle.std.specs.Prelude.{ℕ, ◌+◌, ◌<◌, ◌≤◌, ◌≡◌, length, get_or};
 ghost use Rattle.table.specs.Records.{body_at};
+ghost use Rattle.table.specs.Codes.{kind_code};
 ghost use Rattle.table.specs.Access.{walk_to, passed, item_from, no_body, label_at, invariant_at, guards_from, branches_from, next_edge};
 ghost use Rattle.table.specs.Access.{guard_at, guard_count, branch_at, branch_count, no_invariant, no_guard, no_branch};
 ghost use Rattle.table.specs.Model.{Model, reset_in};
 ghost use Rattle.table.specs.Reads.{Reads, ReadsEdge, edge_of};
 
-use crate::format::{MAX_BRANCHES, MAX_GUARDS, body_length, byte_at, two_bytes};
+use crate::bodies::{Body, body_at, is_kind};
+use crate::codes::{Kind, body_length};
+use crate::format::{MAX_BRANCHES, MAX_GUARDS};
 use crate::model::{Branch, Guard, Invariant, Shape};
-use crate::reading::body_at;
-use crate::records::Body;
 
 // Where a walk over records of one kind ends, and how many it passed.
 #[derive(Clone, Copy)]
-pub(crate) struct Stop {
-    pub at: usize,
-    pub passed: usize,
+struct Stop {
+    at: usize,
+    passed: usize,
 }
 
 // Walks past at most `most` records of one kind that stand one after the other from `first` on.
-fn walk(table: &[u8], first: usize, kind: u8, most: usize) -> Stop
-    requires { 0 < kind }
-    ensures { (result.at ≡ walk_to kind most table.now first) × (result.passed ≡ passed kind most table.now first) }
+fn walk(table: &[u8], first: usize, kind: Kind, most: usize) -> Stop
+    ensures end { result.at ≡ walk_to (kind_code kind) most table.now first }
+    ensures count { result.passed ≡ passed (kind_code kind) most table.now first }
 {
-    let body = body_length(kind);
+    let length = 1 + body_length(kind.code());
     let mut at = first;
-    let mut n = 0;
-    while n < most {
-        if byte_at(table, at) != kind {
-            return Stop { at: at, passed: n };
+    for passed in 0..most {
+        if !is_kind(table, at, kind) {
+            return Stop { at, passed };
         }
-        at = at + 1 + body;
-        n = n + 1;
+        at += length;
     }
-    Stop { at: at, passed: n }
+    Stop { at, passed: most }
 }
 
-// The body of record i of those of one kind from `first` on, and zeros where there is none.
-fn item_at(table: &[u8], first: usize, kind: u8, i: usize) -> Body
-    requires { 0 < kind }
-    ensures { result ≡ item_from kind no_body body_at table.now first i }
+// Returns the body of record i of those of one kind from `first` on, and zeros where there is none.
+fn item_at(table: &[u8], first: usize, kind: Kind, i: usize) -> Body
+    ensures { result ≡ item_from (kind_code kind) no_body body_at table.now first i }
 {
-    let w = walk(table, first, kind, i);
-    let at = w.at;
-    if byte_at(table, at) != kind {
-        return Body {
-            a: 0,
-            b: 0,
-            c: 0,
-            d: 0,
-        };
+    let at = walk(table, first, kind, i).at;
+    if is_kind(table, at, kind) {
+        body_at(table, at)
+    } else {
+        Body::default()
     }
-    body_at(table, at)
 }
 
-// The label of location i.
+// Returns the label of location i.
+#[tactic(auto, using(crate::proofs::Laws::Reads::items), unfolding(crate::specs::Access::label_at))]
 pub fn label_at(table: &[u8], shape: Shape, i: usize) -> u8
     ensures value { result ≡ label_at table.now shape i }
     ensures value_2 { (m : Model) → Reads table.now shape m → result ≡ get_or m.labels i 0 }
 {
-    let first = shape.first_location;
-    let body = item_at(table, first, 2, i);
-    body.a
+    item_at(table, shape.first_location, Kind::Location, i).a
 }
 
-// Invariant atom i.
+// Returns invariant atom i.
+#[tactic(auto, using(crate::proofs::Laws::Reads::items), unfolding(crate::specs::Access::invariant_at))]
 pub fn invariant_at(table: &[u8], shape: Shape, i: usize) -> Invariant
     ensures value { result ≡ invariant_at table.now shape i }
     ensures value_2 { (m : Model) → Reads table.now shape m → result ≡ get_or m.invariants i no_invariant }
 {
-    let first = shape.first_invariant;
-    let body = item_at(table, first, 3, i);
-    Invariant {
-        location: body.a,
-        clock: body.b,
-        comparison: body.c,
-        constant: body.d,
-    }
+    item_at(table, shape.first_invariant, Kind::Invariant, i).invariant()
 }
 
-// Where the guard atoms of the edge at a place begin.
+// Finds where the guard atoms of the edge at a place begin.
+#[tactic(auto, unfolding(crate::specs::Access::guards_from))]
 fn guards_from(table: &[u8], place: usize) -> usize
     ensures { result ≡ guards_from table.now place }
 {
-    let w = walk(table, place, 4, 1);
-    w.at
+    walk(table, place, Kind::Edge, 1).at
 }
 
-// Where the branches of the edge at a place begin.
+// Finds where the branches of the edge at a place begin.
+#[tactic(auto, unfolding(crate::specs::Access::branches_from))]
 fn branches_from(table: &[u8], place: usize) -> usize
     ensures { result ≡ branches_from table.now place }
 {
-    let w = walk(table, guards_from(table, place), 5, MAX_GUARDS);
-    w.at
+    walk(table, guards_from(table, place), Kind::Guard, MAX_GUARDS).at
 }
 
-// Where the record after the edge at a place, its guard atoms and its branches begins.
+// Finds where the record after the edge at a place, its guard atoms and its branches begins.
+#[tactic(auto, unfolding(crate::specs::Access::next_edge))]
 pub(crate) fn next_edge(table: &[u8], place: usize) -> usize
     ensures { result ≡ next_edge table.now place }
 {
-    let w = walk(table, branches_from(table, place), 6, MAX_BRANCHES);
-    w.at
+    walk(
+        table,
+        branches_from(table, place),
+        Kind::Branch,
+        MAX_BRANCHES,
+    )
+    .at
 }
 
-// Guard atom i of the edge at a place.
+// Returns guard atom i of the edge at a place.
+#[tactic(auto, using(crate::proofs::Laws::Reads::items), unfolding(crate::specs::Access::guard_at))]
 pub fn guard_at(table: &[u8], place: usize, i: usize) -> Guard
     ensures value { result ≡ guard_at table.now place i }
     ensures value_2 { (m : Model) (e : ℕ) → ReadsEdge table.now place m e → result ≡ get_or (edge_of m e).guards i no_guard }
 {
-    let body = item_at(table, guards_from(table, place), 5, i);
-    Guard {
-        clock: body.a,
-        comparison: body.b,
-        constant: body.c,
-    }
+    item_at(table, guards_from(table, place), Kind::Guard, i).guard()
 }
 
-// How many guard atoms the edge at a place has.
+// Counts the guard atoms of the edge at a place.
+#[tactic(auto, using(crate::proofs::Laws::Reads::items), unfolding(crate::specs::Access::guard_count))]
 pub fn guard_count(table: &[u8], place: usize) -> usize
     ensures value { result ≡ guard_count table.now place }
     ensures value_2 { (m : Model) (e : ℕ) → ReadsEdge table.now place m e → result ≡ length (edge_of m e).guards }
 {
-    let w = walk(table, guards_from(table, place), 5, MAX_GUARDS);
-    w.passed
+    walk(table, guards_from(table, place), Kind::Guard, MAX_GUARDS).passed
 }
 
-// Branch i of the edge at a place.
+// Returns branch i of the edge at a place.
+#[tactic(auto, using(crate::proofs::Laws::Reads::items), unfolding(crate::specs::Access::branch_at))]
 pub fn branch_at(table: &[u8], place: usize, i: usize) -> Branch
     ensures value { result ≡ branch_at table.now place i }
     ensures value_2 { (m : Model) (e : ℕ) → ReadsEdge table.now place m e → result ≡ get_or (edge_of m e).branches i no_branch }
 {
-    let body = item_at(table, branches_from(table, place), 6, i);
-    Branch {
-        weight: two_bytes(body.a, body.b),
-        target: body.c,
-        mask: body.d,
-    }
+    item_at(table, branches_from(table, place), Kind::Branch, i).branch()
 }
 
-// How many branches the edge at a place has.
+// Counts the branches of the edge at a place.
+#[tactic(auto, using(crate::proofs::Laws::Reads::items), unfolding(crate::specs::Access::branch_count))]
 pub fn branch_count(table: &[u8], place: usize) -> usize
     ensures value { result ≡ branch_count table.now place }
     ensures value_2 { (m : Model) (e : ℕ) → ReadsEdge table.now place m e → result ≡ length (edge_of m e).branches }
 {
-    let w = walk(table, branches_from(table, place), 6, MAX_BRANCHES);
-    w.passed
+    walk(
+        table,
+        branches_from(table, place),
+        Kind::Branch,
+        MAX_BRANCHES,
+    )
+    .passed
 }
 
-// Does a mask reset a clock?
+// Tells whether a mask resets a clock.
 pub fn resets(mask: u8, clock: u8) -> bool
     ensures { result ≡ reset_in mask clock }
 {
-    if clock < 8 {
-        let bit = (mask >> clock) & 1;
-        bit == 1
-    } else {
-        false
-    }
+    clock < 8 && (mask >> clock) & 1 == 1
 }

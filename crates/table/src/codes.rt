@@ -1,11 +1,11 @@
-// What the bytes of a table stand for: the kinds of records, and the comparisons of atoms.
+// Reads what bytes of a table stand for: the kinds of records, and the comparisons of atoms.
 ghost use Rattle.std.specs.Prelude.{◌≡◌, ◌<◌};
 ghost use Rattle.table.specs.Format.{body_length};
 ghost use Rattle.table.specs.Codes.{DecodesKind, DecodesComparison, kind_code};
 
 use crate::refusals::Reason;
 
-// A kind of record. Its number is the byte that stands for it.
+// Names the kinds of records. The number of each is the byte that stands for it.
 #[derive(Clone, Copy, Debug, PartialEq, Eq)]
 pub(crate) enum Kind {
     Header = 1,
@@ -17,7 +17,7 @@ pub(crate) enum Kind {
     End,
 }
 
-// How an atom compares a clock with its constant, in the order of their bytes from 0 on. An atom of an invariant has one of the
+// Says how an atom compares a clock with its constant, in the order of the bytes from 0 on. An atom of an invariant has one of the
 // first two.
 #[derive(Clone, Copy, Debug, PartialEq, Eq)]
 pub enum Comparison {
@@ -28,7 +28,7 @@ pub enum Comparison {
     Equal,
 }
 
-// How long the body of a record is, by its kind. There is no kind 0.
+// Gives the length of a record's body, by its kind. There is no kind 0.
 const BODY_LENGTHS: [usize; 8] = [0, 3, 1, 4, 4, 3, 4, 0];
 
 impl Kind {
@@ -38,14 +38,13 @@ impl Kind {
     {
         self as u8
     }
+}
 
-    // Returns how many bytes follow that of the kind.
-    #[tactic(auto, unfolding(crate::specs::Format::body_length, crate::specs::Format::body_lengths))]
-    pub(crate) fn body_length(self) -> usize
-        ensures { (result ≡ body_length (kind_code self)) × (result < 5) }
-    {
-        BODY_LENGTHS[usize::from(self.code())]
-    }
+// Returns how long the body is in a record that begins with a byte, and 0 where it stands for no kind.
+pub(crate) fn body_length(byte: u8) -> usize
+    ensures { (result ≡ body_length byte) × (result < 5) }
+{
+    slices::at(&BODY_LENGTHS, usize::from(byte), 0)
 }
 
 impl TryFrom<u8> for Kind {

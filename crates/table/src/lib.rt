@@ -2,6 +2,7 @@
 #![tactic(auto)]
 
 mod access;
+mod bodies;
 mod codes;
 mod edges;
 mod format;

@@ -1,7 +1,7 @@
-// What is kept of a table that was read, and the parts of a model that are handed out.
+// Declares what is kept of a table that was read, and the parts of a model that are handed out.
 
-// An invariant atom: a bound on a clock at a location. Comparison 0 is <, 1 is <=.
-#[derive(Clone, Copy)]
+// Bounds a clock at a location. The byte of the comparison is 0 for < and 1 for <= (`Comparison`).
+#[derive(Clone, Copy, Debug, PartialEq, Eq)]
 pub struct Invariant {
     pub location: u8,
     pub clock: u8,
@@ -9,24 +9,24 @@ pub struct Invariant {
     pub constant: u8,
 }
 
-// A guard atom of an edge. Comparison 0 is <, 1 is <=, 2 is >, 3 is >=, 4 is =.
-#[derive(Clone, Copy)]
+// Guards an edge. The byte of the comparison is one of `Comparison` in a table that was read.
+#[derive(Clone, Copy, Debug, PartialEq, Eq)]
 pub struct Guard {
     pub clock: u8,
     pub comparison: u8,
     pub constant: u8,
 }
 
-// A branch of an edge. In the mask bit 0 is clock 0, and a set bit resets that clock.
-#[derive(Clone, Copy)]
+// Leads to a location. In the mask bit 0 is clock 0, and a set bit resets that clock.
+#[derive(Clone, Copy, Debug, PartialEq, Eq)]
 pub struct Branch {
     pub weight: usize,
     pub target: u8,
     pub mask: u8,
 }
 
-// An accepted table's counts, and where its parts begin. The model itself stays in the table's bytes.
-#[derive(Clone, Copy)]
+// Keeps an accepted table's counts, and where its parts begin. The model itself stays in the table's bytes.
+#[derive(Clone, Copy, Debug, PartialEq, Eq)]
 pub struct Shape {
     pub clocks: u8,
     pub locations: u8,
@@ -38,8 +38,8 @@ pub struct Shape {
     pub first_edge: usize,
 }
 
-// An edge by its number: source, action and denominator together. Eight bytes, so that a list of 128 takes 1 KB.
-#[derive(Clone, Copy)]
+// Holds what the edge list has of an edge: source, action and denominator together. Eight bytes, so that a list of 128 takes 1 KB.
+#[derive(Clone, Copy, Debug, Default, PartialEq, Eq)]
 pub struct Edge {
     pub source: u8,
     pub action: u8,

@@ -1,9 +1,9 @@
-// Why a table or a call is refused.
+// Says why a table or a call is refused.
 ghost use Rattle.std.specs.Prelude.{◌≡◌};
 ghost use Rattle.table.specs.Reasons.{number, refusal_at};
 
-// The reasons in the order of their numbers, which are document 01's, from 1 on: those up to `TrailingBytes` are a table's, and the
-// others are a call's.
+// Names the reasons in the order of their numbers, which are document 01's: those up to `TrailingBytes` are of a table, and the others
+// of a call.
 #[derive(Clone, Copy, Debug, PartialEq, Eq, PartialOrd, Ord)]
 pub enum Reason {
     TooLong = 1,
@@ -29,7 +29,7 @@ pub enum Reason {
     Unreached,
 }
 
-// A reason, and the place that the refusal is told with.
+// Joins a reason with the place where the refused record begins, or 0.
 #[derive(Clone, Copy, Debug, PartialEq, Eq, PartialOrd, Ord)]
 pub struct Refusal {
     pub reason: Reason,

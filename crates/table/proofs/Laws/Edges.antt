@@ -1,7 +1,7 @@
 -- Laws on what is stored from number 0 on, and those for the loops that list the edges and their places.
 use Prim.Native.Nat.{ℕ, zero, suc, ◌+◌, ◌-◌, ◌≤◌, ◌<◌, min}
 use native.Mathlib.Omega.{arith}
-use Rattle.std.proofs.Math.Nat.{sub-zero, suc_inj}
+use Rattle.std.proofs.Math.Nat.{suc_inj}
 use Rattle.std.proofs.Common.{add-zero, add-suc, suc-add, zero-add, add-one, ◌∙◌, inl, inr, ⊎_elim}
 use Rattle.std.proofs.Common.{length-set, get_or-set_same, get_or-set_other, eq-eqb, ne_eqb}
 use Rattle.std.specs.Prelude.{◌≡◌, Bool, true, false, ◌⊎◌, length, set, get_or, replicate, eqb}
@@ -76,9 +76,6 @@ module _ (table : List ℕ) (count first : ℕ) where
   Comes part old at i now =
       sets now i (map part (places_from table (count - i) at)) ≡ sets old 0 (map part (places_from table count first))
 
-  pub comes-start : {A : Type 0} (part : ℕ → A) (old : List A) → Comes part old first 0 old
-  comes-start part old = rw sub-zero
-
   pub comes-on : {A : Type 0} (part : ℕ → A) (old : List A) (at i : ℕ) (now next : List A) → i < count → kind_at table at ≡ 4
       → next ≡ set now i (part at) → Comes part old at i now → Comes part old (next_edge table at) (i + 1) next
   unfolding places_from
@@ -140,15 +137,17 @@ places-cut {A = A} part table (suc c) (suc n) at i now less whole =
     of false more = refl
 
 -- What the loop over the edges that the edge list has room for leaves.
-pub list_over : (table : List ℕ) (n first c at i : ℕ) (old now : List EdgeStruct) → old ≡ edge_list [] → c ≡ min n max_edges
-    → (c ≤ i) ⊎ (kind_at table at ≡ 4 → ⊥) → Comes table c first (read_edge table) old at i now
+pub list_over : (table : List ℕ) (n first at i : ℕ) (now : List EdgeStruct) → (min n max_edges ≤ i) ⊎ (kind_at table at ≡ 4 → ⊥)
+    → Comes table (min n max_edges) first (read_edge table) (edge_list []) at i now
     → now ≡ edge_list (map (read_edge table) (places_from table n first))
 unfolding edge_list
-list_over table n first c at i old now zeros cut over comes =
-    comes-over table c first (read_edge table) old at i now over comes
-    ∙ places-cut (read_edge table) table c n first 0 old (omega (arith, cut)) (of (dec_lt n max_edges))
-    ∙ ap (λ l. sets l 0 (map (read_edge table) (places_from table n first))) zeros
+list_over table n first at i now over comes =
+    comes-over table (min n max_edges) first (read_edge table) none at i now over comes
+    ∙ places-cut (read_edge table) table (min n max_edges) n first 0 none (omega arith) (of (dec_lt n max_edges))
   where
-    of : Dec (n < max_edges) → (c ≡ n) ⊎ (length old ≤ 0 + c)
-    of (yes few) = inl (omega (arith, cut))
-    of (no many) = inr (omega (arith, cut, ap length zeros ∙ length-replicate max_edges no_edge_struct))
+    none : List EdgeStruct
+    none = replicate max_edges no_edge_struct
+
+    of : Dec (n < max_edges) → (min n max_edges ≡ n) ⊎ (length none ≤ 0 + min n max_edges)
+    of (yes few) = inl (omega arith)
+    of (no many) = inr (omega (arith, length-replicate max_edges no_edge_struct))

@@ -7,7 +7,7 @@ use Rattle.std.proofs.Common.{append_assoc, append-nil, length-append, drop_of_l
 use Rattle.table.specs.Format.{max_invariants, max_edges, max_guards, max_branches}
 use Rattle.table.specs.Model.{Edge, Model, total}
 use Rattle.table.specs.Records.{Record, header, location, invariant, guard, branch, end, kind_of, body_of, past}
-use Rattle.table.specs.Refusals.{start}
+use Rattle.table.specs.Refusals.{start, turn}
 use Rattle.table.specs.Reading.{Item, Parts, add, model_of, ended, run_table, accepted, read_table}
 use Rattle.table.specs.Sound.{All, none, also, SoundInvariant, SoundGuard, SoundBranch, SoundEdge, Sound}
 use Rattle.table.specs.Written.{Bytes, bytes_of, written, edge_bytes, edges_bytes, table_of}
@@ -42,11 +42,11 @@ rest-counts (the_end d w) = omega denials
 
 -- The order of a table's records: which parts a rest cannot say after a stage, and that it says every missing label.
 record Ordered (p : Progress) (g : Parts) : Type 0 where
-  labels : 1 < p.stage → length g.labels ≡ 0
-  invariants : 2 < p.stage → length g.invariants ≡ 0
-  guards : p.stage ≢ 3 → length g.guards ≡ 0
-  branches : p.stage < 3 → length g.branches ≡ 0
-  missing : p.stage ≡ 1 → p.labels < p.locations → p.labels + length g.labels ≡ p.locations
+  labels : 1 < turn p.stage → length g.labels ≡ 0
+  invariants : 2 < turn p.stage → length g.invariants ≡ 0
+  guards : turn p.stage ≢ 3 → length g.guards ≡ 0
+  branches : turn p.stage < 3 → length g.branches ≡ 0
+  missing : turn p.stage ≡ 1 → p.labels < p.locations → p.labels + length g.labels ≡ p.locations
 
 rest-ordered : {t : List ℕ} {p q : Progress} {at : ℕ} {g : Parts} → Rest t p at q g → Ordered p g
 unfolding add

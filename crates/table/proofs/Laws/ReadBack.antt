@@ -13,7 +13,7 @@ use Rattle.table.specs.Model.{Edge, Model, total}
 use Rattle.table.specs.Records.{Record, header, location, invariant, edge, guard, branch, end}
 use Rattle.table.specs.Records.{kind_of, body_of, record_of, body_at, kind_at, record_at, past}
 use Rattle.table.specs.Refusals.{Step, Row, decide, outer_rows, rows_of, next_of, step_at}
-use Rattle.table.specs.Refusals.{start, in_locations, in_invariants, after_header, after_location}
+use Rattle.table.specs.Refusals.{start, turn, after_header, after_location}
 use Rattle.table.specs.Refusals.{after_invariant, after_edge, after_guard, after_branch}
 use Rattle.table.specs.Reading.{Item, item_at, Run, refused, ended, before, run, run_table}
 use Rattle.table.specs.Reading.{Parts, parts, no_parts, add, gather, model_of, accepted, answer_of, read_table}
@@ -25,6 +25,7 @@ use Rattle.table.proofs.Laws.Items.{byte, onward, edges_to_end}
 use Rattle.table.specs.declared.model.Invariant.{Invariant}
 use Rattle.table.specs.declared.model.Guard.{Guard}
 use Rattle.table.specs.declared.model.Branch.{Branch}
+use Rattle.table.specs.declared.records.Stage.TheVariants.{InLocations, InInvariants}
 use Rattle.table.specs.declared.records.Progress.{Progress}
 
 -- A row that does not hold: `omega allowed` proves it.
@@ -128,7 +129,7 @@ read-on {t} {p} {q} {more} {g} {g'} r allow rest = record { ends = ends }
         (ended-before (item_at t at) (run f t q (past t at)) g ran)
 
 -- The end record is the last byte.
-read-end : {t : List ℕ} {p : Progress} → 2 ≤ p.stage → p.weights ≡ p.denominator → Reads t p (bytes_of end) no_parts
+read-end : {t : List ℕ} {p : Progress} → 2 ≤ turn p.stage → p.weights ≡ p.denominator → Reads t p (bytes_of end) no_parts
 unfolding run item_at gather add next_of rows_of body_of
 read-end {t} {p} stage sum = record { ends = ends }
   where
@@ -160,8 +161,8 @@ mask-within n k mask e h =
 module _ {t : List ℕ} {n l : ℕ} where
   -- For each list of the model: its records are read, if all that follows them is.
   branches-read : {p : Progress} {es : List Edge} {more : List ℕ} (bs : List Branch)
-      → Room n l p (behind [] bs es) → 3 ≤ p.stage → All (SoundBranch n l) bs
-      → ((q : Progress) → Room n l q (behind [] [] es) → 2 ≤ q.stage → Reads t q more (behind [] [] es))
+      → Room n l p (behind [] bs es) → 3 ≤ turn p.stage → All (SoundBranch n l) bs
+      → ((q : Progress) → Room n l q (behind [] [] es) → 2 ≤ turn q.stage → Reads t q more (behind [] [] es))
       → Reads t p (written branch bs ++ more) (behind [] bs es)
   unfolding kind_of body_of rows_of next_of add
   branches-read {p} [] room stage none rest = rest p room (omega arith)
@@ -171,8 +172,8 @@ module _ {t : List ℕ} {n l : ℕ} where
       (branches-read {p = after_branch p b.weight} bs (omega arith) (omega arith) all rest)
 
   guards-read : {p : Progress} {bs : List Branch} {es : List Edge} {more : List ℕ} (gs : List Guard)
-      → Room n l p (behind gs bs es) → p.stage ≡ 3 → All (SoundGuard n) gs
-      → ((q : Progress) → Room n l q (behind [] bs es) → q.stage ≡ 3 → Reads t q more (behind [] bs es))
+      → Room n l p (behind gs bs es) → turn p.stage ≡ 3 → All (SoundGuard n) gs
+      → ((q : Progress) → Room n l q (behind [] bs es) → turn q.stage ≡ 3 → Reads t q more (behind [] bs es))
       → Reads t p (written guard gs ++ more) (behind gs bs es)
   unfolding kind_of body_of rows_of next_of add
   guards-read {p} [] room stage none rest = rest p room stage
@@ -181,8 +182,8 @@ module _ {t : List ℕ} {n l : ℕ} where
       (guards-read {p = after_guard p} gs (omega arith) stage all rest)
 
   edge-read : {p : Progress} {e : Edge} {es : List Edge}
-      → Room n l p (behind [] [] (e ∷ es)) → 2 ≤ p.stage → SoundEdge n l e → e.place + length (edges_to_end (e ∷ es)) ≡ length t
-      → ((q : Progress) → Room n l q (behind [] [] es) → 2 ≤ q.stage → Reads t q (edges_to_end es) (behind [] [] es))
+      → Room n l p (behind [] [] (e ∷ es)) → 2 ≤ turn p.stage → SoundEdge n l e → e.place + length (edges_to_end (e ∷ es)) ≡ length t
+      → ((q : Progress) → Room n l q (behind [] [] es) → 2 ≤ turn q.stage → Reads t q (edges_to_end es) (behind [] [] es))
       → Reads t p (edges_to_end (e ∷ es)) (behind [] [] (e ∷ es))
   unfolding kind_of body_of rows_of next_of add edge_bytes
   edge-read {p} {e} {es} room stage s here rest =
@@ -200,7 +201,7 @@ module _ {t : List ℕ} {n l : ℕ} where
       (λ q room stage. branches-read e.branches room (omega arith) s.branches rest)))
 
   edges-read : {p : Progress} (es : List Edge) (first : ℕ)
-      → Room n l p (behind [] [] es) → 2 ≤ p.stage → All (SoundEdge n l) es
+      → Room n l p (behind [] [] es) → 2 ≤ turn p.stage → All (SoundEdge n l) es
       → Placed first es → first + length (edges_to_end es) ≡ length t
       → Reads t p (edges_to_end es) (behind [] [] es)
   edges-read [] first room stage none placed long = read-end stage (omega (arith, room.sum))
@@ -211,8 +212,8 @@ module _ {t : List ℕ} {n l : ℕ} where
       (λ q room stage. edges-read es (first + length (edge_bytes e)) room stage all placed.1 (omega arith))
 
   invariants-read : {p : Progress} {es : List Edge} {more : List ℕ} (is : List Invariant)
-      → Room n l p (front [] is es) → p.stage ≡ 2 → All (SoundInvariant n l) is
-      → ((q : Progress) → Room n l q (front [] [] es) → 2 ≤ q.stage → Reads t q more (front [] [] es))
+      → Room n l p (front [] is es) → turn p.stage ≡ 2 → All (SoundInvariant n l) is
+      → ((q : Progress) → Room n l q (front [] [] es) → 2 ≤ turn q.stage → Reads t q more (front [] [] es))
       → Reads t p (written invariant is ++ more) (front [] is es)
   unfolding kind_of body_of rows_of next_of add
   invariants-read {p} [] room stage none rest = rest p room (omega arith)
@@ -221,15 +222,16 @@ module _ {t : List ℕ} {n l : ℕ} where
       (invariants-read {p = after_invariant p} is (omega arith) stage all rest)
 
   locations-read : {p : Progress} {is : List Invariant} {es : List Edge} {more : List ℕ} (ls : List ℕ)
-      → Room n l p (front ls is es) → p.stage ≡ cond (leb p.locations p.labels) in_invariants in_locations
+      → Room n l p (front ls is es) → p.stage ≡ cond (leb p.locations p.labels) InInvariants InLocations
       → p.labels + length ls ≡ p.locations
-      → ((q : Progress) → Room n l q (front [] is es) → q.stage ≡ 2 → Reads t q more (front [] is es))
+      → ((q : Progress) → Room n l q (front [] is es) → turn q.stage ≡ 2 → Reads t q more (front [] is es))
       → Reads t p (written location ls ++ more) (front ls is es)
   unfolding kind_of body_of rows_of next_of add
   locations-read {p} [] room stage missing rest =
-      rest p room (stage ∙ rw (le-leb p.locations p.labels (omega arith)))
+      rest p room (let last : p.stage ≡ InInvariants = stage ∙ rw (le-leb p.locations p.labels (omega arith)) in ap turn last)
   locations-read {p} (x ∷ ls) room stage missing rest =
-      let now : p.stage ≡ 1 = stage ∙ rw (lt-leb p.locations p.labels (omega arith)) in
+      let missing_some : p.stage ≡ InLocations = stage ∙ rw (lt-leb p.locations p.labels (omega arith)) in
+      let now : turn p.stage ≡ 1 = ap turn missing_some in
       read-on (location x) (λ at long. record { own = omega allowed; next = refl; said = refl })
       (locations-read {p = after_location p} ls (omega arith) refl (omega arith) rest)
 

@@ -17,6 +17,7 @@ use Rattle.table.specs.Access.{no_invariant, no_guard, no_branch, no_edge_struct
 use Rattle.table.specs.Access.{guard_at, guard_count, branch_at, branch_count, read_edge, edge_places}
 use Rattle.table.proofs.Laws.Models.{sound, table-written, places}
 use Rattle.table.proofs.Laws.Items.{label_is, invariant-is, places-are, structs-are, EdgeParts, edge-parts-are}
+use Rattle.table.proofs.Laws.Walks.{label-part, invariant-part, guard-part, branch-part}
 use Rattle.table.specs.declared.model.Edge.{Edge as EdgeStruct}
 use Rattle.table.specs.declared.model.Shape.{Shape}
 use Rattle.table.specs.Reasons.{refusal_at}
@@ -111,3 +112,17 @@ module _ (table : List ℕ) (m : Model) (bytes : Bytes table) where
 
     pub branch-count-read : branch_count table place ≡ length (edge_of m e).branches
     branch-count-read = ap (branch_count table) reads.place_is ∙ parts.branch-count-is
+
+-- What the accessors give, of any bytes and of a table that was read.
+pub ruleset items = (
+  label-part,
+  invariant-part,
+  guard-part,
+  branch-part,
+  label-read,
+  invariant-read,
+  guard-read,
+  guard-count-read,
+  branch_read,
+  branch-count-read,
+)

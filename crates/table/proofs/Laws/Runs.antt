@@ -9,7 +9,7 @@ use Rattle.table.specs.Format.{body_length, max_bytes}
 use Rattle.table.specs.Model.{Model}
 use Rattle.table.specs.Records.{Record, header, location, invariant, edge, guard, branch, end}
 use Rattle.table.specs.Records.{kind_of, body_of, record_of, body_at, kind_at, record_at, past}
-use Rattle.table.specs.Refusals.{Step, Row, decide, in_locations, in_invariants, outer_rows, rows_of, next_of, step_at, start}
+use Rattle.table.specs.Refusals.{Step, Row, decide, turn, outer_rows, rows_of, next_of, step_at, start}
 use Rattle.table.specs.Refusals.{header_rows, location_rows, invariant_rows, edge_rows, guard_rows, branch_rows, end_rows}
 use Rattle.table.specs.Refusals.{after_header, after_location, after_invariant, after_edge, after_guard, after_branch}
 use Rattle.table.specs.Reading.{Item, item_at, Run, refused, ended, before, go, run, run_table}
@@ -18,6 +18,7 @@ use Rattle.table.specs.Written.{Bytes, bytes_of}
 use Rattle.table.specs.declared.model.Invariant.{Invariant}
 use Rattle.table.specs.declared.model.Guard.{Guard}
 use Rattle.table.specs.declared.model.Branch.{Branch}
+use Rattle.table.specs.declared.records.Stage.TheVariants.{InLocations, InInvariants}
 use Rattle.table.specs.declared.records.Progress.{Progress}
 use Rattle.table.specs.declared.refusals.Reason.TheVariants.{TooLong}
 
@@ -191,21 +192,22 @@ pub data Whole (t : List ℕ) : Progress → ℕ → Progress → Model → Type
 
 -- The stage after a location says whether it was the last.
 pub location-stage : (p : Progress)
-    → (((after_location p).stage ≡ in_invariants) × (p.locations ≤ p.labels + 1))
-    ⊎ (((after_location p).stage ≡ in_locations) × (p.labels + 1 < p.locations))
+    → ((turn (after_location p).stage ≡ turn InInvariants) × (p.locations ≤ p.labels + 1))
+    ⊎ ((turn (after_location p).stage ≡ turn InLocations) × (p.labels + 1 < p.locations))
 location-stage p = split (leb p.locations (p.labels + 1)) refl
   where
     split : (b : Bool) → leb p.locations (p.labels + 1) ≡ b
-        → ((cond b in_invariants in_locations ≡ in_invariants) × (p.locations ≤ p.labels + 1))
-        ⊎ ((cond b in_invariants in_locations ≡ in_locations) × (p.labels + 1 < p.locations))
+        → ((turn (cond b InInvariants InLocations) ≡ turn InInvariants) × (p.locations ≤ p.labels + 1))
+        ⊎ ((turn (cond b InInvariants InLocations) ≡ turn InLocations) × (p.labels + 1 < p.locations))
     split true e = inl (refl, leb-true _ _ e)
     split false e = inr (refl, leb-false _ _ e)
 
 -- From p on, once a header was read, there is a rest.
 abbrev Onward : List ℕ → Progress → ℕ → Progress → Parts → Type 0
-Onward t p at q g = 0 < p.stage → Rest t p at q g
+Onward t p at q g = 0 < turn p.stage → Rest t p at q g
 
-onward : {t : List ℕ} {p p' q : Progress} {at : ℕ} {g : Parts} → ◌≡◌ {A = Step} (Ok (Some p)) (Ok (Some p')) → Onward t p' at q g → Onward t p at q g
+onward : {t : List ℕ} {p p' q : Progress} {at : ℕ} {g : Parts} → ◌≡◌ {A = Step} (Ok (Some p)) (Ok (Some p')) → Onward t p' at q g
+    → Onward t p at q g
 onward {t} {p} {p'} {q} {at} {g} e rest = let same : p' ≡ p = cc in subst (λ x. Onward t x at q g) same rest
 
 no_step : {p : Progress} → ◌≡◌ {A = Step} (Ok None) (Ok (Some p)) → ⊥
@@ -227,7 +229,7 @@ follow end s w rest h = absurd (no_step s.next)
 
 -- The first record is the header.
 open_at : {t : List ℕ} {p p' q : Progress} {at : ℕ} {g : Parts} (r : Record) → Stepped t p at r (Ok (Some p')) → Stands t at r
-    → Onward t p' (past t at) q g → p.stage ≡ 0
+    → Onward t p' (past t at) q g → turn p.stage ≡ 0
     → Whole t p at q (model_with (add at r g).clocks (add at r g).locations (add at r g).initial (add at r g))
 unfolding rows_of next_of add
 open_at (header n l i) s w rest h = whole n l i s.own w (onward s.next rest (omega arith))
@@ -241,7 +243,7 @@ open_at end s w rest h = absurd (no_step s.next)
 -- What a run that ended says of the table.
 abbrev Ran : List ℕ → Progress → ℕ → Run → Type 0
 Ran t p at (refused n k) = Unit
-Ran t p at (ended q items) = Onward t p at q (gather items) × (p.stage ≡ 0 → Whole t p at q (model_of items))
+Ran t p at (ended q items) = Onward t p at q (gather items) × (turn p.stage ≡ 0 → Whole t p at q (model_of items))
 
 ran-before : (t : List ℕ) (p p' : Progress) (at : ℕ) (r : Run) → step_at t p at ≡ Ok (Some p') → Ran t p' (past t at) r
     → Ran t p at (before (item_at t at) r)

@@ -1,6 +1,5 @@
 -- Laws for the loop that reads a table: what each turn of it does to the run, and that its numbers stay small.
 use Rattle.std.specs.Prelude.{Result, Ok, Err, Some, None, ℕ, zero, suc, ◌+◌, ◌-◌, ◌≤◌, ◌<◌, ◌≡◌, refl, List, length}
-use Rattle.std.proofs.Math.Nat.{sub-zero}
 use Rattle.std.proofs.Common.{sym, ◌∙◌, arith, ne_eqb, le-ltb, lt-ltb}
 use Rattle.std.proofs.Math.Path.{ap}
 use Rattle.table.specs.Records.{Record, header, location, invariant, edge, guard, branch, end, record_of, record_at, body_at, kind_at, past}
@@ -15,7 +14,7 @@ use Rattle.table.specs.Refusals.{Step, next_of, step_at, start}
 use Rattle.table.specs.Reading.{Item, item_at, Run, refused, ended, before, go, run, run_table, answer_of, read_table}
 use Rattle.table.specs.Written.{Bytes}
 use Rattle.table.specs.declared.model.Shape.{Shape}
-use Rattle.table.specs.declared.records.Body.{Body}
+use Rattle.table.specs.declared.bodies.Body.{Body}
 use Rattle.table.specs.declared.records.Progress.{Progress}
 use Rattle.table.specs.declared.refusals.Refusal.{Refusal}
 use Rattle.table.specs.declared.refusals.Reason.TheVariants.{TooLong}
@@ -104,15 +103,6 @@ pub record Underway (table : List ℕ) (p : Progress) (at : ℕ) : Type 0 where
   pub inside : at ≤ length table
   pub ranged : Ranged p at
   pub same : told (run (suc (length table - at)) table p at) ≡ told (run (suc (length table)) table start 0)
-
-pub underway-start : (table : List ℕ) → length table ≤ max_bytes → Underway table start 0
-underway-start table h =
-    record {
-      short = h;
-      inside = omega arith;
-      ranged = record { labels = omega arith; invariants = omega arith; weights = omega arith };
-      same = rw sub-zero;
-    }
 
 pub underway-next : (table : List ℕ) (p q : Progress) (at : ℕ) → Bytes table → Underway table p at → step_at table p at ≡ Ok (Some q)
     → Underway table q (past table at)

@@ -4,8 +4,10 @@ use Rattle.std.proofs.Common.{arith, zero-add, sym, ◌∙◌, ap, eq-eqb, ne_eq
 use Rattle.std.proofs.Math.Nat.{sub-zero}
 use Rattle.table.specs.Format.{body_length}
 use Rattle.table.specs.Records.{kind_at, body_at}
-use Rattle.table.specs.Access.{walk_to, passed, item_from, no_body}
-use Rattle.table.specs.declared.records.Body.{Body}
+use Rattle.table.specs.Access.{walk_to, passed, item_from, no_body, no_invariant, no_guard, no_branch}
+use Rattle.table.specs.Access.{read_label, read_invariant, read_guard, read_branch}
+use Rattle.table.specs.Records.{invariant_of, guard_of, branch_of}
+use Rattle.table.specs.declared.bodies.Body.{Body}
 
 -- A byte that is not 0 stands within the table.
 pub inside : (table : List ℕ) (at kind : ℕ) → kind_at table at ≡ kind → 0 < kind → at < length table
@@ -74,7 +76,7 @@ walking_on table first kind most at n w less here =
     }
 
 -- A part of the record that is read is that part of what is read of it.
-pub item-part : {A : Type 0} (f : Body → A) (table : List ℕ) (first kind i : ℕ)
+item-part : {A : Type 0} (f : Body → A) (table : List ℕ) (first kind i : ℕ)
     → f (item_from kind no_body body_at table first i) ≡ item_from kind (f no_body) (λ t at. f (body_at t at)) table first i
 item-part f table first kind i = part (eqb (kind_at table (walk_to kind i table first)) kind)
   where
@@ -83,10 +85,18 @@ item-part f table first kind i = part (eqb (kind_at table (walk_to kind i table 
     part true = refl
     part false = refl
 
-module _ (table : List ℕ) (first kind i at : ℕ) (here : at ≡ walk_to kind i table first) where
-  -- Where the walk ends another record stands, or none.
-  pub item-none : (kind_at table at ≡ kind → ⊥) → no_body ≡ item_from kind no_body body_at table first i
-  item-none other = rw (← here, ne_eqb (kind_at table at) kind other)
+pub label-part : (table : List ℕ) (first i : ℕ)
+    → (item_from 2 no_body body_at table first i).a ≡ item_from 2 0 read_label table first i
+label-part table first i = item-part (λ b. b.a) table first 2 i
 
-  pub item-some : kind_at table at ≡ kind → body_at table at ≡ item_from kind no_body body_at table first i
-  item-some same = rw (← here, eq-eqb (kind_at table at) kind same)
+pub invariant-part : (table : List ℕ) (first i : ℕ)
+    → invariant_of (item_from 3 no_body body_at table first i) ≡ item_from 3 no_invariant read_invariant table first i
+invariant-part table first i = item-part invariant_of table first 3 i
+
+pub guard-part : (table : List ℕ) (first i : ℕ)
+    → guard_of (item_from 5 no_body body_at table first i) ≡ item_from 5 no_guard read_guard table first i
+guard-part table first i = item-part guard_of table first 5 i
+
+pub branch-part : (table : List ℕ) (first i : ℕ)
+    → branch_of (item_from 6 no_body body_at table first i) ≡ item_from 6 no_branch read_branch table first i
+branch-part table first i = item-part branch_of table first 6 i

@@ -1,8 +1,9 @@
--- `resets` meets its contract: a shift and a mask pick the bit, and a byte has none from 8 on. Assumes nothing.
+-- A shift and a mask pick the bit, and a byte has none from 8 on.
 use Prim.Native.Nat.{ℕ, ◌/◌, ◌^◌}
-use mathlib.Core.Path.{sym, ap}
+use mathlib.Core.Path.{sym, ◌∙◌, ap}
 use lib.Bits.{and_mask}
 use lib.Dec.{eqb}
+use borrow.Author.Tests.{le-ltb}
 use Rattle.table.specs.Model.{reset_in}
 use Rattle.table.proofs.Laws.Masks.{no-reset}
 use Rattle.table.proofs.access.resets.Goals as goal
@@ -14,4 +15,4 @@ returns-then-clock-lt8 c =
     ap (λ (b : ℕ). eqb b 1) (and_mask (args.mask / 2 ^ args.clock) 1)
 
 pub returns-else-clock-lt8 : goal.returns-else-clock-lt8
-returns-else-clock-lt8 c = sym (no-reset 8 c.ranges.mask.fits c.if-clock-lt8.false)
+returns-else-clock-lt8 c = le-ltb _ _ c.if-clock-lt8.false ∙ sym (no-reset 8 c.ranges.mask.fits c.if-clock-lt8.false)

@@ -16,12 +16,12 @@ pub returns-in_err-next : goal.returns-in_err-next
 returns-in_err-next c =
     let loop = c.loop-next in
     let same : c.from_residual.result ≡ Err c.in_err-next.field-0.0 = search rules in
-    same ∙ underway-refused c.args.table.now loop.p loop.at _ loop.invariant (sym c.read_record.ensures ∙ c.in_err-next.was)
+    same ∙ underway-refused c.args.table.now loop.progress loop.at _ loop.invariant (sym c.read_record.ensures ∙ c.in_err-next.was)
 
 pub loop-next-smaller : goal.loop-next-smaller
 loop-next-smaller c =
     let loop = c.loop-next in
-    let within = next-within c.args.table.now loop.p _ loop.at (sym c.read_record.ensures ∙ c.in_ok-next.was ∙ ap Ok c.in-Some.is) in
+    let within = next-within c.args.table.now loop.progress _ loop.at (sym c.read_record.ensures ∙ c.in_ok-next.was ∙ ap Ok c.in-Some.is) in
     omega (arith, c.pass-at.ensures)
 
 pub loop-next-preserved : goal.loop-next-preserved
@@ -29,11 +29,11 @@ loop-next-preserved c =
     let shared-slice-known = c.type_inv.table in
     let loop = c.loop-next in
     rw c.pass-at.ensures
-    (underway-next c.args.table.now loop.p _ loop.at (λ i. omega (arith, shared-slice-known i)) loop.invariant
+    (underway-next c.args.table.now loop.progress _ loop.at (λ i. omega (arith, shared-slice-known i)) loop.invariant
     (sym c.read_record.ensures ∙ c.in_ok-next.was ∙ ap Ok c.in-Some.is))
 
 pub returns : goal.returns
 returns c =
     let loop = c.loop-next in
-    ap Ok c.shape_from.ensures
-    ∙ underway-end c.args.table.now loop.p loop.at loop.invariant (sym c.read_record.ensures ∙ c.in_ok-next.was ∙ ap Ok c.in_default.is)
+    let ended = sym c.read_record.ensures ∙ c.in_ok-next.was ∙ ap Ok c.in_default.is in
+    ap Ok c.shape.ensures ∙ underway-end c.args.table.now loop.progress loop.at loop.invariant ended

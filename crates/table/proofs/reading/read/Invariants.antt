@@ -6,7 +6,7 @@ use Rattle.table.proofs.Laws.Turns.{Underway}
 use Rattle.table.proofs.reading.read.Given as goal
 
 abbrev pub invariant-loop-next : goal.invariant-loop-next
-invariant-loop-next l = Underway l.table l.p l.at
+invariant-loop-next l = Underway l.table l.progress l.at
 
 abbrev pub decreases-loop-next : goal.decreases-loop-next
 decreases-loop-next l = length l.table - l.at
