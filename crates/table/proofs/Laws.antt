@@ -1,4 +1,5 @@
 -- Theorems on the definitions of the table layer, and laws for the proofs of its code:
+--   Lengths    bodies are short
 --   Runs       what an accepted table went through, record by record; the fuel of a run does not matter
 --   Models     an accepted table's model is sound, its table is the one that was read, its edges' places and counts are right
 --   ReadBack   every sound model is read back from its table: the accepted tables are exactly the tables of sound models
@@ -10,6 +11,7 @@
 --   Masks      the bits of a reset mask
 --   Turns      for the loop that reads a table
 --   Walks      for the loop that walks over records of one kind
+pub mod Lengths
 pub mod Runs
 pub mod Models
 pub mod ReadBack

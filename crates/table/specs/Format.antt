@@ -1,7 +1,5 @@
 -- The numbers of the format: body lengths, limits, numbers of two bytes (document 01, "The model table").
-use Rattle.std.specs.Prelude.{ℕ, zero, suc, ◌+◌, ◌*◌, ◌<◌, ◌≤◌, ◌≡◌, Bool, true, false, ◌&&◌, List, [], ◌∷◌, T, ltb, get_or}
-use Rattle.std.proofs.Common.{ltb→lt}
-use Rattle.std.proofs.Math.ListN.{get_or-eq_default}
+use Rattle.std.specs.Prelude.{ℕ, ◌+◌, ◌*◌, List, [], ◌∷◌, get_or}
 
 -- "The body lengths for kinds 1 to 7 are 3, 1, 4, 4, 3, 4 and 0", indexed by kind. No other number is a kind; its
 -- length is 0 here.
@@ -55,31 +53,3 @@ last_bound = 1
 -- The last comparison of a guard atom: "0 is <, 1 is ≤, 2 is >, 3 is ≥ and 4 is =".
 abbrev pub last_comparison : ℕ
 last_comparison = 4
-
--- No body is longer than four bytes: one test over the whole list, and the rule at each kind.
-all_below : ℕ → List ℕ → Bool
-all_below b [] = true
-all_below b (x ∷ l) = ltb x b && all_below b l
-
-both_left : (a b : Bool) → T (a && b) → T a
-both_left true b t = tt
-both_left false b t = t
-
-both_right : (a b : Bool) → T (a && b) → T b
-both_right true b t = t
-both_right false b t = absurd t
-
-below : (b : ℕ) (l : List ℕ) → 0 < b → T (all_below b l) → (i : ℕ) → get_or l i 0 < b
-unfolding all_below
-below b [] h t i = h
-below b (x ∷ l) h t zero = ltb→lt x b (both_left (ltb x b) (all_below b l) t)
-below b (x ∷ l) h t (suc i) = below b l h (both_right (ltb x b) (all_below b l) t) i
-
-pub body-short : (kind : ℕ) → body_length kind < 5
-unfolding body_lengths body_length all_below
-body-short kind = below 5 body_lengths (ltb→lt 0 5 tt) tt kind
-
--- A number above 7 is no kind.
-pub body-none : (kind : ℕ) → 8 ≤ kind → body_length kind ≡ 0
-unfolding body_lengths body_length
-body-none kind h = get_or-eq_default body_lengths 0 h

@@ -8,7 +8,8 @@ use Rattle.std.proofs.Math.Path.{refl, ap}
 use mathlib.Core.List.{List, [], ◌∷◌, ◌++◌, append_assoc}
 use Rattle.std.proofs.Math.ListN.{length}
 use Rattle.std.proofs.lemmas.Bool.{lt-leb}
-use Rattle.table.specs.Format.{body_length, body-short, max_bytes, max_invariants, max_edges, max_guards, max_branches}
+use Rattle.table.proofs.Laws.Lengths.{body-short}
+use Rattle.table.specs.Format.{body_length, max_bytes, max_invariants, max_edges, max_guards, max_branches}
 use Rattle.table.specs.Model.{Edge, Model, total}
 use Rattle.table.specs.Records.{Record, header, location, invariant, edge, guard, branch, end}
 use Rattle.table.specs.Records.{kind_of, body_of, record_of, body_at, kind_at, record_at, past}

@@ -1,7 +1,8 @@
 -- The constant table is the format's list of body lengths.
 use Rattle.std.specs.Prelude.{◌≡◌}
 use mathlib.Core.Path.{◌∙◌, ap}
-use Rattle.table.specs.Format.{body_length, body_lengths, body-short}
+use Rattle.table.proofs.Laws.Lengths.{body-short}
+use Rattle.table.specs.Format.{body_length, body_lengths}
 use Rattle.table.proofs.codes.body_length.Goals as goal
 
 pub returns : goal.returns
