@@ -1,10 +1,9 @@
 -- Regions in a list of bytes (document 01: "An entry is nine bytes: location, four integer parts (16 for over), four ranks (0 for
 -- over)."): the bytes of a region, and the region that stands at an entry. Below that what storing an entry changes.
 use Rattle.std.specs.Prelude.{ℕ, zero, suc, ◌+◌, ◌*◌, ◌≤◌, ◌<◌, ◌≡◌, refl, Bool, true, false, List}
-use Rattle.std.specs.Prelude.{[], ◌∷◌, ◌++◌, ◌⊎◌, eqb, ltb, length, set, get_or}
+use Rattle.std.specs.Prelude.{[], ◌∷◌, ◌++◌, ◌⊎◌, ltb, length, set, get_or}
 use Rattle.std.proofs.Common.{arith, add-zero, add-suc, suc-add, sym, ◌∙◌, ap, ap₂, inl, inr, length-set}
-use Rattle.std.proofs.Common.{get_or-set_same, get_or-set_other, eqb-true, ltb-true, ltb-false}
-use Rattle.std.proofs.lemmas.Bool.{false≢true, eqb-false}
+use Rattle.std.proofs.Common.{get_or-set_same, get_or-set_other, ltb-true, ltb-false}
 use Rattle.std.proofs.lemmas.List.Edits.{sets}
 use Rattle.std.proofs.Math.Seq.{length-sets}
 use Rattle.clocks.specs.declared.region.Region.{Region}
@@ -37,11 +36,6 @@ region_at es j =
 pub record Sized (r : Region) : Type 0 where
   pub whole : length r.whole ≡ 4
   pub rank : length r.rank ≡ 4
-
--- An answer tells whether a statement holds.
-pub record Tells (b : Bool) (P : Type 0) : Type 0 where
-  pub holds : b ≡ true → P
-  pub fails : b ≡ false → P → ⊥
 
 -- ---- What storing an entry changes
 
@@ -173,27 +167,3 @@ entry-stored es es' es'' j r e e' =
     e'
     ∙ ap₂ (λ l n. sets l n (four_from r.rank 0)) (e ∙ ap (λ n. sets first n (four_from r.whole 0)) one) five
     ∙ sym (sets-append (four_from r.whole 0) (four_from r.rank 0) first (suc at))
-
--- ---- Laws for the code that compares
-
--- What does not hold is told by false.
-pub tells-not : {P : Type 0} → (P → ⊥) → Tells false P
-tells-not differ = record { holds = λ e. absurd (false≢true e); fails = λ e. differ }
-
--- Two lists of four of which only the last byte is left to compare.
-pub four-rest : (a b : List ℕ) → length a ≡ 4 → length b ≡ 4 → get_or a 0 0 ≡ get_or b 0 0 → get_or a 1 0 ≡ get_or b 1 0
-    → get_or a 2 0 ≡ get_or b 2 0 → Tells (eqb (get_or a 3 0) (get_or b 3 0)) (a ≡ b)
-four-rest a b la lb e₀ e₁ e₂ =
-    record {
-      holds = λ e. sym (four-whole a la) ∙ rw (e₀, e₁, e₂, eqb-true (get_or a 3 0) (get_or b 3 0) e) (four-whole b lb);
-      fails = λ e same. eqb-false (get_or a 3 0) (get_or b 3 0) e (ap (λ l. get_or l 3 0) same);
-    }
-
--- Two regions of which only the ranks are left to compare.
-pub region-rest : (a b : Region) (same : Bool) → a.location ≡ b.location → a.whole ≡ b.whole → Tells same (a.rank ≡ b.rank)
-    → Tells same (a ≡ b)
-region-rest a b same e₀ e₁ rest =
-    record {
-      holds = λ e. rw (e₀, e₁, rest.holds e);
-      fails = λ e equal. rest.fails e (ap (λ r. r.rank) equal);
-    }

@@ -1,6 +1,6 @@
 -- The region graph of a model (document 01, "Regions"): bounds, invariants, available edges, what a region leads to, and what is
 -- reached. A region here is that of the code, in nine bytes.
-use Rattle.std.specs.Prelude.{ℕ, max, ◌≡◌, Bool, true, false, cond, not, ◌&&◌, ◌||◌, eqb}
+use Rattle.std.specs.Prelude.{ℕ, max, ◌≡◌, Bool, true, false, cond, not, ◌&&◌, ◌||◌, eqb, Option, Some, None}
 use mathlib.Core.List.{List, [], ◌∷◌, ◌++◌, Memᴰ}
 use Rattle.table.specs.Model.{Model, Edge}
 use Rattle.table.specs.declared.model.Branch.{Branch}
@@ -11,8 +11,6 @@ use Rattle.clocks.specs.Atoms.{atom}
 use Rattle.clocks.specs.Packed.{cell_of, clock_at, delayed, after_reset}
 use Rattle.clocks.specs.declared.region.Bounds.{Bounds}
 use Rattle.clocks.specs.declared.region.Region.{Region}
-use Rattle.clocks.specs.declared.region.Verdict.{Verdict}
-use Rattle.clocks.specs.declared.region.Verdict.TheVariants.{Holds, Fails, Unknown}
 
 -- ---- Bounds
 
@@ -44,10 +42,9 @@ bounds_of m =
 
 -- ---- Atoms on a region
 
-abbrev pub is_holds : Verdict → Bool
-is_holds Holds = true
-is_holds Fails = false
-is_holds Unknown = false
+abbrev pub is_holds : Option Bool → Bool
+is_holds (Some holds) = holds
+is_holds None = false
 
 -- An atom holds at a region.
 abbrev pub holds : Bounds → Region → (clock comparison constant : ℕ) → Bool
@@ -90,11 +87,19 @@ available m e r = fits (bounds_of m) e r && lands (bounds_of m) m.invariants e r
 
 -- ---- What a region leads to
 
+-- What follows, if it meets its invariant.
+abbrev pub if_meets : Model → Option Region → List Region
+if_meets m None = []
+if_meets m (Some q) = cond (meets (bounds_of m) m.invariants q) (q ∷ []) []
+
 -- "Delay stops before a region that breaks its location's invariant."
 unfoldable pub delay_next : Model → Region → List Region
-delay_next m r =
-    cond ((delayed (bounds_of m) r).any && meets (bounds_of m) m.invariants (delayed (bounds_of m) r).region)
-    ((delayed (bounds_of m) r).region ∷ []) []
+delay_next m r = if_meets m (delayed (bounds_of m) r)
+
+-- One region or none.
+abbrev pub at_most_one : Option Region → List Region
+at_most_one None = []
+at_most_one (Some q) = q ∷ []
 
 -- What the items of a list give, one after the other.
 abbrev pub gather : {A : Type 0} → (A → List Region) → List A → List Region

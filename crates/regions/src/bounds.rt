@@ -6,7 +6,7 @@ ghost use Rattle.table.specs.Reads.{Reads, ReadsEdge, edge_of};
 ghost use Rattle.regions.specs.Edges.{Placed};
 ghost use Rattle.regions.specs.Graph.{largest_of, constant_of, guard_constant, edge_constant, bounds_of};
 
-use clocks::{Bounds, larger};
+use clocks::Bounds;
 use table::Shape;
 
 // The largest constant of the invariant atoms.
@@ -14,11 +14,10 @@ fn largest_invariant(bytes: &[u8], shape: Shape) -> u8
     ensures { (m : Model) → Reads bytes.now shape m → result ≡ largest_of constant_of m.invariants }
 {
     let count = shape.invariants;
-    let mut best = 0;
+    let mut best = 0u8;
     let mut i = 0;
     while i < count {
-        let a = table::invariant_at(bytes, shape, i);
-        best = larger(best, a.constant);
+        best = best.max(table::invariant_at(bytes, shape, i).constant);
         i = i + 1;
     }
     best
@@ -29,11 +28,10 @@ fn largest_guard(bytes: &[u8], place: usize) -> u8
     ensures { (m : Model) (e : ℕ) → ReadsEdge bytes.now place m e → result ≡ largest_of guard_constant (edge_of m e).guards }
 {
     let count = table::guard_count(bytes, place);
-    let mut best = 0;
+    let mut best = 0u8;
     let mut i = 0;
     while i < count {
-        let g = table::guard_at(bytes, place, i);
-        best = larger(best, g.constant);
+        best = best.max(table::guard_at(bytes, place, i).constant);
         i = i + 1;
     }
     best
@@ -44,10 +42,10 @@ fn largest_edge(bytes: &[u8], count: usize, places: &[usize]) -> u8
     ensures { (m : Model) → read_table bytes.now ≡ accepted m → count ≡ length m.edges
         → Placed m places.now → result ≡ largest_of edge_constant m.edges }
 {
-    let mut best = 0;
+    let mut best = 0u8;
     let mut i = 0;
     while i < count {
-        best = larger(best, largest_guard(bytes, slices::at(places, i, 0)));
+        best = best.max(largest_guard(bytes, slices::at(places, i, 0)));
         i = i + 1;
     }
     best
@@ -58,13 +56,10 @@ pub(crate) fn bounds_of(bytes: &[u8], shape: Shape, places: &[usize]) -> Bounds
     ensures { (m : Model) → Reads bytes.now shape m → Placed m places.now
         → result ≡ bounds_of m }
 {
-    let most = larger(
-        largest_invariant(bytes, shape),
-        largest_edge(bytes, shape.edges, places),
-    );
+    let most = largest_invariant(bytes, shape).max(largest_edge(bytes, shape.edges, places));
     Bounds {
         count: shape.clocks,
-        bound: [most, most, most, most],
+        bound: [most; 4],
     }
 }
 

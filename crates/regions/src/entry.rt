@@ -1,7 +1,7 @@
-// Regions as entries in a slice of bytes, nine to an entry: reading one, storing one, and telling two regions apart.
+// Regions as entries in a slice of bytes, nine to an entry: reading one and storing one.
 ghost use Rattle.std.specs.Prelude.{◌+◌, ◌*◌, ◌≤◌, ◌<◌, ◌≡◌, get_or, length};
 ghost use Rattle.std.proofs.lemmas.List.Edits.{sets};
-ghost use Rattle.regions.specs.Entries.{entry_bytes, max_entries, four_from, bytes_of, region_at, Tells};
+ghost use Rattle.regions.specs.Entries.{entry_bytes, max_entries, four_from, bytes_of, region_at};
 
 use clocks::Region;
 
@@ -62,37 +62,4 @@ pub(crate) fn write_entry(entries: &mut [u8], j: usize, r: Region)
     entries[at] = r.location;
     write_four(entries, at + 1, whole);
     write_four(entries, at + 5, rank);
-}
-
-// Are two lists of four bytes the same?
-fn same_four(a: [u8; 4], b: [u8; 4]) -> bool
-    ensures { Tells result (a ≡ b) }
-{
-    if a[0] != b[0] {
-        return false;
-    }
-    if a[1] != b[1] {
-        return false;
-    }
-    if a[2] != b[2] {
-        return false;
-    }
-    a[3] == b[3]
-}
-
-// Are two regions the same?
-pub fn same_region(a: Region, b: Region) -> bool
-    ensures { Tells result (a ≡ b) }
-{
-    if a.location != b.location {
-        return false;
-    }
-    let whole = a.whole;
-    let other = b.whole;
-    if !same_four(whole, other) {
-        return false;
-    }
-    let rank = a.rank;
-    let other = b.rank;
-    same_four(rank, other)
 }

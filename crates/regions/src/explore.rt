@@ -15,7 +15,7 @@ use crate::edges::edge_link;
 use crate::entry::{byte_at, read_entry};
 use crate::guards::{is_available, landing_of};
 use crate::index::{Lookup, add, find};
-use crate::limits::meets_invariant;
+use crate::limits::follower;
 use crate::marks::mark_place;
 use crate::numbers::put_byte;
 use clocks::{Bounds, Region};
@@ -195,20 +195,12 @@ fn meet_delay(
     ensures all_met { (m : Model) → Limited m limits.now → bounds ≡ bounds_of m
         → AllMet cap n (delay_next m r) entries.old entries.new result }
 {
-    let moved = r.delay(bounds);
-    let q = moved.region;
-    if !moved.any {
+    let Some(q) = follower(limits, bounds, r) else {
         return Met {
             full: false,
             count: n,
         };
-    }
-    if !meets_invariant(limits, bounds, q) {
-        return Met {
-            full: false,
-            count: n,
-        };
-    }
+    };
     meet_one(q, n, cap, entries, heads, nexts)
 }
 

@@ -2,7 +2,7 @@
 ghost use Rattle.std.specs.Prelude.{ℕ, ◌≡◌, Bool};
 ghost use Rattle.table.specs.Model.{Model};
 ghost use Rattle.table.specs.Reads.{ReadsEdge, edge_of};
-ghost use Rattle.regions.specs.Graph.{is_holds, meets, satisfies, every, landing, lands, available, bounds_of};
+ghost use Rattle.regions.specs.Graph.{meets, satisfies, every, landing, lands, available, bounds_of};
 ghost use Rattle.regions.specs.Limits.{Limited};
 ghost use Rattle.regions.specs.Marks.{Tested};
 
@@ -10,7 +10,7 @@ use crate::entry::byte_at;
 use crate::limits::meets_invariant;
 use crate::marks::mark_place;
 use crate::numbers::put_byte;
-use clocks::{Bounds, Region, Verdict};
+use clocks::{Bounds, Region};
 use table::{Branch, Guard};
 
 // Marks of a branch: the region that it leads to breaks its invariant, or meets it.
@@ -18,21 +18,12 @@ const BROKEN: u8 = 1;
 
 const MET: u8 = 2;
 
-fn is_held(v: Verdict) -> bool
-    ensures { result ≡ is_holds v }
-{
-    match v {
-        Verdict::Holds => true,
-        Verdict::Fails => false,
-        Verdict::Unknown => false,
-    }
-}
-
-// Does a guard atom hold?
+// Whether a guard atom holds.
 fn is_satisfied(r: Region, bounds: Bounds, g: Guard) -> bool
     ensures { result ≡ satisfies bounds r g }
 {
-    is_held(r.test(bounds, g.clock, g.comparison, g.constant))
+    r.test(bounds, g.clock, g.comparison, g.constant)
+        .unwrap_or(false)
 }
 
 // Do all guard atoms of the edge at a place hold?

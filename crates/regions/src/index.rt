@@ -4,7 +4,7 @@ ghost use Rattle.std.specs.Prelude.{◌+◌, ◌*◌, ◌≤◌, ◌<◌, ◌≡
 ghost use Rattle.regions.specs.Entries.{entry_bytes, max_entries, four_from};
 ghost use Rattle.regions.specs.Index.{bucket_count, mixed, hash_of, Index, Found, Added};
 
-use crate::entry::{read_entry, same_region, write_entry};
+use crate::entry::{read_entry, write_entry};
 use clocks::Region;
 
 // Hashes are below the largest prime that is no more than the number of buckets, 4,096.
@@ -69,7 +69,7 @@ pub(crate) fn find(entries: &[u8], head: &[u16], next: &[u16], n: usize, r: Regi
     let mut link = link_at(head, hash_of(r));
     while 0 < link {
         let j = link - 1;
-        if same_region(read_entry(entries, j), r) {
+        if read_entry(entries, j) == r {
             return Lookup::At(j);
         }
         link = link_at(next, j);

@@ -20,8 +20,7 @@ mod sight;
 mod view;
 
 pub use call::explore_table;
-pub use clocks::{Bounds, Moved, Region, Verdict};
-pub use entry::same_region;
+pub use clocks::{Bounds, Region};
 pub use shown::{GraphMut, show_graph};
 pub use sight::{Seen, check_table, entry_at, label_locations, show_region};
 pub use table::{Reason, Refusal};

@@ -4,10 +4,10 @@ ghost use Rattle.std.specs.Prelude.{ℕ, min, ◌≡◌, get_or, set, replicate,
 ghost use Rattle.table.specs.Model.{Model};
 ghost use Rattle.table.specs.Reads.{Reads};
 ghost use Rattle.clocks.specs.Packed.{cell_of, clock_at};
-ghost use Rattle.regions.specs.Graph.{meets};
+ghost use Rattle.regions.specs.Graph.{bounds_of, meets, delay_next, at_most_one};
 ghost use Rattle.regions.specs.Limits.{no_limit, position, limit_by, limit_place, limit_in, Limited};
 
-use clocks::{Bounds, Clock, OVER, Region, clock_at};
+use clocks::{Bounds, Clock, OVER, Region};
 use table::{Invariant, Shape};
 
 // No limit, and where a clock that is over stands: past every limit but none.
@@ -92,7 +92,7 @@ pub(crate) fn list_limits(bytes: &[u8], shape: Shape, limits: &mut [u16])
 fn is_under(limits: &[u16], bounds: Bounds, r: Region, clock: u8) -> bool
     ensures { result ≡ ltb (position (cell_of (clock_at bounds r clock))) (limit_in limits.now r.location clock) }
 {
-    position_of(clock_at(r, bounds, clock as usize)) < limit_at(limits, r.location, clock)
+    position_of(r.clock_at(bounds, usize::from(clock))) < limit_at(limits, r.location, clock)
 }
 
 // Does a region meet its location's invariant?
@@ -109,4 +109,14 @@ pub(crate) fn meets_invariant(limits: &[u16], bounds: Bounds, r: Region) -> bool
         return false;
     }
     is_under(limits, bounds, r, 3)
+}
+
+// Returns the region that follows by delay, if any does and it meets its invariant.
+pub(crate) fn follower(limits: &[u16], bounds: Bounds, r: Region) -> Option<Region>
+    ensures { (m : Model) → Limited m limits.now → bounds ≡ bounds_of m → delay_next m r ≡ at_most_one result }
+{
+    match r.delay(bounds) {
+        Some(q) if meets_invariant(limits, bounds, q) => Some(q),
+        _ => None,
+    }
 }

@@ -19,7 +19,7 @@ use crate::edges::edge_link;
 use crate::entry::read_entry;
 use crate::guards::is_available;
 use crate::index::{Lookup, find, link_entry};
-use crate::limits::meets_invariant;
+use crate::limits::follower;
 use crate::numbers::store;
 use clocks::{Bounds, Region};
 use table::Shape;
@@ -55,14 +55,9 @@ fn delay_number(
         → bounds ≡ bounds_of m → x < n → r ≡ region_at entries.now x
         → delay_numbers m (listed entries.now n) r ≡ followers n result }
 {
-    let moved = r.delay(bounds);
-    let q = moved.region;
-    if !moved.any {
+    let Some(q) = follower(limits, bounds, r) else {
         return n;
-    }
-    if !meets_invariant(limits, bounds, q) {
-        return n;
-    }
+    };
     let looked = find(entries, heads, links, n, q);
     match looked {
         Lookup::At(j) => j,

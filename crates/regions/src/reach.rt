@@ -9,9 +9,9 @@ ghost use Rattle.regions.specs.Explore.{listed};
 ghost use Rattle.regions.specs.View.{number_in};
 ghost use Rattle.regions.specs.Sight.{delay_list};
 
-use crate::entry::{read_entry, same_region};
+use crate::entry::read_entry;
 use crate::index::{hash_of, link_at};
-use crate::limits::meets_invariant;
+use crate::limits::follower;
 use crate::numbers::store;
 use clocks::{Bounds, Region};
 
@@ -25,7 +25,7 @@ pub(crate) fn number_by(entries: &[u8], heads: &[u16], links: &[u16], n: usize, 
     let mut link = link_at(heads, hash_of(q));
     while 0 < link {
         let j = link - 1;
-        if same_region(q, read_entry(entries, j)) {
+        if q == read_entry(entries, j) {
             best = j;
         }
         link = link_at(links, j);
@@ -55,14 +55,9 @@ pub(crate) fn list_delays(
     let mut at = r;
     let mut i = 0;
     while i < n {
-        let moved = at.delay(bounds);
-        let q = moved.region;
-        if !moved.any {
+        let Some(q) = follower(limits, bounds, at) else {
             return i + 1;
-        }
-        if !meets_invariant(limits, bounds, q) {
-            return i + 1;
-        }
+        };
         i = i + 1;
         store(delays, i, number_by(entries, heads, links, n, q));
         at = q;

@@ -1,6 +1,6 @@
 -- Laws on the bound M of a model (document 01, "Regions"): it is at least each constant of the table, it is one of them or 0,
 -- and it is at most 15 in a model that was read. With them the law that each atom of such a model has a verdict.
-use Rattle.std.specs.Prelude.{ℕ, zero, suc, ◌≤◌, max, ◌⊎◌, ◌≡◌, refl, Bool, true, false, not, ◌&&◌}
+use Rattle.std.specs.Prelude.{None, ℕ, zero, suc, ◌≤◌, max, ◌⊎◌, ◌≡◌, refl, Bool, not, ◌&&◌}
 use native.Mathlib.Omega.{arith}
 use Rattle.std.proofs.Math.Nat.{max-eq_left, max-eq_right, max-le}
 use Rattle.std.proofs.Math.Decide.{dec_le}
@@ -18,8 +18,6 @@ use Rattle.clocks.specs.Packed.{cell_of, clock_at}
 use Rattle.regions.specs.Graph.{largest_of, constant_of, guard_constant, edge_constant, largest_constant}
 use Rattle.clocks.specs.declared.region.Bounds.{Bounds}
 use Rattle.clocks.specs.declared.region.Region.{Region}
-use Rattle.clocks.specs.declared.region.Verdict.{Verdict}
-use Rattle.clocks.specs.declared.region.Verdict.TheVariants.{Holds, Fails, Unknown}
 
 -- What all items of a list are, each item of it is.
 pub all-at : {A : Type 0} {P : A → Type 0} {x : A} (l : List A) → All P l → Memᴰ x l → P x
@@ -124,17 +122,11 @@ module _ (m : Model) where
 
 -- ---- Atoms have verdicts
 
-abbrev unknowns : Verdict → ℕ
-unknowns Holds = 0
-unknowns Fails = 0
-unknowns Unknown = 1
-
-verdict-known : (b : Bool) → verdict b ≡ Unknown → ⊥
-verdict-known true e = omega (arith, ap unknowns e)
-verdict-known false e = omega (arith, ap unknowns e)
+verdict-known : (b : Bool) → verdict b ≡ None → ⊥
+verdict-known b e = let z : ◌≡◌ {A = ℕ} 0 1 = cc in omega arith
 
 -- The numbers up to 4 are comparisons.
-pub atom-known : (comparison k : ℕ) (c : Cell) → comparison ≤ last_comparison → atom comparison k c ≡ Unknown → ⊥
+pub atom-known : (comparison k : ℕ) (c : Cell) → comparison ≤ last_comparison → atom comparison k c ≡ None → ⊥
 unfolding atom
 atom-known zero k c h e = verdict-known (below k c) e
 atom-known (suc zero) k c h e = verdict-known (at_most k c) e
@@ -143,15 +135,15 @@ atom-known (suc (suc (suc zero))) k c h e = verdict-known (not (below k c)) e
 atom-known (suc (suc (suc (suc zero)))) k c h e = verdict-known (at_most k c && not (below k c)) e
 atom-known (suc (suc (suc (suc (suc n))))) k c h e = omega arith
 
--- The test of an atom of a model that was read has a verdict: Unknown does not occur.
+-- The test of an atom of a model that was read has a verdict.
 module _ (bounds : Bounds) (r : Region) (m : Model) (s : Sound m) where
   pub guard-known : (e : Edge) (g : Guard) → Memᴰ e m.edges → Memᴰ g e.guards
-      → atom g.comparison g.constant (cell_of (clock_at bounds r g.clock)) ≡ Unknown → ⊥
+      → atom g.comparison g.constant (cell_of (clock_at bounds r g.clock)) ≡ None → ⊥
   guard-known e g n k =
       atom-known g.comparison g.constant (cell_of (clock_at bounds r g.clock)) (sound-guard m s e g n k).comparison
 
   pub invariant-known : (a : Invariant) → Memᴰ a m.invariants
-      → atom a.comparison a.constant (cell_of (clock_at bounds r a.clock)) ≡ Unknown → ⊥
+      → atom a.comparison a.constant (cell_of (clock_at bounds r a.clock)) ≡ None → ⊥
   invariant-known a n =
       let h : a.comparison ≤ last_bound = (sound-invariant m s a n).comparison in
       atom-known a.comparison a.constant (cell_of (clock_at bounds r a.clock)) (omega arith)

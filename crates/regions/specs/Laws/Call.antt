@@ -1,6 +1,6 @@
 -- Laws on the graph call: what its answer says about the regions that are reached, without a word of exploring. The layers above go
 -- by these.
-use Rattle.std.specs.Prelude.{ℕ, ◌≤◌, ◌<◌, ◌⊎◌, ◌↔◌, ◌≡◌, Bool, true, false, cond, ◌&&◌, length}
+use Rattle.std.specs.Prelude.{ℕ, ◌≤◌, ◌<◌, ◌⊎◌, ◌↔◌, ◌≡◌, Bool, true, false, cond, length, Option, Some, None}
 use Rattle.std.proofs.Common.{arith, inl, inr, ⊎_elim, ◌∙◌, length-append}
 use Rattle.std.proofs.Math.Path.{refl, sym, ap, subst}
 use mathlib.Core.List.Memᴰ
@@ -12,7 +12,7 @@ use Rattle.table.specs.declared.refusals.Reason.{Reason}
 use Rattle.table.specs.declared.refusals.Reason.TheVariants.{BrokenStart, TooManyRegions}
 use Rattle.clocks.specs.Packed.{delayed}
 use Rattle.regions.specs.Graph.{every, bounds_of, meets, fits, landing, lands, available, delay_next, gather, edge_next, next_of, first}
-use Rattle.regions.specs.Graph.{Leads, by-delay, by-edge, Reached, begun, led}
+use Rattle.regions.specs.Graph.{if_meets, Leads, by-delay, by-edge, Reached, begun, led}
 use Rattle.regions.specs.Worklist.{Found, complete, full, explore, Reach, here, on}
 use Rattle.regions.specs.Explore.{both_true, same_region, same_true, same_refl}
 use Rattle.regions.specs.Call.{Outcome, refused, cut, whole, from_found, from_answer, outcome_of}
@@ -77,13 +77,23 @@ module _ (m : Model) where
   of-every p x (y ∷ l) (Memᴰ.head e) h = ap p e ∙ (both_true (p y) (every p l) h).0
   of-every p x (y ∷ l) (Memᴰ.tail n) h = of-every p x l n (both_true (p y) (every p l) h).1
 
-  fine-delay : (r q : Region) → Memᴰ q (delay_next m r) → meets (bounds_of m) m.invariants q ≡ true
+  -- What follows by delay meets its invariant.
+  pub follows : (r q : Region) → Memᴰ q (delay_next m r)
+      → (delayed (bounds_of m) r ≡ Some q) × (meets (bounds_of m) m.invariants q ≡ true)
   unfolding delay_next
+  follows r q n = go (delayed (bounds_of m) r) refl n
+    where
+      go : (o : Option Region) → delayed (bounds_of m) r ≡ o → Memᴰ q (if_meets m o)
+          → (delayed (bounds_of m) r ≡ Some q) × (meets (bounds_of m) m.invariants q ≡ true)
+      go None e n = absurd (Memᴰ.not-nil n)
+      go (Some p) e n =
+          let k = kept (meets (bounds_of m) m.invariants p) (p ∷ []) q n in
+          let same : q ≡ p = Memᴰ.eq_of_singleton k.1 in
+          (e ∙ ap Some (sym same), ap (meets (bounds_of m) m.invariants) same ∙ k.0)
+
+  fine-delay : (r q : Region) → Memᴰ q (delay_next m r) → meets (bounds_of m) m.invariants q ≡ true
   fine-delay r q n =
-      let next = (delayed (bounds_of m) r).region in
-      let k = kept ((delayed (bounds_of m) r).any && meets (bounds_of m) m.invariants next) (next ∷ []) q n in
-      ap (meets (bounds_of m) m.invariants) (Memᴰ.eq_of_singleton k.1)
-      ∙ (both_true (delayed (bounds_of m) r).any (meets (bounds_of m) m.invariants next) k.0).1
+      (follows r q n).1
 
   fine-edge : (r q : Region) (e : Edge) → Memᴰ q (edge_next m r e) → meets (bounds_of m) m.invariants q ≡ true
   unfolding edge_next lands

@@ -3,7 +3,7 @@
 -- is in `formed-..`.
 use Prim.Native.Nat.{ℕ, zero, suc, ◌+◌, ◌≤◌, ◌<◌, min}
 use native.Mathlib.Omega.{arith}
-use Rattle.std.specs.Prelude.{◌⊎◌, ◌≡◌, Bool, false, cond, ◌&&◌, eqb, ltb, length}
+use Rattle.std.specs.Prelude.{◌⊎◌, ◌≡◌, Bool, false, cond, eqb, ltb, length, Some}
 use Rattle.std.proofs.Common.{inl, inr, sym, ◌∙◌, ap, ap₂, eqb-true, ne_eqb, ltb-true, ltb-false, lt-ltb, le-ltb}
 use Rattle.std.proofs.Math.Path.{refl, subst}
 use Rattle.std.proofs.Math.Bool.{true}
@@ -19,16 +19,15 @@ use Rattle.clocks.specs.Cells.{Cell, over, at, fraction_of, member, closed, rest
 use Rattle.clocks.specs.Cells.{leaving, some, leave, highest, arrive, Follow, nothing, cells, delay}
 use Rattle.clocks.specs.Packed.{over_part, cell_of, clock_of, clock_at, unpack, byte_at, pack, moved_to, delayed, after_reset}
 use Rattle.clocks.specs.Packed.{cell-over, cell_at, clock-within, clock-beyond}
-use Rattle.regions.specs.Graph.{largest_constant, bounds_of, meets, landing, available, delay_next, gather, edge_next, first}
+use Rattle.regions.specs.Graph.{largest_constant, bounds_of, landing, available, delay_next, gather, edge_next, first}
 use Rattle.regions.specs.Graph.{by-delay, by-edge, Reached, begun, led}
-use Rattle.regions.specs.Explore.{both_true}
 use Rattle.regions.specs.Laws.Bounds.{constants-small}
 use Rattle.clocks.specs.Cells.{Proper, NoGap}
 use Rattle.regions.specs.Formed.{Small, Formed}
 use Rattle.clocks.proofs.Laws.Cells.{reset-proper, delay-proper, reset-no-gap, delay-no-gap, delay-cases, gives-own, has}
 use Rattle.regions.specs.Laws.Worklist.{no_more}
 use Rattle.regions.specs.Worklist.{Different}
-use Rattle.regions.specs.Laws.Call.{false-true, gathered, kept}
+use Rattle.regions.specs.Laws.Call.{false-true, follows, gathered, kept}
 use Rattle.clocks.specs.declared.clock.Clock.{Clock}
 use Rattle.clocks.specs.declared.region.Region.{Region}
 use Rattle.clocks.specs.declared.region.Bounds.{Bounds}
@@ -338,13 +337,15 @@ module _ (bounds : Bounds) (r : Region) (small : Small bounds) (formed : Formed 
           written-formed bounds small r.location _ _ _ _ (fit 0) (fit 1) (fit 2) (fit 3)
           (delay-proper (unpack bounds r) _ formed.proper d) (delay-no-gap (unpack bounds r) _ formed.no_gap d)
 
-  moved-formed : (f : Follow) → delay (unpack bounds r) ≡ f → (moved_to bounds r f).any ≡ true → Formed bounds (moved_to bounds r f).region
-  moved-formed nothing e a = false-true a
-  moved-formed (cells cs) e a = follow-formed cs e
+  moved-formed : (f : Follow) → delay (unpack bounds r) ≡ f → (q : Region) → moved_to bounds r f ≡ Some q → Formed bounds q
+  moved-formed nothing e q a = absurd (let z : ◌≡◌ {A = ℕ} 0 1 = cc in omega arith)
+  moved-formed (cells cs) e q a =
+      let same : pack bounds r.location cs ≡ q = cc in
+      subst (Formed bounds) same (follow-formed cs e)
 
-  pub delayed-formed : (delayed bounds r).any ≡ true → Formed bounds (delayed bounds r).region
+  pub delayed-formed : (q : Region) → delayed bounds r ≡ Some q → Formed bounds q
   unfolding delayed
-  delayed-formed a = moved-formed (delay (unpack bounds r)) refl a
+  delayed-formed q a = moved-formed (delay (unpack bounds r)) refl q a
 
   -- The cells after a reset, at any location.
   landed-formed : (mask l : ℕ) → Formed bounds (pack bounds l (reset mask (unpack bounds r)))
@@ -437,13 +438,7 @@ module _ (m : Model) (few : m.clocks ≤ 4) (low : largest_constant m ≤ 15) wh
       none f e h = let t = ne_eqb f 0 (λ q. omega (arith, q, h)) in false-true (rw t at e)
 
   by-delay-formed : (r q : Region) → Formed (bounds_of m) r → Memᴰ q (delay_next m r) → Formed (bounds_of m) q
-  unfolding delay_next
-  by-delay-formed r q h n =
-      let next = (delayed (bounds_of m) r).region in
-      let k = kept m ((delayed (bounds_of m) r).any && meets (bounds_of m) m.invariants next) (next ∷ []) q n in
-      subst (Formed (bounds_of m)) (sym (Memᴰ.eq_of_singleton k.1))
-      (delayed-formed (bounds_of m) r model-small h
-      (both_true (delayed (bounds_of m) r).any (meets (bounds_of m) m.invariants next) k.0).0)
+  by-delay-formed r q h n = delayed-formed (bounds_of m) r model-small h q (follows m r q n).0
 
   by-edge-formed : (r q : Region) (e : Edge) → Formed (bounds_of m) r → Memᴰ q (edge_next m r e) → Formed (bounds_of m) q
   unfolding edge_next

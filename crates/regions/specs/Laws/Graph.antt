@@ -1,11 +1,12 @@
 -- Laws for the code: what an edge and a delay come to, by the tests that the code makes.
-use Rattle.std.specs.Prelude.{◌≡◌, refl, Bool, true, false, ◌&&◌, [], ◌∷◌}
-use Rattle.std.proofs.Math.Path.{ap₂}
+use Rattle.std.specs.Prelude.{◌≡◌, Bool, true, false, [], ◌∷◌, Some, None}
+use Rattle.std.proofs.Math.Path.{ap}
+use Rattle.std.proofs.Common.{◌∙◌}
 use Rattle.std.proofs.Math.Bool.{cond}
 use Rattle.std.proofs.Common.{eq-eqb, ne_eqb}
 use Rattle.table.specs.Model.{Model, Edge}
 use Rattle.clocks.specs.Packed.{delayed}
-use Rattle.regions.specs.Graph.{every, bounds_of, satisfies, meets, fits, landing, lands, available, delay_next, gather, edge_next}
+use Rattle.regions.specs.Graph.{every, bounds_of, satisfies, meets, fits, landing, lands, available, delay_next, if_meets, gather, edge_next}
 use Rattle.clocks.specs.declared.region.Region.{Region}
 
 module _ (m : Model) (e : Edge) (r : Region) where
@@ -38,20 +39,17 @@ module _ (m : Model) (e : Edge) (r : Region) where
   edge-some h = rw h
 
 module _ (m : Model) (r : Region) where
-  stays : (a b : Bool) → (delayed (bounds_of m) r).any ≡ a → meets (bounds_of m) m.invariants (delayed (bounds_of m) r).region ≡ b
-      → delay_next m r ≡ cond (a && b) ((delayed (bounds_of m) r).region ∷ []) []
-  unfolding delay_next
-  stays a b ea eb = ap₂ (λ (x y : Bool). cond (x && y) ((delayed (bounds_of m) r).region ∷ []) []) ea eb
-
   -- Nothing follows.
-  pub delay-none : (delayed (bounds_of m) r).any ≡ false → delay_next m r ≡ []
-  delay-none h = stays false _ h refl
+  pub delay-none : delayed (bounds_of m) r ≡ None → delay_next m r ≡ []
+  unfolding delay_next
+  delay-none e = ap (if_meets m) e
 
-  -- What follows breaks its invariant.
-  pub delay-breaks : (delayed (bounds_of m) r).any ≡ true
-      → meets (bounds_of m) m.invariants (delayed (bounds_of m) r).region ≡ false → delay_next m r ≡ []
-  delay-breaks h b = stays true false h b
+  module _ (q : Region) (e : delayed (bounds_of m) r ≡ Some q) where
+    -- What follows breaks its invariant.
+    pub delay-breaks : meets (bounds_of m) m.invariants q ≡ false → delay_next m r ≡ []
+    unfolding delay_next
+    delay-breaks b = ap (if_meets m) e ∙ ap (λ (x : Bool). cond x (q ∷ []) []) b
 
-  pub delay-some : (delayed (bounds_of m) r).any ≡ true
-      → meets (bounds_of m) m.invariants (delayed (bounds_of m) r).region ≡ true → delay_next m r ≡ (delayed (bounds_of m) r).region ∷ []
-  delay-some h b = stays true true h b
+    pub delay-some : meets (bounds_of m) m.invariants q ≡ true → delay_next m r ≡ q ∷ []
+    unfolding delay_next
+    delay-some b = ap (if_meets m) e ∙ ap (λ (x : Bool). cond x (q ∷ []) []) b

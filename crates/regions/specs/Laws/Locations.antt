@@ -1,7 +1,7 @@
 -- Every region that is reached in a model that was read is at a location that exists (`reached-location`), which has a label
 -- (`reached-label`): a delay keeps the location (`delay-location`), and a branch goes to one of the model.
-use Rattle.std.specs.Prelude.{ℕ, ◌<◌, ◌≡◌, refl, ◌&&◌, length}
-use Rattle.std.proofs.Common.{sym, ◌∙◌}
+use Rattle.std.specs.Prelude.{ℕ, ◌<◌, ◌≡◌, length, Some}
+use Rattle.std.proofs.Common.{arith, sym}
 use Rattle.std.proofs.Math.Path.{ap, subst}
 use mathlib.Core.List.Memᴰ
 use mathlib.Core.List.{List, [], ◌∷◌, Memᴰ}
@@ -11,31 +11,29 @@ use Rattle.table.specs.Reading.{accepted, read_table}
 use Rattle.table.specs.Sound.{Sound}
 use Rattle.table.specs.declared.model.Branch.{Branch}
 use Rattle.clocks.specs.Cells.{Follow, nothing, cells, delay}
-use Rattle.clocks.specs.Packed.{unpack, moved_to, delayed}
-use Rattle.regions.specs.Graph.{bounds_of, meets, landing, available, delay_next, gather, edge_next, first}
+use Rattle.clocks.specs.Packed.{unpack, pack, moved_to, delayed}
+use Rattle.regions.specs.Graph.{bounds_of, landing, available, delay_next, gather, edge_next, first}
 use Rattle.regions.specs.Graph.{by-delay, by-edge, Reached, begun, led}
 use Rattle.regions.specs.Laws.Bounds.{all-at}
-use Rattle.regions.specs.Laws.Call.{gathered, kept}
+use Rattle.regions.specs.Laws.Call.{gathered, kept, follows}
 use Rattle.clocks.specs.declared.region.Bounds.{Bounds}
 use Rattle.clocks.specs.declared.region.Region.{Region}
 
-moved-location : (bounds : Bounds) (r : Region) (f : Follow) → (moved_to bounds r f).region.location ≡ r.location
-moved-location bounds r nothing = refl
-moved-location bounds r (cells cs) = refl
+moved-location : (bounds : Bounds) (r q : Region) (f : Follow) → moved_to bounds r f ≡ Some q → q.location ≡ r.location
+moved-location bounds r q nothing e = absurd (let z : ◌≡◌ {A = ℕ} 0 1 = cc in omega arith)
+moved-location bounds r q (cells cs) e =
+    let same : pack bounds r.location cs ≡ q = cc in
+    ap (λ (x : Region). x.location) (sym same)
 
 -- What follows by delay is at the same location.
-pub delayed-location : (bounds : Bounds) (r : Region) → (delayed bounds r).region.location ≡ r.location
+pub delayed-location : (bounds : Bounds) (r q : Region) → delayed bounds r ≡ Some q → q.location ≡ r.location
 unfolding delayed
-delayed-location bounds r = moved-location bounds r (delay (unpack bounds r))
+delayed-location bounds r q e = moved-location bounds r q (delay (unpack bounds r)) e
 
 module _ (m : Model) where
   -- A delay keeps the location.
   pub delay-location : (r q : Region) → Memᴰ q (delay_next m r) → q.location ≡ r.location
-  unfolding delay_next
-  delay-location r q n =
-      let next = (delayed (bounds_of m) r).region in
-      let k = kept m ((delayed (bounds_of m) r).any && meets (bounds_of m) m.invariants next) (next ∷ []) q n in
-      ap (λ (x : Region). x.location) (Memᴰ.eq_of_singleton k.1) ∙ delayed-location (bounds_of m) r
+  delay-location r q n = delayed-location (bounds_of m) r q (follows m r q n).0
 
   -- An edge leads to the target of one of its branches.
   pub edge-location : (r q : Region) (e : Edge) → Memᴰ q (edge_next m r e)

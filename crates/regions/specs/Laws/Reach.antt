@@ -8,17 +8,13 @@ use Rattle.std.proofs.Math.Seq.{append_snoc}
 use Rattle.std.proofs.lemmas.List.{set_at}
 use borrow.Author.Tests.{eq-eqb, eqb-true, ltb-true, ltb-false}
 use Rattle.table.specs.Model.{Model}
-use Rattle.clocks.specs.Packed.{delayed}
 use Rattle.regions.specs.Entries.{max_entries, region_at}
-use Rattle.regions.specs.Graph.{bounds_of, meets, delay_next, gather}
+use Rattle.regions.specs.Graph.{delay_next, gather}
 use Rattle.regions.specs.Index.{hash_of, last, in_bucket, last-most, last-passes, last-covers, Index, Walking, walking_start}
 use Rattle.regions.specs.Explore.{listed, listed-length, listed_at}
 use Rattle.regions.specs.View.{number_in}
 use Rattle.regions.specs.Sight.{delays_from, delay_list}
-use Rattle.regions.specs.Laws.Graph.{delay-none, delay-breaks, delay-some}
 use Rattle.regions.specs.Laws.View.{number-start, number-here, number-on, number-over}
-use Rattle.clocks.specs.declared.region.Bounds.{Bounds}
-use Rattle.clocks.specs.declared.region.Moved.{Moved}
 use Rattle.clocks.specs.declared.region.Region.{Region}
 
 -- ---- The lowest number of a region
@@ -154,30 +150,6 @@ laid-over whole before after i v l =
     )
 
 -- ---- What is reached by delay
-
-module _ (m : Model) (bounds : Bounds) (same : bounds ≡ bounds_of m) (at : Region) (moved : Moved)
-    (is : moved ≡ delayed bounds at) where
-  any-is : (delayed (bounds_of m) at).any ≡ moved.any
-  any-is = ap (λ (x : Bounds). (delayed x at).any) (sym same) ∙ ap (λ (x : Moved). x.any) (sym is)
-
-  region-is : (delayed (bounds_of m) at).region ≡ moved.region
-  region-is = ap (λ (x : Bounds). (delayed x at).region) (sym same) ∙ ap (λ (x : Moved). x.region) (sym is)
-
-  meets-is : meets (bounds_of m) m.invariants (delayed (bounds_of m) at).region ≡ meets bounds m.invariants moved.region
-  meets-is =
-      ap (meets (bounds_of m) m.invariants) region-is
-      ∙ ap (λ (x : Bounds). meets x m.invariants moved.region) (sym same)
-
-  -- The code's tests: nothing follows, what follows breaks its invariant, or it does not.
-  pub moved_none : moved.any ≡ false → delay_next m at ≡ []
-  moved_none e = delay-none m at (any-is ∙ e)
-
-  pub moved-breaks : moved.any ≡ true → meets bounds m.invariants moved.region ≡ false → delay_next m at ≡ []
-  moved-breaks e b = delay-breaks m at (any-is ∙ e) (meets-is ∙ b)
-
-  pub moved-some : moved.any ≡ true → meets bounds m.invariants moved.region ≡ true
-      → delay_next m at ≡ moved.region ∷ []
-  moved-some e b = delay-some m at (any-is ∙ e) (meets-is ∙ b) ∙ ap (λ (q : Region). q ∷ []) region-is
 
 module _ (m : Model) (found : List Region) (at : Region) where
   rest-on : (more : ℕ) (q : Region) → delay_next m at ≡ q ∷ []

@@ -10,9 +10,7 @@ pub returns : goal.returns
 unfolding bounds_of largest_constant
 returns c =
     let args = c.args in
-    let largest-invariant = c.largest_invariant in
     λ m reads placed. ap₂ (λ (n b : ℕ). record { count = n; bound = b ∷ b ∷ b ∷ b ∷ [] })
     (counts-read args.bytes.now args.shape m reads).clocks
-    (c.larger-most.ensures ∙ ap₂ max (largest-invariant.ensures m reads)
-    (c.largest_edge.ensures m reads.answer (counts-read args.bytes.now args.shape m reads).edges
-    placed))
+    (c.max-most.ensures ∙ ap₂ max (c.largest_invariant.ensures m reads)
+    (c.largest_edge.ensures m reads.answer (counts-read args.bytes.now args.shape m reads).edges placed))

@@ -18,12 +18,12 @@ loop-i-preserved c =
     let loop-test = c.loop-i-test in
     let args = c.args in
     let at = c.at in
-    let larger = c.larger-best in
+    let max-best = c.max-best in
     λ m answer few placed. let here : loop.i < length m.edges = omega (arith, loop-test.true) in let edge :
     ReadsEdge args.bytes.now at.result m loop.i = record
     { answer = answer; place_is = at.ensures ∙ placed loop.i here } in largest-on edge_constant m.edges loop.i
-    loop.best no_edge (loop.invariant m answer few placed) here larger.result
-    (larger.ensures ∙ ap (max loop.best) (c.largest_guard.ensures m loop.i edge))
+    loop.best no_edge (loop.invariant m answer few placed) here max-best.result
+    (max-best.ensures ∙ ap (max loop.best) (c.largest_guard.ensures m loop.i edge))
 
 pub returns : goal.returns
 returns c = let loop = c.loop-i in

@@ -17,10 +17,10 @@ loop-i-preserved c =
     let guard-count = c.guard_count-count in
     let loop = c.loop-i in
     let loop-test = c.loop-i-test in
-    let larger = c.larger-best in
+    let max-best = c.max-best in
     λ m e reads. let few = guard-count.ensures.value_2 m e reads in largest-on guard_constant (edge_of m e).guards loop.i loop.best
-    no_guard (loop.invariant m e reads) (omega (arith, loop-test.true)) larger.result
-    (larger.ensures ∙ ap (λ (g : Guard). max loop.best g.constant) (c.guard_at-g.ensures.value_2 m e reads))
+    no_guard (loop.invariant m e reads) (omega (arith, loop-test.true)) max-best.result
+    (max-best.ensures ∙ ap (λ (g : Guard). max loop.best g.constant) (c.guard_at.ensures.value_2 m e reads))
 
 pub returns : goal.returns
 returns c =

@@ -17,10 +17,10 @@ loop-i-preserved c =
     let args = c.args in
     let loop = c.loop-i in
     let loop-test = c.loop-i-test in
-    let larger = c.larger-best in
+    let max-best = c.max-best in
     λ m reads. let few = (counts-read args.bytes.now args.shape m reads).invariants in largest-on constant_of m.invariants
-    loop.i loop.best no_invariant (loop.invariant m reads) (omega (arith, loop-test.true)) larger.result
-    (larger.ensures ∙ ap (λ (a : Invariant). max loop.best a.constant) (c.invariant_at-a.ensures.value_2 m reads))
+    loop.i loop.best no_invariant (loop.invariant m reads) (omega (arith, loop-test.true)) max-best.result
+    (max-best.ensures ∙ ap (λ (a : Invariant). max loop.best a.constant) (c.invariant_at.ensures.value_2 m reads))
 
 pub returns : goal.returns
 returns c =

@@ -2,6 +2,7 @@
 -- of the region's bucket. The measure is the link, since links fall. Assumes nothing.
 use mathlib.Core.Path.{sym, ◌∙◌}
 use native.Mathlib.Omega.{arith}
+use Rattle.std.proofs.Common.{rules}
 use Rattle.regions.specs.Index.{walking_start, walking_on, walking-found, walking-none, next-falls}
 use Rattle.regions.proofs.index.find.Goals as goal
 
@@ -22,15 +23,15 @@ read_entry-requires c =
     let pre = c.requires in
     omega (arith, c.loop-link-test.true, c.loop-link.invariant.within, pre.few)
 
-pub returns-then-same_region : goal.returns-then-same_region
-returns-then-same_region c =
+pub returns-then-eq : goal.returns-then-eq
+returns-then-eq c =
     let args = c.args in
     let pre = c.requires in
     let loop = c.loop-link in
     let loop-test = c.loop-link-test in
     let read-entry = c.read_entry in
     walking-found args.entries.now args.head.now args.next.now args.n args.r pre loop.link loop.invariant loop-test.true
-    (sym read-entry.ensures ∙ c.same_region.ensures.holds c.if-same_region.true)
+    (sym read-entry.ensures ∙ search rules)
 
 pub link_at-link-requires-in-loop-link : goal.link_at-link-requires-in-loop-link
 link_at-link-requires-in-loop-link c =
@@ -54,11 +55,10 @@ loop-link-preserved c =
     let pre = c.requires in
     let loop = c.loop-link in
     let loop-test = c.loop-link-test in
-    let same-region = c.same_region in
     let read-entry = c.read_entry in
     rw c.link_at-link-in-loop-link.ensures
     (walking_on args.entries.now args.head.now args.next.now args.n args.r pre loop.link loop.invariant loop-test.true
-    (λ e. same-region.ensures.fails c.if-same_region.false (read-entry.ensures ∙ e)))
+    (λ e. search rules))
 
 pub returns : goal.returns
 returns c =

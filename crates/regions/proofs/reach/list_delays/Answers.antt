@@ -2,10 +2,8 @@
 -- are stored, and what that one reaches is left. Assumes nothing.
 use Prim.Native.Nat.{◌%◌}
 use native.Mathlib.Omega.{arith}
-use mathlib.Core.Path.{refl, sym, ◌∙◌}
-use borrow.Author.Tests.{not-true, not-false}
+use mathlib.Core.Path.{refl, ◌∙◌}
 use Rattle.regions.specs.Limits.{stored-as-long}
-use Rattle.regions.specs.Laws.Reach.{moved_none, moved-breaks, moved-some}
 use Rattle.regions.specs.Laws.Reach.{reaching-start, reaching-on, reaching-none, reaching-over}
 use Rattle.regions.proofs.reach.list_delays.Goals as goal
 
@@ -33,56 +31,16 @@ overflow_add-result c =
     let pre = c.requires in
     omega (arith, loop.invariant.0, pre.n_le_max_entries.0)
 
-pub shape_of-delays-then-not-moved : goal.shape_of-delays-then-not-moved
-shape_of-delays-then-not-moved c =
-    let args = c.args in
-    let loop = c.loop-i in
-    let store = c.store in
-    let number_by = c.number_by in
-    loop.invariant.1 ∙ stored-as-long args.delays.now store.new.list 0 (number_by.result % 65536) store.ensures
-
-pub returns-then-not-moved : goal.returns-then-not-moved
-returns-then-not-moved c =
+pub returns-in_default : goal.returns-in_default
+returns-in_default c =
     let args = c.args in
     let pre = c.requires in
     let number_by = c.number_by in
     let store = c.store in
     let loop = c.loop-i in
-    let loop-test = c.loop-i-test in
-    let delay = c.delay-moved in
     λ m limited same. reaching-none m args.entries.now args.n pre.n_le_max_entries.0 args.r loop.at loop.i store.new.list loop.delays
-    (loop.invariant.2 m limited same) args.delays.now (number_by.result % 65536) store.ensures loop-test.true
-    (moved_none m args.bounds same loop.at delay.result delay.ensures (not-true _ c.if-not-moved.true))
-
-pub overflow_add-result-then-not-meets_invariant : goal.overflow_add-result-then-not-meets_invariant
-overflow_add-result-then-not-meets_invariant c =
-    let loop = c.loop-i in
-    let pre = c.requires in
-    omega (arith, loop.invariant.0, pre.n_le_max_entries.0)
-
-pub shape_of-delays-then-not-meets_invariant : goal.shape_of-delays-then-not-meets_invariant
-shape_of-delays-then-not-meets_invariant c =
-    let args = c.args in
-    let loop = c.loop-i in
-    let store = c.store in
-    let number_by = c.number_by in
-    loop.invariant.1 ∙ stored-as-long args.delays.now store.new.list 0 (number_by.result % 65536) store.ensures
-
-pub returns-then-not-meets_invariant : goal.returns-then-not-meets_invariant
-returns-then-not-meets_invariant c =
-    let args = c.args in
-    let pre = c.requires in
-    let number_by = c.number_by in
-    let store = c.store in
-    let loop = c.loop-i in
-    let loop-test = c.loop-i-test in
-    let delay = c.delay-moved in
-    let if1 = c.if-not-moved in
-    let meets-invariant = c.meets_invariant in
-    λ m limited same. reaching-none m args.entries.now args.n pre.n_le_max_entries.0 args.r loop.at loop.i store.new.list loop.delays
-    (loop.invariant.2 m limited same) args.delays.now (number_by.result % 65536) store.ensures loop-test.true
-    (moved-breaks m args.bounds same loop.at delay.result delay.ensures (not-false _ if1.false)
-    (sym (meets-invariant.ensures m limited) ∙ c.if-not-meets_invariant.true))
+    (loop.invariant.2 m limited same) args.delays.now (number_by.result % 65536) store.ensures c.loop-i-test.true
+    (c.in_default.ensures m limited same)
 
 pub overflow_add-i : goal.overflow_add-i
 overflow_add-i c =
@@ -108,19 +66,14 @@ loop-i-preserved c =
     let store = c.store in
     let loop = c.loop-i in
     let loop-test = c.loop-i-test in
-    let delay = c.delay-moved in
-    let if1 = c.if-not-moved in
-    let meets-invariant = c.meets_invariant in
-    let if2 = c.if-not-meets_invariant in
     let number-by2 = c.number_by-in-loop-i in
     let store2 = c.store-in-loop-i in (
       omega (arith, loop-test.true),
       stored-as-long loop.delays store2.new.list _ (number-by2.result % 65536) store2.ensures ∙ loop.invariant.1,
       λ m limited same. reaching-on m args.entries.now args.n pre.n_le_max_entries.0 args.r loop.at loop.i store.new.list loop.delays
-          (loop.invariant.2 m limited same) (delay.result).region number-by2.result store2.new.list loop-test.true
+          (loop.invariant.2 m limited same) c.in-Some.q number-by2.result store2.new.list loop-test.true
           (omega (arith, pre.n_le_max_entries.1, stored-as-long args.delays.now store.new.list 0 (number_by.result % 65536) store.ensures))
-          (moved-some m args.bounds same loop.at delay.result delay.ensures (not-false _ if1.false)
-          (sym (meets-invariant.ensures m limited) ∙ if2.false))
+          (c.in-Some.ensures m limited same)
           number-by2.ensures.0 number-by2.ensures.1 store2.ensures,
     )
 

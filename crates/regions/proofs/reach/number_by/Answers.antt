@@ -1,10 +1,11 @@
 -- `number_by` meets its contract. The loop's invariant: the best so far is the lowest entry at or past the link that is the region.
 -- The measure is the link, since links fall. Assumes nothing.
 use native.Mathlib.Omega.{arith}
+use Rattle.std.proofs.Common.{rules}
 use mathlib.Core.Path.{sym, ◌∙◌}
 use Rattle.regions.specs.Laws.Reach.{lowest_start, lowest-falls, lowest-here, lowest-past, lowest-number}
 use Rattle.regions.proofs.reach.number_by.Goals as goal
-use Rattle.regions.proofs.reach.number_by.Goals.{then-same_region, else-same_region}
+use Rattle.regions.proofs.reach.number_by.Goals.{then-eq, else-eq}
 
 pub link_at-link-requires : goal.link_at-link-requires
 link_at-link-requires c =
@@ -47,17 +48,16 @@ loop-link-preserved c =
     let pre = c.requires in
     let loop = c.loop-link in
     let loop-test = c.loop-link-test in
-    let same-region = c.same_region in
     let read-entry = c.read_entry in
-    let if1 = c.if-same_region in
+    let if1 = c.if-eq in
     rw c.link_at-link-in-loop-link.ensures
-    (elim c.if-same_region.branch [
-      | then-same_region was ↦
+    (elim c.if-eq.branch [
+      | then-eq was ↦
           lowest-here args.entries.now args.heads.now args.links.now args.n args.q pre loop.link loop.best loop.invariant
-          loop-test.true if1.best was.best-is (sym (same-region.ensures.holds was.if-same_region.true ∙ read-entry.ensures))
-      | else-same_region was ↦
+          loop-test.true if1.best was.best-is (sym (search rules ∙ read-entry.ensures))
+      | else-eq was ↦
           lowest-past args.entries.now args.heads.now args.links.now args.n args.q pre loop.link loop.best loop.invariant
-          loop-test.true if1.best was.best-is (λ e. same-region.ensures.fails was.if-same_region.false (sym (read-entry.ensures ∙ e)))
+          loop-test.true if1.best was.best-is (λ e. search rules)
     ])
 
 pub returns : goal.returns
