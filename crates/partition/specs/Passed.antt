@@ -1,5 +1,9 @@
 -- What the layer above needs of the layers beneath: tables as they are read, regions in entries, and the theory's finite structures.
+pub use Rattle.table.specs.Reasons.{number, refusal_at}
+pub use Rattle.table.specs.declared.refusals.Reason.{Reason}
+pub use Rattle.table.specs.declared.refusals.Refusal.{Refusal}
 pub use Rattle.regions.specs.Passed.{Model, Answer, refusal, accepted, Region}
+pub use Rattle.regions.specs.declared.sight.Seen.{Seen}
 pub use Rattle.regions.specs.Call.{room_for, entries_after, whole}
 pub use Rattle.regions.specs.Entries.{entry_bytes, max_entries, region_at}
 pub use Rattle.regions.specs.Explore.{listed}

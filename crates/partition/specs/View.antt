@@ -1,29 +1,17 @@
 -- One region of the graph by itself, for the layer above: as an entry, and as an item of the graph in slices. Entries, counts and
 -- numbers are whatever is lent; those that a call left are such.
 use Rattle.std.specs.Prelude.{ℕ, zero, suc, ◌+◌, ◌*◌, ◌≤◌, ◌<◌, ◌≡◌, Bool, true, cond, List, [], ◌∷◌, ◌++◌, eqb, length, get_or, drop}
+use Rattle.std.specs.Prelude.{Option, Some, None, Result, Ok, Err}
+use Rattle.table.specs.Reasons.{refusal_at}
 use Rattle.regions.specs.Passed.{Answer, refusal, accepted}
 use Rattle.regions.specs.Explore.{listed}
-use Rattle.regions.specs.Sight.{entry_in}
-pub use Rattle.regions.specs.Sight.{is_seen, location_labels, labels_after}
+pub use Rattle.regions.specs.Sight.{is_seen, location_labels, labels_after, checked_of, entry_in}
 use Rattle.bisimulation.specs.Structures.{Branch}
 use Rattle.bisimulation.specs.Finite.{Finite}
 use Rattle.partition.specs.Instances.{graph}
 use Rattle.comparison.specs.Held.{row_room}
-use Rattle.partition.specs.declared.view.Checked.{Checked}
-use Rattle.partition.specs.declared.view.Checked.TheVariants as C
-use Rattle.partition.specs.declared.view.Entry.{Entry}
-use Rattle.partition.specs.declared.view.Showing.{Showing}
-use Rattle.partition.specs.declared.view.Showing.TheVariants as S
-
--- What reading a table comes to: a refusal, 1 to 13, or how many clocks its model has.
-abbrev pub checked_of : Answer → Checked
-checked_of (refusal number place) = C.Refused number place
-checked_of (accepted m) = C.Read m.clocks
-
--- The entry of a region: its location, and of each clock the integer part and the rank. From entry 4,096 on all are 0 (a choice of
--- ours).
-abbrev pub entry_of : List ℕ → ℕ → Entry
-entry_of es j = record { location = (entry_in es j).location; whole = (entry_in es j).whole; rank = (entry_in es j).rank }
+use Rattle.table.specs.declared.refusals.Refusal.{Refusal}
+use Rattle.regions.specs.declared.sight.Seen.{Seen}
 
 -- ---- An item in slices: what it reaches by delay, and a row of numbers for each edge: 1 where it is available, the action, the
 -- denominator, how many branches there are, and weight and target of each
@@ -46,11 +34,11 @@ pub record Alone (F : Finite) (x : ℕ) (delays delays' rows' : List ℕ) : Type
   pub few : (e : ℕ) → e < F.edges → F.available x e ≡ true → get_or rows' (row_room * e + 3) 0 ≤ 8
   pub few-edges : F.edges ≤ 128
 
--- The answer: the table is refused by reading; or item x is not seen; or its label, how many items it reaches by delay, and how many
--- edges there are.
-abbrev pub showing_of : Bool → (es : List ℕ) (n x : ℕ) → Answer → Showing
-showing_of seen es n x (refusal number place) = S.Refused number place
-showing_of seen es n x (accepted m) =
-    cond seen
-    (S.Item ((graph m (listed es n)).label x) (length ((graph m (listed es n)).delays x)) (graph m (listed es n)).edges)
-    S.Unseen
+-- What is said of an item that is seen: its label, how many items it reaches by delay, and how many edges there are.
+abbrev pub item_of : Finite → ℕ → Seen
+item_of F x = record { label = F.label x; reached = length (F.delays x); edges = F.edges }
+
+-- The answer: the table is refused by reading; or item x is not seen; or what is said of it.
+abbrev pub showing_of : Bool → (es : List ℕ) (n x : ℕ) → Answer → Result (Option Seen) Refusal
+showing_of seen es n x (refusal reason place) = Err (refusal_at reason place)
+showing_of seen es n x (accepted m) = Ok (cond seen (Some (item_of (graph m (listed es n)) x)) None)

@@ -3,7 +3,9 @@
 #![tactic(auto)]
 
 mod calls;
+mod room;
 mod view;
 
-pub use calls::{Judgement, Pairing, Reduction, judge_table, pair_table, reduce_table};
-pub use view::{Checked, Entry, Showing, check_table, entry_at, label_locations, show_item};
+pub use calls::{Reduction, judge_table, pair_table, reduce_table};
+pub use regions::{Reason, Refusal, Region, Seen, check_table, entry_at, label_locations};
+pub use view::show_item;

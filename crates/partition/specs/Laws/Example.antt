@@ -2,7 +2,7 @@
 -- its five regions and their block numbers, computed; two states that a bisimulation relates, and two of one label that none does;
 -- the answers of the partition call and the pair call.
 --   region 0 0 0 0      region 1 0 0 0+1      region 2 0 1 1      region 3 1 2 1      region 4 1 2 >
-use Rattle.std.specs.Prelude.{ℕ, ◌<◌, ◌≡◌, refl, true, false, List, [], ◌∷◌}
+use Rattle.std.specs.Prelude.{ℕ, ◌<◌, ◌≡◌, refl, true, false, List, [], ◌∷◌, Ok}
 use Rattle.std.proofs.Common.{arith, ◌∙◌, ap, ap₂}
 use Rattle.regions.specs.Passed.{reset_in, delay, atom, clock_at, delayed, after_reset, Region}
 use Rattle.regions.specs.Example.{printed, printed_model, printed-read}
@@ -17,11 +17,8 @@ use Rattle.states.specs.Placing.{state_cell, placed}
 use Rattle.states.specs.Alike.{region_in}
 use Rattle.bisimulation.specs.Bisimulations.{Bisimulation}
 use Rattle.bisimulation.specs.Finite.{related, blocks, rounds, last_blocks, block_count}
-use Rattle.partition.specs.Calls.{reduce_of, pair_of}
-use Rattle.partition.specs.Calls.{Accepted}
+use Rattle.partition.specs.Calls.{Accepted, counts, reduce_of, pair_of}
 use Rattle.partition.specs.Laws.Success.{reduce-succeeds, pair-succeeds}
-use Rattle.partition.specs.declared.calls.Reduction.TheVariants.{Blocks}
-use Rattle.partition.specs.declared.calls.Pairing.TheVariants.{Shared}
 use Rattle.partition.specs.Instances.{delays_from, graph, states, place_in}
 use Rattle.partition.specs.Laws.Instances.{call-placed}
 use Rattle.partition.specs.Laws.Bisimilar.{related-states, states-differ-any}
@@ -103,25 +100,25 @@ printed-accepted = record { model = printed_model; read = printed-read; found = 
 abbrev pub five_zeros : List ℕ
 five_zeros = 0 ∷ 0 ∷ 0 ∷ 0 ∷ 0 ∷ []
 
-counts : (block_count (graph printed_model printed_regions) (rounds (graph printed_model printed_regions)) ≡ 3)
+counted : (block_count (graph printed_model printed_regions) (rounds (graph printed_model printed_regions)) ≡ 3)
     × (rounds (graph printed_model printed_regions) ≡ 1)
 unfolding delay atom clock_at delayed after_reset reset_in largest_constant bounds_of meets fits landing lands delay_next first
     same_region number_in label_of delays_from last_blocks blocks rounds block_count
-counts = (refl, refl)
+counted = (refl, refl)
 
 -- "regions 5 blocks 3 rounds 1"
-pub printed-reduced : reduce_of printed 5 five_zeros five_zeros ≡ Blocks 5 3 1
+pub printed-reduced : reduce_of printed 5 five_zeros five_zeros ≡ Ok (counts 5 3 1)
 unfolding printed-accepted
 printed-reduced =
     reduce-succeeds printed 5 printed-accepted five_zeros five_zeros (omega arith) (omega arith)
-    ∙ ap₂ (λ (b k : ℕ). Blocks 5 b k) counts.0 counts.1
+    ∙ ap₂ (λ (b k : ℕ). Ok (counts 5 b k)) counted.0 counted.1
 
 -- Regions 0 and 1 share a block, regions 0 and 2 do not.
-pub printed-pairs : (pair_of printed 5 five_zeros five_zeros 0 1 ≡ Shared true)
-    × (pair_of printed 5 five_zeros five_zeros 0 2 ≡ Shared false)
+pub printed-pairs : (pair_of printed 5 five_zeros five_zeros 0 1 ≡ Ok true)
+    × (pair_of printed 5 five_zeros five_zeros 0 2 ≡ Ok false)
 unfolding printed-accepted
 printed-pairs =
     let says = pair-succeeds printed 5 printed-accepted five_zeros five_zeros (omega arith) (omega arith) in (
-      says 0 1 (omega arith) (omega arith) ∙ ap (λ (l : List ℕ). Shared (related l 0 1)) printed-numbers,
-      says 0 2 (omega arith) (omega arith) ∙ ap (λ (l : List ℕ). Shared (related l 0 2)) printed-numbers,
+      says 0 1 (omega arith) (omega arith) ∙ ap (λ (l : List ℕ). Ok (related l 0 1)) printed-numbers,
+      says 0 2 (omega arith) (omega arith) ∙ ap (λ (l : List ℕ). Ok (related l 0 2)) printed-numbers,
     )

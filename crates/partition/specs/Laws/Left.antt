@@ -2,7 +2,7 @@
 -- lent block lists then hold (`reduced-first`, `reduced-second`); that the blocks so listed are all taken, that the graph does not
 -- lead out of its regions, and that a block has one label (`left-taken` to `left-labels`). And what one that refused says of other calls
 -- (`reduced-refused`, `no-sixteen`).
-use Rattle.std.specs.Prelude.{ℕ, ◌≤◌, ◌<◌, ◌≡◌, refl, Bool, true, false, cond, get_or}
+use Rattle.std.specs.Prelude.{ℕ, ◌≤◌, ◌<◌, ◌≡◌, refl, Bool, true, false, cond, get_or, Result, Ok, Err}
 use Rattle.std.proofs.Common.{arith, ◌∙◌, get_or-take, eq-eqb}
 use Rattle.std.proofs.Math.Path.{sym, ap, ap₂}
 use mathlib.Core.List.{List, ◌++◌, Memᴰ}
@@ -19,15 +19,18 @@ use Rattle.bisimulation.specs.Finite.{Finite, structure, related, blocks, rounds
 use Rattle.bisimulation.proofs.Laws.Blocks.{blocks-length, blocks-range, blocks-taken, count-some, last-bisimulation}
 use Rattle.bisimulation.proofs.Laws.Leads.{leaders-most}
 use Rattle.partition.specs.Instances.{graph}
-use Rattle.partition.specs.Calls.{from_outcome, after_graph, is_short, blocks_of, reduce_of, list_after}
+use Rattle.partition.specs.Calls.{from_outcome, after_graph, refuses, counts, is_short, blocks_of, reduce_of, list_after}
 use Rattle.partition.specs.Promises.{Reduced}
 use Rattle.partition.specs.Left.{Left}
 use Rattle.partition.specs.Laws.Instances.{call-closed}
 use Rattle.partition.specs.Laws.Success.{reduce-succeeds}
 use Rattle.partition.specs.Calls.{Accepted}
 use Rattle.partition.specs.Laws.Calls.{on-accepted, reduce-accepted, reduce-lists}
+use Rattle.table.specs.Reasons.{number, refusal_at}
+use Rattle.table.specs.declared.refusals.Reason.{Reason}
+use Rattle.table.specs.declared.refusals.Reason.TheVariants.{TooManyRegions, ShortList}
+use Rattle.table.specs.declared.refusals.Refusal.{Refusal}
 use Rattle.partition.specs.declared.calls.Reduction.{Reduction}
-use Rattle.partition.specs.declared.calls.Reduction.TheVariants as B
 
 -- Every block has a leader of its own.
 count_most : (F : Finite) (k : ℕ) → block_count F k ≤ F.size
@@ -41,33 +44,18 @@ last-length F = blocks-length F (rounds F)
 closed_in : (table : List ℕ) (cap : ℕ) (a : Accepted table cap) → Closed (structure (graph a.model a.found))
 closed_in table cap a = call-closed table cap a.found a.out a.model a.read
 
--- The three counts of an answer.
-abbrev regions_in : Reduction → ℕ
-regions_in (B.Refused number place) = 0
-regions_in (B.Blocks n b k) = n
-
-abbrev blocks_in : Reduction → ℕ
-blocks_in (B.Refused number place) = 0
-blocks_in (B.Blocks n b k) = b
-
-abbrev rounds_in : Reduction → ℕ
-rounds_in (B.Refused number place) = 0
-rounds_in (B.Blocks n b k) = k
-
-abbrev kind_of : Reduction → ℕ
-kind_of (B.Refused number place) = 0
-kind_of (B.Blocks n b k) = 1
-
-counts_of : (short : Bool) (n b k n' b' k' : ℕ) → cond short (B.Refused 16 0) (B.Blocks n' b' k') ≡ B.Blocks n b k
+counts_of : (short : Bool) (n b k n' b' k' : ℕ) → cond short (refuses ShortList 0) (Ok (counts n' b' k')) ≡ Ok (counts n b k)
     → (n ≡ n') × (b ≡ b') × (k ≡ k')
-counts_of true n b k n' b' k' e = absurd (omega (arith, ap kind_of e))
-counts_of false n b k n' b' k' e = (sym (ap regions_in e), sym (ap blocks_in e), sym (ap rounds_in e))
+counts_of true n b k n' b' k' e = cc
+counts_of false n b k n' b' k' e =
+    let is : counts n b k ≡ counts n' b' k' = cc in
+    (ap (λ (r : Reduction). r.regions) is, ap (λ (r : Reduction). r.blocks) is, ap (λ (r : Reduction). r.rounds) is)
 
 module _ (table entries first second : List ℕ) (n b k : ℕ) (entries' : List ℕ) where
   abbrev cap : ℕ
   cap = room_for (length entries)
 
-  left_in : B.Blocks n b k ≡ reduce_of table cap first second → entries' ≡ entries_after entries (outcome_of table cap)
+  left_in : Ok (counts n b k) ≡ reduce_of table cap first second → entries' ≡ entries_after entries (outcome_of table cap)
       → (list list' : List ℕ) → list' ≡ list_after table cap first second list → Left table cap n b k entries' list'
   unfolding reduce_of
   left_in answer held list list' is =
@@ -75,7 +63,7 @@ module _ (table entries first second : List ℕ) (n b k : ℕ) (entries' : List 
       let F : Finite = graph a.model a.found in
       let (en, eb, ek) =
       counts_of (is_short (length a.found) first second) n b k (length a.found) (block_count F (rounds F)) (rounds F)
-      (sym (answer ∙ on-accepted B.Refused (blocks_of first second) table cap a)) in
+      (sym (answer ∙ on-accepted refuses (blocks_of first second) table cap a)) in
       let (begun, all, fits) = whole-graph table cap a.found a.out in
       let now : list' ≡ last_blocks F ++ drop (length a.found) list = is ∙ reduce-lists table cap first second n b k (sym answer) list in
       let long = ap length now ∙ length-append (last_blocks F) (drop (length a.found) list) in
@@ -95,7 +83,7 @@ module _ (table entries first second : List ℕ) (n b k : ℕ) (entries' : List 
         some-blocks = omega (arith, eb, count-some F (closed_in table cap a) (rounds F) all.some);
       }
 
-  module _ (first' second' : List ℕ) (r : Reduced table entries first second (B.Blocks n b k) entries' first' second') where
+  module _ (first' second' : List ℕ) (r : Reduced table entries first second (Ok (counts n b k)) entries' first' second') where
     -- What the first list then holds.
     pub reduced-first : Left table cap n b k entries' first'
     reduced-first = left_in r.answer-is r.entries-are first first' r.first-is
@@ -159,57 +147,56 @@ module _ {table : List ℕ} {cap n b k : ℕ} {entries list : List ℕ} (left : 
 
 -- ---- A call that refused
 
-abbrev number_in : Reduction → ℕ
-number_in (B.Refused number place) = number
-number_in (B.Blocks n b k) = 0
-
-abbrev place_in : Reduction → ℕ
-place_in (B.Refused number place) = place
-place_in (B.Blocks n b k) = 0
-
 -- Where the partition call refused, and not since a lent list is too short (16), whatever else is said after the graph call is refused
--- with the same number and place.
-pub reduced-refused : {A : Type 0} (refuse : ℕ → ℕ → A) (go : Model → List Region → A) (table : List ℕ) (cap : ℕ)
-    (first second : List ℕ) (number place : ℕ) → B.Refused number place ≡ reduce_of table cap first second → (number ≡ 16 → ⊥)
-    → after_graph refuse go cap (read_table table) ≡ refuse number place
+-- with the same reason and place.
+pub reduced-refused : {A : Type 0} (refuse : Reason → ℕ → A) (go : Model → List Region → A) (table : List ℕ) (cap : ℕ)
+    (first second : List ℕ) (r : Refusal) → Err r ≡ reduce_of table cap first second → (r.reason ≡ ShortList → ⊥)
+    → after_graph refuse go cap (read_table table) ≡ refuse r.reason r.place
 unfolding reduce_of
-reduced-refused {A} refuse go table cap first second number place e other = by_answer (read_table table) e
+reduced-refused {A} refuse go table cap first second r e other = by_answer (read_table table) e
   where
-    by_length : (short : Bool) (n b k : ℕ) → B.Refused number place ≡ cond short (B.Refused 16 0) (B.Blocks n b k) → ⊥
-    by_length true n b k e = other (ap number_in e)
-    by_length false n b k e = omega (arith, ap kind_of e)
+    same : (reason : Reason) (place : ℕ) → ◌≡◌ {A = Result Reduction Refusal} (Err r) (refuses reason place) → refuse reason place ≡ refuse r.reason r.place
+    same reason place e = let is : refusal_at reason place ≡ r = cc in ap (λ (x : Refusal). refuse x.reason x.place) is
 
-    by-outcome : (m : Model) (o : Outcome) → B.Refused number place ≡ from_outcome B.Refused (blocks_of first second m) o
-        → from_outcome refuse (go m) o ≡ refuse number place
-    by-outcome m (refused x y) e = sym (ap₂ refuse (ap number_in e) (ap place_in e))
-    by-outcome m (cut found) e = sym (ap₂ refuse (ap number_in e) (ap place_in e))
+    by_length : (short : Bool) (n b k : ℕ) → Err r ≡ cond short (refuses ShortList 0) (Ok (counts n b k)) → ⊥
+    by_length true n b k e = let is : r ≡ refusal_at ShortList 0 = cc in other (ap (λ (x : Refusal). x.reason) is)
+    by_length false n b k e = cc
+
+    by-outcome : (m : Model) (o : Outcome) → Err r ≡ from_outcome refuses (blocks_of first second m) o
+        → from_outcome refuse (go m) o ≡ refuse r.reason r.place
+    by-outcome m (refused reason place) e = same reason place e
+    by-outcome m (cut found) e = same TooManyRegions 0 e
     by-outcome m (whole found) e = absurd (by_length (is_short (length found) first second) _ _ _ e)
 
-    by_answer : (x : Answer) → B.Refused number place ≡ after_graph B.Refused (blocks_of first second) cap x
-        → after_graph refuse go cap x ≡ refuse number place
-    by_answer (refusal x y) e = sym (ap₂ refuse (ap number_in e) (ap place_in e))
+    by_answer : (x : Answer) → Err r ≡ after_graph refuses (blocks_of first second) cap x
+        → after_graph refuse go cap x ≡ refuse r.reason r.place
+    by_answer (refusal reason place) e = same reason place e
     by_answer (accepted m) e = by-outcome m (from_answer cap (accepted m)) e
 
 -- 16 is not among the numbers that it refuses with, where both lists are as long as there is room for regions.
-pub no-sixteen : (table : List ℕ) (cap : ℕ) (first second : List ℕ) (number place : ℕ)
-    → B.Refused number place ≡ reduce_of table cap first second → cap ≤ length first → cap ≤ length second → number ≡ 16 → ⊥
+pub no-sixteen : (table : List ℕ) (cap : ℕ) (first second : List ℕ) (r : Refusal)
+    → Err r ≡ reduce_of table cap first second → cap ≤ length first → cap ≤ length second → r.reason ≡ ShortList → ⊥
 unfolding reduce_of outcome_of
-no-sixteen table cap first second number place e one two is = by_answer (read_table table) refl e
+no-sixteen table cap first second r e one two is = by_answer (read_table table) refl e
   where
-    low : (n p : ℕ) → outcome_of table cap ≡ refused n p → B.Refused number place ≡ B.Refused n p → ⊥
-    low n p o e = let most = (refused-number table cap n p o).1 in omega (arith, most, ap number_in e, is)
+    low : (reason : Reason) (place : ℕ) → outcome_of table cap ≡ refused reason place → ◌≡◌ {A = Result Reduction Refusal} (Err r) (refuses reason place) → ⊥
+    low reason place o e =
+        let most = (refused-number table cap reason place o).1 in
+        let same : r ≡ refusal_at reason place = cc in
+        omega (arith, most, ap (λ (x : Refusal). number x.reason) same, ap number is)
 
     by-outcome : (m : Model) → read_table table ≡ accepted m → (o : Outcome) → from_answer cap (accepted m) ≡ o
-        → B.Refused number place ≡ from_outcome B.Refused (blocks_of first second m) o → ⊥
+        → Err r ≡ from_outcome refuses (blocks_of first second m) o → ⊥
     by-outcome m t (refused n p) o f = low n p (ap (from_answer cap) t ∙ o) f
-    by-outcome m t (cut found) o f = omega (arith, ap number_in f, is)
+    by-outcome m t (cut found) o f =
+        let same : r ≡ refusal_at TooManyRegions 0 = cc in omega (arith, ap (λ (x : Refusal). number x.reason) same, ap number is)
     by-outcome m t (whole found) o f =
         let out : outcome_of table cap ≡ whole found = ap (from_answer cap) t ∙ o in
         let fits = (whole-graph table cap found out).2 in
         let a : Accepted table cap = record { model = m; read = t; found = found; out = out } in
         let done = reduce-succeeds table cap a first second (omega (arith, fits, one)) (omega (arith, fits, two)) in
-        omega (arith, ap kind_of (e ∙ done))
+        cc
 
-    by_answer : (x : Answer) → read_table table ≡ x → B.Refused number place ≡ after_graph B.Refused (blocks_of first second) cap x → ⊥
+    by_answer : (x : Answer) → read_table table ≡ x → Err r ≡ after_graph refuses (blocks_of first second) cap x → ⊥
     by_answer (refusal n p) t f = low n p (ap (from_answer cap) t) f
     by_answer (accepted m) t f = by-outcome m t (from_answer cap (accepted m)) refl f

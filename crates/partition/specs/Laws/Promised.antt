@@ -5,7 +5,7 @@
 -- pair call on these two regions, the call says in exactly the same cases that they share no block." When the list finds none for
 -- either call is said in Success (`reduce-exactly`, `pair-exactly`).
 use Prim.Native.Nat.{ℕ}
-use Rattle.std.specs.Prelude.{◌≡◌, refl, Bool, true, false, ◌↔◌, length}
+use Rattle.std.specs.Prelude.{◌≡◌, refl, Bool, true, false, ◌↔◌, length, Result, Ok}
 use Rattle.std.proofs.Math.Path.{sym, ap, subst}
 use Rattle.std.proofs.Common.{◌∙◌, eqb-true, eq-eqb}
 use Rattle.std.proofs.lemmas.Bool.{false≢true}
@@ -20,21 +20,19 @@ use Rattle.bisimulation.specs.Bisimulations.{Bisimulation}
 use Rattle.bisimulation.specs.Finite.{related, last_blocks, block_count, rounds as last_round}
 use Rattle.partition.specs.Instances.{graph, states, block_in}
 use Rattle.partition.specs.Laws.Bisimilar.{related-states, parted-states}
-use Rattle.partition.specs.Calls.{Accepted, Inside, region_number, numbered_in, list_after, pair_of}
+use Rattle.partition.specs.Calls.{counts, Accepted, Inside, region_number, numbered_in, list_after, pair_of}
 use Rattle.partition.specs.Promises.{Reduced, Paired}
 use Rattle.partition.specs.Laws.Instances.{call-placed}
 use Rattle.partition.specs.Laws.Success.{one-model, reduce-succeeds, reduce-holds, calls-agree}
 use Rattle.partition.specs.Laws.Calls.{numbered-at, reduce-accepted, reduce-lists, pair-accepted, pair-shares, pair-long, pair-lists}
 use Rattle.partition.specs.declared.calls.Reduction.{Reduction}
-use Rattle.partition.specs.declared.calls.Reduction.TheVariants.{Blocks}
-use Rattle.partition.specs.declared.calls.Pairing.{Pairing}
-use Rattle.partition.specs.declared.calls.Pairing.TheVariants.{Shared}
+use Rattle.table.specs.declared.refusals.Refusal.{Refusal}
 
 -- ---- The partition call
 
-module _ (table entries first second : List ℕ) (answer : Reduction) (entries' first' second' : List ℕ)
+module _ (table entries first second : List ℕ) (answer : Result Reduction Refusal) (entries' first' second' : List ℕ)
     (promised : Reduced table entries first second answer entries' first' second') (n blocks rounds : ℕ)
-    (succeeded : answer ≡ Blocks n blocks rounds) where
+    (succeeded : answer ≡ Ok (counts n blocks rounds)) where
   -- The model and its regions.
   pub accepted-model : Accepted table (room_for (length entries))
   accepted-model =
@@ -127,9 +125,9 @@ module _ (table entries first second : List ℕ) (answer : Reduction) (entries' 
 
 -- ---- The pair call, on the regions of two states
 
-module _ (table entries first second : List ℕ) (r s : ℕ) (answer : Pairing) (entries' first' second' : List ℕ)
+module _ (table entries first second : List ℕ) (r s : ℕ) (answer : Result Bool Refusal) (entries' first' second' : List ℕ)
     (promised : Paired table entries first second r s answer entries' first' second') (shares : Bool)
-    (succeeded : answer ≡ Shared shares) where
+    (succeeded : answer ≡ Ok shares) where
   pub paired-model : Accepted table (room_for (length entries))
   paired-model = pair-accepted table (room_for (length entries)) first second r s shares (sym promised.answer-is ∙ succeeded)
 
@@ -143,13 +141,13 @@ module _ (table entries first second : List ℕ) (r s : ℕ) (answer : Pairing) 
 
   -- So it leaves what the partition call leaves on the same.
   pub pair-leaves : Reduced table entries first second
-      (Blocks (length paired-model.found)
+      (Ok (counts (length paired-model.found)
       (block_count (graph paired-model.model paired-model.found) (last_round (graph paired-model.model paired-model.found)))
-      (last_round (graph paired-model.model paired-model.found))) entries' first' second'
+      (last_round (graph paired-model.model paired-model.found)))) entries' first' second'
   unfolding paired-model
   pair-leaves =
       let cap : ℕ = room_for (length entries) in
-      let is : pair_of table cap first second r s ≡ Shared shares = sym promised.answer-is ∙ succeeded in
+      let is : pair_of table cap first second r s ≡ Ok shares = sym promised.answer-is ∙ succeeded in
       let (one, two) = pair-long table cap first second r s shares is in
       record {
         answer-is = sym (reduce-succeeds table cap paired-model first second one two);
@@ -193,12 +191,12 @@ module _ (table entries first second : List ℕ) (r s : ℕ) (answer : Pairing) 
 
 -- ---- Both calls on one table, whatever was lent to each: "the call says in exactly the same cases that they share no block"
 
-module _ (table entries first second : List ℕ) (answer : Reduction) (entries' first' second' : List ℕ)
+module _ (table entries first second : List ℕ) (answer : Result Reduction Refusal) (entries' first' second' : List ℕ)
     (promised : Reduced table entries first second answer entries' first' second') (n blocks rounds : ℕ)
-    (succeeded : answer ≡ Blocks n blocks rounds)
-    (entries₂ first₂ second₂ : List ℕ) (r s : ℕ) (answer₂ : Pairing) (entries₂' first₂' second₂' : List ℕ)
+    (succeeded : answer ≡ Ok (counts n blocks rounds))
+    (entries₂ first₂ second₂ : List ℕ) (r s : ℕ) (answer₂ : Result Bool Refusal) (entries₂' first₂' second₂' : List ℕ)
     (promised₂ : Paired table entries₂ first₂ second₂ r s answer₂ entries₂' first₂' second₂') (shares : Bool)
-    (succeeded₂ : answer₂ ≡ Shared shares) where
+    (succeeded₂ : answer₂ ≡ Ok shares) where
   pub model : Accepted table (room_for (length entries))
   model = accepted-model table entries first second answer entries' first' second' promised n blocks rounds succeeded
 

@@ -1,30 +1,27 @@
 -- When the partition call and the pair call succeed, that an accepted table has one model and one list of regions whatever was lent,
 -- and that the two calls say the same.
-use Rattle.std.specs.Prelude.{ℕ, ◌≤◌, ◌<◌, ◌↔◌, ◌≡◌, Bool, true, false, List, [], leb, length, get_or}
+use Rattle.std.specs.Prelude.{ℕ, ◌≤◌, ◌<◌, ◌↔◌, ◌≡◌, Bool, true, false, List, [], leb, length, get_or, Ok}
 use Rattle.std.proofs.Common.{arith, sym, ◌∙◌, ap, ap₂}
 use Rattle.std.proofs.Math.Path.{refl}
-use Rattle.std.proofs.Math.Bool.{cond}
 use borrow.Author.Tests.{eqb-true, eq-eqb, le-ltb, lt-leb, leb-true, leb-false}
 use Rattle.regions.specs.Passed.{Model, Answer, refusal, accepted, Region}
 use Rattle.regions.specs.Call.{Outcome, refused, cut, whole}
 use Rattle.regions.specs.Laws.Call.{more_room}
 use Rattle.bisimulation.specs.Finite.{related, last_blocks, rounds, block_count}
 use Rattle.partition.specs.Instances.{graph}
-use Rattle.partition.specs.Calls.{is_short, blocks_of, numbered_in, shared_of, reduce_of, list_after, pair_of}
+use Rattle.partition.specs.Calls.{refuses, counts, is_short, blocks_of, numbered_in, shared_of, reduce_of, list_of, list_after, pair_of}
 use Rattle.partition.specs.Laws.Calls.{on-accepted, numbered-at, reduce-accepted, reduce-long, reduce-lists}
 use Rattle.partition.specs.Laws.Calls.{pair-accepted, pair-shares, pair-long, pair-below}
 use Rattle.partition.specs.Calls.{Accepted}
-use Rattle.partition.specs.declared.calls.Reduction.TheVariants as B
-use Rattle.partition.specs.declared.calls.Pairing.TheVariants as P
 
 -- ---- An accepted table has one model and one list of regions
 
 abbrev model_in : Model → Answer → Model
-model_in other (refusal number place) = other
+model_in other (refusal reason place) = other
 model_in other (accepted m) = m
 
 abbrev regions_in : Outcome → List Region
-regions_in (refused number place) = []
+regions_in (refused reason place) = []
 regions_in (cut found) = []
 regions_in (whole found) = found
 
@@ -49,30 +46,29 @@ module _ (table : List ℕ) (cap : ℕ) (a : Accepted table cap) (first second :
 
   -- Nothing is refused where the table is accepted and both lists are long enough: N, the count of blocks and the count of rounds.
   pub reduce-succeeds : reduce_of table cap first second
-      ≡ B.Blocks (length a.found) (block_count (graph a.model a.found) (rounds (graph a.model a.found)))
-      (rounds (graph a.model a.found))
+      ≡ Ok (counts (length a.found) (block_count (graph a.model a.found) (rounds (graph a.model a.found)))
+      (rounds (graph a.model a.found)))
   unfolding reduce_of
-  reduce-succeeds = on-accepted B.Refused (blocks_of first second) table cap a ∙ rw not_short refl
+  reduce-succeeds = on-accepted refuses (blocks_of first second) table cap a ∙ rw not_short refl
 
   -- Both lists then hold the blocks.
   pub reduce-holds : (list : List ℕ) → list_after table cap first second list ≡ numbered_in list a.model a.found
   unfolding list_after
   reduce-holds list =
-      on-accepted (λ number place. list) (λ m found. cond (is_short (length found) first second) list (numbered_in list m found)) table cap
-      a
+      on-accepted (λ reason place. list) (list_of first second list) table cap a
       ∙ rw not_short refl
 
   -- The pair call, where moreover both numbers are those of regions.
   pub pair-succeeds : (r s : ℕ) → r < length a.found → s < length a.found
-      → pair_of table cap first second r s ≡ P.Shared (related (last_blocks (graph a.model a.found)) r s)
+      → pair_of table cap first second r s ≡ Ok (related (last_blocks (graph a.model a.found)) r s)
   unfolding pair_of
   pair-succeeds r s hr hs =
-      on-accepted P.Refused (shared_of first second r s) table cap a
+      on-accepted refuses (shared_of first second r s) table cap a
       ∙ rw (not_short, lt-leb (length a.found) r hr, lt-leb (length a.found) s hs) refl
 
 -- Exactly where: the calls answer no refusal only there.
 module _ (table : List ℕ) (cap : ℕ) (first second : List ℕ) where
-  pub reduce-exactly : ((n : ℕ) × (b : ℕ) × (k : ℕ) × (reduce_of table cap first second ≡ B.Blocks n b k))
+  pub reduce-exactly : ((n : ℕ) × (b : ℕ) × (k : ℕ) × (reduce_of table cap first second ≡ Ok (counts n b k)))
       ↔ ((a : Accepted table cap) × (length a.found ≤ length first) × (length a.found ≤ length second))
   reduce-exactly = (
     λ t.
@@ -82,7 +78,7 @@ module _ (table : List ℕ) (cap : ℕ) (first second : List ℕ) where
     λ t. let (a, one, two) = t in (_, _, _, reduce-succeeds table cap a first second one two),
   )
 
-  pub pair-exactly : (r s : ℕ) → ((v : Bool) × (pair_of table cap first second r s ≡ P.Shared v))
+  pub pair-exactly : (r s : ℕ) → ((v : Bool) × (pair_of table cap first second r s ≡ Ok v))
       ↔ ((a : Accepted table cap) × (length a.found ≤ length first) × (length a.found ≤ length second)
       × (r < length a.found) × (s < length a.found))
   pair-exactly r s = (
@@ -97,8 +93,8 @@ module _ (table : List ℕ) (cap : ℕ) (first second : List ℕ) where
 -- ---- The pair call says the same as the lists of the partition call, whatever was lent to either
 
 module _ (table : List ℕ) (cap cap' : ℕ) (first second first₂ second₂ : List ℕ) (n b k : ℕ)
-    (reduced : reduce_of table cap first second ≡ B.Blocks n b k) (r s : ℕ) (shares : Bool)
-    (paired : pair_of table cap' first₂ second₂ r s ≡ P.Shared shares) where
+    (reduced : reduce_of table cap first second ≡ Ok (counts n b k)) (r s : ℕ) (shares : Bool)
+    (paired : pair_of table cap' first₂ second₂ r s ≡ Ok shares) where
   abbrev mine : Accepted table cap
   mine = reduce-accepted table cap first second n b k reduced
 

@@ -1,60 +1,44 @@
 -- What the region layer says of one region is what the layer above is told of an item of the graph.
 use Rattle.std.specs.Prelude.{ℕ, zero, suc, ◌+◌, ◌*◌, ◌≤◌, ◌<◌, ◌≡◌, refl, Bool, true, false}
-use Rattle.std.specs.Prelude.{cond, List, [], ◌∷◌, ◌++◌, map, eqb, ltb, length, get_or, drop}
-use Rattle.std.proofs.Common.{arith, sym, ◌∙◌, ap, ap₂, subst, lt-ltb, le-leb}
+use Rattle.std.specs.Prelude.{cond, List, [], ◌∷◌, ◌++◌, map, eqb, ltb, length, get_or, drop, Option, Some, None, Result, Ok, Err}
+use Rattle.std.proofs.Common.{arith, sym, ◌∙◌, ap, subst, lt-ltb, le-leb}
 use Rattle.regions.specs.Passed.{Model, Answer, refusal, accepted, read_table, edge_of, Branch as ModelBranch, Region}
 use Rattle.regions.specs.Graph.{first}
 use Rattle.regions.specs.Explore.{listed, listed_at}
 pub use Rattle.regions.specs.Explore.{listed-length}
 use Rattle.regions.specs.Entries.{entry_bytes, max_entries, region_at}
 use Rattle.regions.specs.View.{label_of, Way, way_of}
-use Rattle.regions.specs.Sight as R
 use Rattle.regions.specs.Sight.{no_region, entry_in, delay_list, ways_from, Stepping, is_seen, sight_of, Sighted}
 use Rattle.regions.specs.Laws.Sight.{seen_parts, seen-rest, labels_at}
 use Rattle.regions.specs.Laws.Shown.{few-edges, few-branches}
 pub use Rattle.regions.specs.Laws.Shown.{few-clocks}
-use Rattle.regions.specs.declared.sight.Checked.{Checked as RegionsChecked}
-use Rattle.regions.specs.declared.sight.Checked.TheVariants as RC
-use Rattle.regions.specs.declared.sight.Sight.{Sight}
-use Rattle.regions.specs.declared.sight.Sight.TheVariants as RS
 use Rattle.bisimulation.specs.Structures.{Branch}
 use Rattle.partition.specs.Instances.{region_of, lands_at, graph}
 use Rattle.comparison.specs.Held.{row_room}
-use Rattle.partition.specs.View.{checked_of, location_labels, entry_of, branches_from, Alone, showing_of}
-use Rattle.partition.specs.declared.view.Checked.{Checked}
-use Rattle.partition.specs.declared.view.Checked.TheVariants as C
-use Rattle.partition.specs.declared.view.Showing.{Showing}
-use Rattle.partition.specs.declared.view.Showing.TheVariants as S
+use Rattle.partition.specs.View.{checked_of, location_labels, branches_from, Alone, item_of, showing_of}
+use Rattle.table.specs.Reasons.{refusal_at}
+use Rattle.table.specs.declared.refusals.Refusal.{Refusal}
+use Rattle.regions.specs.declared.sight.Seen.{Seen}
 
 -- ---- Answers
-
-abbrev pub from_checked : RegionsChecked → Checked
-from_checked (RC.Refused number place) = C.Refused number place
-from_checked (RC.Read clocks) = C.Read clocks
-
-pub checked-from : (a : Answer) → from_checked (R.checked_of a) ≡ checked_of a
-checked-from (refusal number place) = refl
-checked-from (accepted m) = refl
-
-abbrev pub from_sight : Sight → Showing
-from_sight (RS.Refused number place) = S.Refused number place
-from_sight RS.Unseen = S.Unseen
-from_sight (RS.Seen label reached edges) = S.Item label reached edges
 
 -- Region x of the graph is that at entry x.
 here : (m : Model) (es : List ℕ) (n x : ℕ) → x < n → get_or (listed es n) x (first m) ≡ region_at es x
 here m es n x h = listed_at es n x (first m) h
 
 pub showing-from : (n x entries delays rows : ℕ) (es : List ℕ) (a : Answer)
-    → from_sight (sight_of (is_seen n x entries delays rows) es n x a) ≡ showing_of (is_seen n x entries delays rows) es n x a
-showing-from n x entries delays rows es (refusal number place) = refl
+    → sight_of (is_seen n x entries delays rows) es n x a ≡ showing_of (is_seen n x entries delays rows) es n x a
+showing-from n x entries delays rows es (refusal reason place) = refl
 showing-from n x entries delays rows es (accepted m) = go (is_seen n x entries delays rows) refl
   where
-    go : (b : Bool) → is_seen n x entries delays rows ≡ b → from_sight (sight_of b es n x (accepted m)) ≡ showing_of b es n x (accepted m)
+    go : (b : Bool) → is_seen n x entries delays rows ≡ b → sight_of b es n x (accepted m) ≡ showing_of b es n x (accepted m)
     go false e = refl
     go true e =
         let h : x < n = (seen_parts n x entries delays rows e).1 in
-        ap (λ (q : Region). S.Item (label_of m q) (length (delay_list m (listed es n) q)) (length m.edges)) (sym (here m es n x h))
+        ap
+        (λ (q : Region).
+        Ok (Some (record { label = label_of m q; reached = length (delay_list m (listed es n) q); edges = length m.edges })))
+        (sym (here m es n x h))
 
 -- ---- Slices
 
@@ -123,19 +107,17 @@ module _ (table : List ℕ) (m : Model) (read : read_table table ≡ accepted m)
 
 -- The entry of a region of the graph.
 pub entry_listed : (m : Model) (es : List ℕ) (n x : ℕ) → x < n → n ≤ max_entries → (q : Region) → q ≡ region_of m (listed es n) x
-    → ((entry_of es x).location ≡ q.location) × ((entry_of es x).whole ≡ q.whole) × ((entry_of es x).rank ≡ q.rank)
+    → entry_in es x ≡ q
 entry_listed m es n x h few q e =
-    let is : entry_in es x ≡ q =
-    ap (λ (b : Bool). cond b (region_at es x) no_region) (lt-ltb x max_entries (omega (arith, h, few))) ∙ sym (here m es n x h) ∙ sym e in
-    (ap (λ (r : Region). r.location) is, ap (λ (r : Region). r.whole) is, ap (λ (r : Region). r.rank) is)
+    ap (λ (b : Bool). cond b (region_at es x) no_region) (lt-ltb x max_entries (omega (arith, h, few))) ∙ sym (here m es n x h) ∙ sym e
 
 -- The label of an item of the graph is that of its entry's location.
-pub label-listed : (m : Model) (es : List ℕ) (n x k : ℕ) → x < n → n ≤ max_entries → (entry_of es x).location < k
-    → get_or (location_labels m k) (entry_of es x).location 0 ≡ (graph m (listed es n)).label x
+pub label-listed : (m : Model) (es : List ℕ) (n x k : ℕ) → x < n → n ≤ max_entries → (entry_in es x).location < k
+    → get_or (location_labels m k) (entry_in es x).location 0 ≡ (graph m (listed es n)).label x
 unfolding label_of
 label-listed m es n x k h few below =
-    labels_at m k (entry_of es x).location below
-    ∙ ap (λ (l : ℕ). get_or m.labels l 0) (entry_listed m es n x h few (region_of m (listed es n) x) refl).0
+    labels_at m k (entry_in es x).location below
+    ∙ ap (λ (r : Region). get_or m.labels r.location 0) (entry_listed m es n x h few (region_of m (listed es n) x) refl)
 
 four-small : (a b c d : ℕ) → a < 256 → b < 256 → c < 256 → d < 256 → (i : ℕ) → get_or (a ∷ b ∷ c ∷ d ∷ []) i 0 < 256
 four-small a b c d ha hb hc hd zero = ha
@@ -145,8 +127,8 @@ four-small a b c d ha hb hc hd (suc (suc (suc zero))) = hd
 four-small a b c d ha hb hc hd (suc (suc (suc (suc i)))) = omega arith
 
 -- Its numbers are bytes where those of the entries are.
-pub entry-small : (es : List ℕ) → ((k : ℕ) → get_or es k 0 < 256) → (x : ℕ) → ((entry_of es x).location < 256)
-    × ((i : ℕ) → get_or (entry_of es x).whole i 0 < 256) × ((i : ℕ) → get_or (entry_of es x).rank i 0 < 256)
+pub entry-small : (es : List ℕ) → ((k : ℕ) → get_or es k 0 < 256) → (x : ℕ) → ((entry_in es x).location < 256)
+    × ((i : ℕ) → get_or (entry_in es x).whole i 0 < 256) × ((i : ℕ) → get_or (entry_in es x).rank i 0 < 256)
 unfolding region_at
 entry-small es small x = go (ltb x max_entries)
   where
@@ -167,106 +149,57 @@ entry-small es small x = go (ltb x max_entries)
     )
 
 -- A table that is not refused was read as a model.
-pub read-model : (table : List ℕ) (clocks : ℕ) → C.Read clocks ≡ checked_of (read_table table)
+pub read-model : (table : List ℕ) (clocks : ℕ) → Ok clocks ≡ checked_of (read_table table)
     → (m : Model) × (read_table table ≡ accepted m) × (clocks ≡ m.clocks)
 read-model table clocks e = go (read_table table) refl e
   where
-    kind : Checked → ℕ
-    kind (C.Refused number place) = 0
-    kind (C.Read k) = 1
-
-    count : Checked → ℕ
-    count (C.Refused number place) = 0
-    count (C.Read k) = k
-
-    go : (a : Answer) → read_table table ≡ a → C.Read clocks ≡ checked_of a
+    go : (a : Answer) → read_table table ≡ a → Ok clocks ≡ checked_of a
         → (m : Model) × (read_table table ≡ accepted m) × (clocks ≡ m.clocks)
-    go (refusal number place) t q = absurd (omega (arith, ap kind q))
-    go (accepted m) t q = (m, t, ap count q)
+    go (refusal reason place) t q = absurd (let z : ◌≡◌ {A = ℕ} 0 1 = cc in omega arith)
+    go (accepted m) t q = (m, t, cc)
 
--- A refused one was refused by reading, with that number and place.
-pub read-refused : (table : List ℕ) (number place : ℕ) → C.Refused number place ≡ checked_of (read_table table)
-    → read_table table ≡ refusal number place
-read-refused table number place e = go (read_table table) refl e
+-- A refused one was refused by reading, with that reason and place.
+pub read-refused : (table : List ℕ) (r : Refusal) → Err r ≡ checked_of (read_table table) → read_table table ≡ refusal r.reason r.place
+read-refused table r e = go (read_table table) refl e
   where
-    kind : Checked → ℕ
-    kind (C.Refused number place) = 0
-    kind (C.Read k) = 1
-
-    number_of : Checked → ℕ
-    number_of (C.Refused n p) = n
-    number_of (C.Read k) = 0
-
-    place_of : Checked → ℕ
-    place_of (C.Refused n p) = p
-    place_of (C.Read k) = 0
-
-    go : (a : Answer) → read_table table ≡ a → C.Refused number place ≡ checked_of a → read_table table ≡ refusal number place
-    go (refusal n p) t q = t ∙ ap₂ refusal (sym (ap number_of q)) (sym (ap place_of q))
-    go (accepted m) t q = absurd (omega (arith, ap kind q))
+    go : (a : Answer) → read_table table ≡ a → Err r ≡ checked_of a → read_table table ≡ refusal r.reason r.place
+    go (refusal reason place) t q =
+        let is : refusal_at reason place ≡ r = cc in t ∙ ap (λ (x : Refusal). refusal x.reason x.place) is
+    go (accepted m) t q = cc
 
 -- One table is read as one model.
 pub same-model : (table : List ℕ) (m k : Model) → read_table table ≡ accepted m → read_table table ≡ accepted k → m ≡ k
 same-model table m k e f = ap model (sym e ∙ f)
   where
     model : Answer → Model
-    model (refusal number place) = m
+    model (refusal reason place) = m
     model (accepted k) = k
 
 -- What is said of an item that is seen.
-pub item-shown : (m : Model) (es : List ℕ) (n x : ℕ) (seen : Bool) → seen ≡ true → (label reached edges : ℕ)
-    → S.Item label reached edges ≡ showing_of seen es n x (accepted m)
-    → (label ≡ (graph m (listed es n)).label x) × (reached ≡ length ((graph m (listed es n)).delays x))
-    × (edges ≡ (graph m (listed es n)).edges)
-item-shown m es n x seen can label reached edges e =
-    let is : S.Item label reached edges
-    ≡ S.Item ((graph m (listed es n)).label x) (length ((graph m (listed es n)).delays x)) (graph m (listed es n)).edges =
-    e ∙ ap (λ (b : Bool). showing_of b es n x (accepted m)) can in
-    (ap label_in is, ap reached_in is, ap edges_in is)
-  where
-    label_in : Showing → ℕ
-    label_in (S.Refused number place) = 0
-    label_in S.Unseen = 0
-    label_in (S.Item l r k) = l
-
-    reached_in : Showing → ℕ
-    reached_in (S.Refused number place) = 0
-    reached_in S.Unseen = 0
-    reached_in (S.Item l r k) = r
-
-    edges_in : Showing → ℕ
-    edges_in (S.Refused number place) = 0
-    edges_in S.Unseen = 0
-    edges_in (S.Item l r k) = k
+pub item-shown : (m : Model) (es : List ℕ) (n x : ℕ) (seen : Bool) → seen ≡ true → (item : Seen)
+    → Ok (Some item) ≡ showing_of seen es n x (accepted m) → item ≡ item_of (graph m (listed es n)) x
+item-shown m es n x seen can item e =
+    let is : ◌≡◌ {A = Result (Option Seen) Refusal} (Ok (Some item)) (Ok (Some (item_of (graph m (listed es n)) x))) =
+    e ∙ ap (λ (b : Bool). showing_of b es n x (accepted m)) can in cc
 
 -- It is one of a table that was read.
-pub item-model : (table es : List ℕ) (n x : ℕ) (seen : Bool) (label reached edges : ℕ)
-    → S.Item label reached edges ≡ showing_of seen es n x (read_table table) → (m : Model) × (read_table table ≡ accepted m)
-item-model table es n x seen label reached edges e = go (read_table table) refl e
+pub item-model : (table es : List ℕ) (n x : ℕ) (seen : Bool) (item : Seen)
+    → Ok (Some item) ≡ showing_of seen es n x (read_table table) → (m : Model) × (read_table table ≡ accepted m)
+item-model table es n x seen item e = go (read_table table) refl e
   where
-    kind : Showing → ℕ
-    kind (S.Refused number place) = 0
-    kind S.Unseen = 1
-    kind (S.Item l r k) = 2
-
-    go : (a : Answer) → read_table table ≡ a → S.Item label reached edges ≡ showing_of seen es n x a
-        → (m : Model) × (read_table table ≡ accepted m)
-    go (refusal number place) t q = absurd (omega (arith, ap kind q))
+    go : (a : Answer) → read_table table ≡ a → Ok (Some item) ≡ showing_of seen es n x a → (m : Model) × (read_table table ≡ accepted m)
+    go (refusal reason place) t q = absurd (let z : ◌≡◌ {A = ℕ} 0 1 = cc in omega arith)
     go (accepted m) t q = (m, t)
 
 -- An item that can be seen is.
 pub item-seen : (m : Model) (es : List ℕ) (n x : ℕ) (seen : Bool) → seen ≡ true
-    → (((number place : ℕ) → S.Refused number place ≡ showing_of seen es n x (accepted m) → ⊥)
-    × (S.Unseen ≡ showing_of seen es n x (accepted m) → ⊥))
-item-seen m es n x seen can = (λ number place e. omega (arith, is (S.Refused number place) e), λ e. omega (arith, is S.Unseen e))
-  where
-    kind : Showing → ℕ
-    kind (S.Refused number place) = 0
-    kind S.Unseen = 0
-    kind (S.Item l r k) = 1
-
-    is : (s : Showing) → s ≡ showing_of seen es n x (accepted m) → kind s ≡ 1
-    is s e = ap kind (e ∙ ap (λ (b : Bool). showing_of b es n x (accepted m)) can)
+    → ((r : Refusal) → Err r ≡ showing_of seen es n x (accepted m) → ⊥) × (Ok None ≡ showing_of seen es n x (accepted m) → ⊥)
+item-seen m es n x seen can = (
+  λ r e. cc,
+  λ e.
+      let is : ◌≡◌ {A = Result (Option Seen) Refusal} (Ok None) (Ok (Some (item_of (graph m (listed es n)) x))) =
+      e ∙ ap (λ (b : Bool). showing_of b es n x (accepted m)) can in cc,
+)
 
 -- Item x of n entries is seen where there is room.
 pub seen_here : (n x entries delays rows : ℕ) → n ≤ max_entries → x < n → entry_bytes * n ≤ entries → n < delays → 4096 ≤ rows

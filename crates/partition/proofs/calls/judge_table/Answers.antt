@@ -1,39 +1,34 @@
--- `judge_table` meets its contract. Assumes nothing.
-use native.Mathlib.Omega.{arith}
-use mathlib.Core.Path.{sym, ◌∙◌}
-use lib.ListN.{length}
+-- The answer, the entries and what else is lent are those of the graph call that refused, or of an accepted table, whose graph the slices
+-- hold.
+use Rattle.std.proofs.Common.{rules, ℕ, ◌≡◌, length, sym, ◌∙◌, Err}
 use Rattle.regions.specs.Call.{room_for}
-use Rattle.partition.specs.Laws.Instances.{call-closed}
-use Rattle.partition.specs.Laws.Calls.{on-refused, on-accepted, of-regions, roomy-made, held-for}
-use Rattle.partition.specs.Calls.{judged_of, judge_of}
-use Rattle.partition.specs.declared.calls.Judgement.TheVariants.{Refused}
+use Rattle.partition.specs.Laws.Calls.{on-refused, on-accepted, shown-for}
+use Rattle.partition.specs.Calls.{refuses, judged_of, judge_of}
+use Rattle.table.specs.declared.refusals.Refusal.{Refusal}
 use Rattle.partition.proofs.calls.judge_table.Goals as goal
 
-pub judge_shown-requires : goal.judge_shown-requires
-judge_shown-requires c = let (a, long, few) = of-regions c.args.bytes.now (room_for (length c.args.entries.now)) _
-    (sym c.in-Regions.is ∙ c.show_graph-shown.ensures.value) in omega (arith, few)
-
-pub returns-in-Refused : goal.returns-in-Refused
+pub returns-in_err-n : goal.returns-in_err-n
 unfolding judge_of
-returns-in-Refused c = let e = sym c.in-Refused.is ∙ c.show_graph-shown.ensures.value in let cap = room_for (length c.args.entries.now) in
+returns-in_err-n c =
+    let args = c.args in
+    let r : Refusal = c.in_err-n.field-0.0 in
+    let cap : ℕ = room_for (length args.entries.now) in
+    let same : c.from_residual.result ≡ Err r = search rules in
+    let e = c.in_err-n.ensures.value in
     record {
-      answer-is = on-refused Refused (judged_of c.args.proposal.now) c.args.bytes.now cap _ _ e;
-      entries-are =
-          c.show_graph-shown.ensures.entries_after;
+      answer-is = same ∙ on-refused refuses (judged_of args.proposal.now) args.bytes.now cap r e;
+      entries-are = c.show.ensures.entries_after;
     }
 
-pub returns-in-Regions : goal.returns-in-Regions
+pub returns : goal.returns
 unfolding judge_of
-returns-in-Regions c = let cap = room_for (length c.args.entries.now) in let (a, long, few) =
-    of-regions c.args.bytes.now cap _ (sym c.in-Regions.is ∙ c.show_graph-shown.ensures.value) in let shown =
-    c.show_graph-shown.ensures.shown a.model a.found a.read a.out
-    (roomy-made c.flag_room-flags.result c.spot_room-spots.result c.flag_room-flags.ensures c.spot_room-spots.ensures) in let held =
-    held-for c.args.bytes.now cap a (omega arith) _ c.edge_count.result long c.edge_count.ensures c.show_graph-shown.new.labels
-    c.show_graph-shown.new.nexts c.show_graph-shown.new.flags c.show_graph-shown.new.resets c.show_graph-shown.new.spots
-    c.show_graph-shown.new.rows shown in let closed = call-closed c.args.bytes.now cap a.found a.out a.model a.read in
+returns c =
+    let args = c.args in
+    let cap : ℕ = room_for (length args.entries.now) in
+    let (a, held, closed) =
+    shown-for args.bytes.now args.entries.now c.in_ok-n.n c.in_ok-n.ensures.value c.show.new.self
+    (λ m found read out. c.show.ensures.shown m found read out c.new-room.ensures) c.graph.result c.graph.ensures in
     record {
-      answer-is = c.judge_shown.ensures a.model a.found long held closed
-          ∙ sym (on-accepted Refused (judged_of c.args.proposal.now) c.args.bytes.now cap a);
-      entries-are =
-          c.show_graph-shown.ensures.entries_after;
+      answer-is = c.judge_shown.ensures a.model a.found held closed ∙ sym (on-accepted refuses (judged_of args.proposal.now) args.bytes.now cap a);
+      entries-are = c.show.ensures.entries_after;
     }

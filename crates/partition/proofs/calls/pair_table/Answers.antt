@@ -1,57 +1,43 @@
--- `pair_table` meets its contract. Assumes nothing.
-use native.Mathlib.Omega.{arith}
-use mathlib.Core.Path.{sym, ◌∙◌}
-use mathlib.Core.Bool.{cond}
-use lib.ListN.{length}
+-- The answer, the entries and what else is lent are those of the graph call that refused, or of an accepted table, whose graph the slices
+-- hold.
+use Rattle.std.proofs.Common.{rules, ℕ, ◌≡◌, List, length, sym, ◌∙◌, Err}
 use Rattle.regions.specs.Call.{room_for}
-use Rattle.partition.specs.Laws.Instances.{call-closed}
-use Rattle.partition.specs.Laws.Calls.{on-refused, on-accepted, of-regions, roomy-made, held-for}
-use Rattle.partition.specs.Calls.{is_short, is_asked_past, shared_of, numbered_in, pair_of, pair_list_after}
-use Rattle.partition.specs.declared.calls.Pairing.TheVariants.{Refused}
+use Rattle.partition.specs.Laws.Calls.{on-refused, on-accepted, shown-for}
+use Rattle.partition.specs.Calls.{refuses, shared_of, pair_of, pair_list_of, pair_list_after}
+use Rattle.table.specs.declared.refusals.Refusal.{Refusal}
 use Rattle.partition.proofs.calls.pair_table.Goals as goal
 
-pub pair_shown-requires : goal.pair_shown-requires
-pair_shown-requires c = let (a, long, few) = of-regions c.args.bytes.now (room_for (length c.args.entries.now)) _
-    (sym c.in-Regions.is ∙ c.show_graph-shown.ensures.value) in omega (arith, few)
-
-pub returns-in-Refused : goal.returns-in-Refused
+pub returns-in_err-n : goal.returns-in_err-n
 unfolding pair_of pair_list_after
-returns-in-Refused c = let e = sym c.in-Refused.is ∙ c.show_graph-shown.ensures.value in let cap = room_for (length c.args.entries.now) in
+returns-in_err-n c =
+    let args = c.args in
+    let r : Refusal = c.in_err-n.field-0.0 in
+    let cap : ℕ = room_for (length args.entries.now) in
+    let same : c.from_residual.result ≡ Err r = search rules in
+    let e = c.in_err-n.ensures.value in
+    let first : List ℕ = args.first.now in
+    let second : List ℕ = args.second.now in
     record {
-      answer-is = on-refused Refused (shared_of c.args.first.now c.args.second.now c.args.r c.args.s) c.args.bytes.now cap _ _ e;
-      entries-are = c.show_graph-shown.ensures.entries_after;
-      first-is =
-          on-refused (λ number place. c.args.first.now) (λ m found. cond (is_short (length found) c.args.first.now c.args.second.now)
-          c.args.first.now (cond (is_asked_past (length found) c.args.r c.args.s) c.args.first.now (numbered_in c.args.first.now m found)))
-          c.args.bytes.now cap _ _ e;
-      second_is = on-refused (λ number place. c.args.second.now)
-          (λ m found. cond (is_short (length found) c.args.first.now c.args.second.now) c.args.second.now
-          (cond (is_asked_past (length found) c.args.r c.args.s) c.args.second.now (numbered_in c.args.second.now m found)))
-          c.args.bytes.now cap
-          _ _ e;
+      answer-is = same ∙ on-refused refuses (shared_of first second args.r args.s) args.bytes.now cap r e;
+      entries-are = c.show.ensures.entries_after;
+      first-is = on-refused (λ reason place. first) (pair_list_of first second first args.r args.s) args.bytes.now cap r e;
+      second_is = on-refused (λ reason place. second) (pair_list_of first second second args.r args.s) args.bytes.now cap r e;
     }
 
-pub returns-in-Regions : goal.returns-in-Regions
+pub returns : goal.returns
 unfolding pair_of pair_list_after
-returns-in-Regions c = let cap = room_for (length c.args.entries.now) in let (a, long, few) =
-    of-regions c.args.bytes.now cap _ (sym c.in-Regions.is ∙ c.show_graph-shown.ensures.value) in let shown =
-    c.show_graph-shown.ensures.shown a.model a.found a.read a.out
-    (roomy-made c.flag_room-flags.result c.spot_room-spots.result c.flag_room-flags.ensures c.spot_room-spots.ensures) in let held =
-    held-for c.args.bytes.now cap a (omega arith) _ c.edge_count.result long c.edge_count.ensures c.show_graph-shown.new.labels
-    c.show_graph-shown.new.nexts c.show_graph-shown.new.flags c.show_graph-shown.new.resets c.show_graph-shown.new.spots
-    c.show_graph-shown.new.rows shown in let closed = call-closed c.args.bytes.now cap a.found a.out a.model a.read in let done =
-    c.pair_shown.ensures a.model a.found long held closed in record {
-      answer-is = done.0 ∙ sym (on-accepted Refused (shared_of c.args.first.now c.args.second.now c.args.r c.args.s) c.args.bytes.now cap
-          a);
-      entries-are = c.show_graph-shown.ensures.entries_after;
-      first-is = done.1
-          ∙ sym (on-accepted (λ number place. c.args.first.now)
-          (λ m found. cond (is_short (length found) c.args.first.now c.args.second.now)
-          c.args.first.now (cond (is_asked_past (length found) c.args.r c.args.s) c.args.first.now (numbered_in c.args.first.now m found)))
-          c.args.bytes.now cap a);
-      second_is = done.2 ∙ sym (on-accepted (λ number place. c.args.second.now)
-          (λ m found. cond (is_short (length found) c.args.first.now c.args.second.now) c.args.second.now
-          (cond (is_asked_past (length found) c.args.r c.args.s) c.args.second.now (numbered_in c.args.second.now m found)))
-          c.args.bytes.now cap
-          a);
+returns c =
+    let args = c.args in
+    let cap : ℕ = room_for (length args.entries.now) in
+    let (a, held, closed) =
+    shown-for args.bytes.now args.entries.now c.in_ok-n.n c.in_ok-n.ensures.value c.show.new.self
+    (λ m found read out. c.show.ensures.shown m found read out c.new-room.ensures) c.graph.result c.graph.ensures in
+    let first : List ℕ = args.first.now in
+    let second : List ℕ = args.second.now in
+    let done = c.pair_shown.ensures a.model a.found held closed in
+    record {
+      answer-is = done.0 ∙ sym (on-accepted refuses (shared_of first second args.r args.s) args.bytes.now cap a);
+      entries-are = c.show.ensures.entries_after;
+      first-is = done.1 ∙ sym (on-accepted (λ reason place. first) (pair_list_of first second first args.r args.s) args.bytes.now cap a);
+      second_is = done.2 ∙ sym (on-accepted (λ reason place. second) (pair_list_of first second second args.r args.s) args.bytes.now cap a);
     }

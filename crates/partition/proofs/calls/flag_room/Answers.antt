@@ -1,7 +1,0 @@
--- `flag_room` meets its contract: by the law on lengths, so that nothing counts the elements out.
-use Rattle.std.proofs.Common.{ℕ, sym}
-use lib.ListN.{length-replicate}
-use Rattle.partition.proofs.calls.flag_room.Goals as goal
-
-pub returns : goal.returns
-returns c = sym (length-replicate {A = ℕ} 524288 0)
