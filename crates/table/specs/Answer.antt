@@ -7,7 +7,7 @@ use Rattle.table.specs.Written.{shape_of}
 use Rattle.table.specs.declared.model.Shape.{Shape}
 use Rattle.table.specs.declared.refusals.Refusal.{Refusal}
 
--- A refusal has its reason, whose number is document 01's (`number`), and its place. An accepted table has its shape; the model that it
+-- A refusal has its reason, which has a number (`number` of Reasons), and its place. An accepted table has its shape; the model that it
 -- was read as is given back by `Reads-of`, and `reads-one` says that it is one (Reads).
 unfoldable pub reading_of : Answer → Result Shape Refusal
 reading_of (refusal r p) = Err (refusal_at r p)

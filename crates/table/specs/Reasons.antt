@@ -1,4 +1,4 @@
--- The reasons of refusals, by their numbers in document 01's list.
+-- The reasons of refusals, and their numbers.
 use Rattle.std.specs.Prelude.{ℕ}
 use Rattle.table.specs.declared.refusals.Reason.{Reason}
 use Rattle.table.specs.declared.refusals.Reason.TheVariants.{TooLong, Missing, UnknownKind, CutShort, OutOfOrder, BadHeader}

@@ -87,7 +87,7 @@ impl Progress {
     }
 }
 
-// Reads a table: its counts and where its parts begin, or the first refusal by document 01's reason and place.
+// Reads a table: its counts and where its parts begin, or the first refusal.
 pub fn read(table: &[u8]) -> Result<Shape, Refusal>
     ensures { result ≡ reading_of (read_table table.now) }
 {

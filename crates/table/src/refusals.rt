@@ -2,8 +2,7 @@
 ghost use Rattle.std.specs.Prelude.{◌≡◌};
 ghost use Rattle.table.specs.Reasons.{number, refusal_at};
 
-// Names the reasons in the order of their numbers, which are document 01's: those up to `TrailingBytes` are of a table, and the others
-// of a call.
+// Names the reasons in the order of their numbers: those up to `TrailingBytes` are of a table, and the others of a call.
 #[derive(Clone, Copy, Debug, PartialEq, Eq, PartialOrd, Ord)]
 pub enum Reason {
     TooLong = 1,
