@@ -45,6 +45,7 @@ pub fn list_places(table: &[u8], shape: Shape, places: &mut [usize])
     ensures places_after_2 { (m : Model) → Reads table.now shape m
         → places.new ≡ sets places.old 0 (map (λ edge. edge.place) m.edges) }
 {
+    // Loops as `list_edges` does: an iterator over the places, a type with contracts of its own, would be longer than both loops.
     let mut at = shape.first_edge;
     for i in 0..shape.edges {
         if !is_kind(table, at, Kind::Edge) {
