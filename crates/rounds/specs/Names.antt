@@ -1,6 +1,6 @@
 -- Names of blocks that change as little as they may from round to round: of the parts of a block the largest keeps the name. Which one
 -- keeps it is a choice for speed; what counts is that names tell the same items apart as the rep map does (`named-agree` in Laws/Names).
-use Rattle.std.specs.Prelude.{ℕ, ◌<◌, ◌≤◌, ◌≡◌, List, ◌⊎◌, get_or, set}
+use Rattle.std.specs.Prelude.{ℕ, ◌<◌, ◌≤◌, ◌≡◌, Bool, false, List, ◌⊎◌, get_or}
 
 -- Each leader of a rep map has a tag of its own, which is the number of a leader.
 pub record Tagged (n : ℕ) (reps tags : List ℕ) : Type 0 where
@@ -13,8 +13,8 @@ pub record Named (n : ℕ) (reps tags names : List ℕ) : Type 0 where
   pub name : (x : ℕ) → x < n → get_or names x 0 ≡ get_or tags (get_or reps x 0) 0
 
 -- An item that is not marked as changed has the name that it had.
-abbrev pub Changed : (n : ℕ) → (names names' changed : List ℕ) → Type 0
-Changed n names names' changed = (x : ℕ) → x < n → get_or changed x 0 ≡ 0 → get_or names' x 0 ≡ get_or names x 0
+abbrev pub Changed : (n : ℕ) → (names names' : List ℕ) → (changed : List Bool) → Type 0
+Changed n names names' changed = (x : ℕ) → x < n → get_or changed x false ≡ false → get_or names' x 0 ≡ get_or names x 0
 
 -- ---- Tagging the leaders of the next round
 
@@ -31,13 +31,9 @@ pub record TaggedIn (n : ℕ) (these : ℕ → Type 0) (tags : List ℕ) : Type 
   pub own : (l : ℕ) → l < n → these l → (get_or tags l 0 < n) × these (get_or tags l 0)
   pub apart : (l m : ℕ) → l < n → m < n → these l → these m → get_or tags l 0 ≡ get_or tags m 0 → l ≡ m
 
--- Two tags are swapped.
-abbrev pub swapped : (tags : List ℕ) → (x y : ℕ) → List ℕ
-swapped tags x y = set (set tags x (get_or tags y 0)) y (get_or tags x 0)
-
 -- ---- Renaming: the first i items have their new names, the rest of the list is as it was
 
-pub record RenamedTo (new tags names₀ names changed : List ℕ) (i : ℕ) : Type 0 where
+pub record RenamedTo (new tags names₀ names : List ℕ) (changed : List Bool) (i : ℕ) : Type 0 where
   pub done : (x : ℕ) → x < i → get_or names x 0 ≡ get_or tags (get_or new x 0) 0
-  pub same : (x : ℕ) → x < i → get_or changed x 0 ≡ 0 → get_or names x 0 ≡ get_or names₀ x 0
+  pub same : (x : ℕ) → x < i → get_or changed x false ≡ false → get_or names x 0 ≡ get_or names₀ x 0
   pub rest : (x : ℕ) → i ≤ x → get_or names x 0 ≡ get_or names₀ x 0

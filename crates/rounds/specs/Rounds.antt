@@ -1,12 +1,33 @@
 -- What the code of the rounds keeps turn by turn: labels seen, anchors and marks, leaders linked within blocks of equal marks,
 -- names and keys, numbers given, rounds made. A rep map holds for each item the lowest one that is related to it.
-use Rattle.std.specs.Prelude.{ℕ, suc, ◌+◌, ◌*◌, ◌-◌, ◌%◌, ◌≤◌, ◌<◌, ◌≡◌, Bool, true, false, cond, ◌&&◌, List, ◌⊎◌, eqb, length, get_or}
+use Rattle.std.specs.Prelude.{ℕ, suc, ◌+◌, ◌*◌, ◌-◌, ◌%◌, ◌≤◌, ◌<◌, ◌≡◌, Bool, true, false, cond, ◌&&◌, List, ◌⊎◌, Option, IfSome}
+use Rattle.std.specs.Prelude.{eqb, length, get_or}
 use Rattle.bisimulation.specs.Finite.{Finite, related, matches, next, lead, leaders, block_of, blocks, rounds}
 use Rattle.bisimulation.specs.Finite.{last_blocks, block_count}
 use Rattle.bisimulation.specs.Below.{EquivalenceBelow, FinerBelow, Reps}
-use Rattle.comparison.specs.Keys.{key_of}
-use Rattle.rounds.specs.Names.{Named, Changed}
-use Rattle.rounds.specs.Changes.{Settled, Stirred}
+use Rattle.comparison.specs.Held.{Held}
+use Rattle.comparison.specs.Keys.{key_of, Keyed, Equipped}
+use Rattle.rounds.specs.Names.{Named}
+use Rattle.rounds.specs.Changes.{Settled}
+use Rattle.comparison.specs.declared.held.Graph.{Graph}
+use Rattle.rounds.specs.declared.kins.KinIndex.{KinIndex}
+use Rattle.rounds.specs.declared.rounds.Carried.{Carried}
+
+-- ---- The slices of a graph hold a structure, and keys and shelf go with it
+
+abbrev pub HeldIn : Finite → Graph → Type 0
+HeldIn F g = Held F g.n g.k g.labels.now g.nexts.now g.flags.now g.resets.now g.spots.now g.rows.now
+
+-- The key of an item under a block list.
+abbrev pub key_in : Graph → (names : List ℕ) → (x : ℕ) → ℕ
+key_in g names x = key_of g.n g.k names g.nexts.now g.flags.now g.resets.now g.spots.now g.rows.now x
+
+abbrev pub KeyedIn : Finite → Graph → (names keys : List ℕ) → Type 0
+KeyedIn F g names keys = Keyed F g.n g.k names keys g.labels.now g.nexts.now g.flags.now g.resets.now g.spots.now g.rows.now
+
+abbrev pub EquippedIn : Finite → Graph → (names keys shelf : List ℕ) → Type 0
+EquippedIn F g names keys shelf =
+    Equipped F g.n g.k names keys shelf g.labels.now g.nexts.now g.flags.now g.resets.now g.spots.now g.rows.now
 
 -- ---- Numbering: the first i items have the numbers of their blocks, the rest of the list is as it was
 
@@ -14,14 +35,6 @@ pub record Numbered (q : ℕ → ℕ → Bool) (list₀ list : List ℕ) (i coun
   pub counted : count ≡ leaders q i
   pub done : (x : ℕ) → x < i → get_or list x 0 ≡ block_of q x
   pub rest : (x : ℕ) → i ≤ x → get_or list x 0 ≡ get_or list₀ x 0
-
--- What is written at an item whose lead is given.
-abbrev pub number_of : (list : List ℕ) → (i lead count : ℕ) → ℕ
-number_of list i lead count = cond (eqb lead i) count (get_or list lead 0)
-
--- The count of leaders after it.
-abbrev pub count_after : (i lead count : ℕ) → ℕ
-count_after i lead count = cond (eqb lead i) (suc count) count
 
 -- The first i items of a list are a rep map, with so many leaders.
 pub record Led (d : ℕ → ℕ → Bool) (list : List ℕ) (i count : ℕ) : Type 0 where
@@ -41,17 +54,13 @@ label_room = 65536
 pub record Seen (labels seen : List ℕ) (i : ℕ) : Type 0 where
   pub at : (label : ℕ) → label < label_room → FirstWith labels i label (get_or seen label 0)
 
--- The lead that a link tells: item i itself where there is none.
-abbrev pub lead_by : (link i : ℕ) → ℕ
-lead_by link i = cond (eqb link 0) i (link - 1)
-
 -- ---- Items that join their block's anchor: d is the test of the next round over the rep map `old` of this one
 
 -- Each block that has an item which is not stirred has one as its anchor, told at the number of its leader. Link a + 1 is item a,
 -- and 0 is none.
-pub record Anchored (n : ℕ) (old stirred anchors : List ℕ) : Type 0 where
-  pub some : (x : ℕ) → x < n → get_or stirred x 0 ≡ 0 → ¬ (get_or anchors (get_or old x 0) 0 ≡ 0)
-  pub calm : (b a : ℕ) → get_or anchors b 0 ≡ suc a → (a < n) × (get_or old a 0 ≡ b) × (get_or stirred a 0 ≡ 0)
+pub record Anchored (n : ℕ) (old : List ℕ) (stirred : List Bool) (anchors : List ℕ) : Type 0 where
+  pub some : (x : ℕ) → x < n → get_or stirred x false ≡ false → ¬ (get_or anchors (get_or old x 0) 0 ≡ 0)
+  pub calm : (b a : ℕ) → get_or anchors b 0 ≡ suc a → (a < n) × (get_or old a 0 ≡ b) × (get_or stirred a false ≡ false)
 
 -- An item joins where its block has an anchor that is related to it in the next round.
 abbrev pub joined_by : (d : ℕ → ℕ → Bool) → (anchors old : List ℕ) → (x : ℕ) → Bool
@@ -78,16 +87,20 @@ pub record Sorted (d : ℕ → ℕ → Bool) (n : ℕ) (marks mid : List ℕ) : 
 
 -- An item may get its lead, or its mark, from a kin, an earlier item of its block. All links lead to items below i: link z + 1 is item
 -- z, and 0 is none.
-abbrev pub Kins : (i : ℕ) → (kins : List ℕ) → Type 0
-Kins i kins = (b z : ℕ) → get_or kins b 0 ≡ suc z → z < i
+abbrev pub LinksBelow : (i : ℕ) → (links : List ℕ) → Type 0
+LinksBelow i links = (b z : ℕ) → get_or links b 0 ≡ suc z → z < i
 
--- Item x has a kin at a link: an earlier item that is related to it in the next round. Link 0 says nothing.
-abbrev pub KinOf : (d : ℕ → ℕ → Bool) → (x link : ℕ) → Type 0
-KinOf d x link = (z : ℕ) → link ≡ suc z → (z < x) × (d z x ≡ true)
+pub record KinsBelow (i : ℕ) (kins : KinIndex) : Type 0 where
+  pub newest : LinksBelow i kins.newest
+  pub older : LinksBelow i kins.older
 
--- A lead that was found in this way, or x itself, which says nothing.
-abbrev pub LedByKin : (d : ℕ → ℕ → Bool) → (x l : ℕ) → Type 0
-LedByKin d x l = (l ≡ x) ⊎ ((l ≡ lead d x) × (l < x))
+-- A kin of item x is an earlier item that is related to it in the next round.
+abbrev pub KinOf : (d : ℕ → ℕ → Bool) → (x : ℕ) → Option ℕ → Type 0
+KinOf d x kin = IfSome kin (λ z. (z < x) × (d z x ≡ true))
+
+-- A lead of item x that was found in this way.
+abbrev pub LedByKin : (d : ℕ → ℕ → Bool) → (x : ℕ) → Option ℕ → Type 0
+LedByKin d x led = IfSome led (λ l. (l ≡ lead d x) × (l < x))
 
 -- Leaders of d in one block of q are linked in rising order. Among the items below i the next one after y is the link of y, where
 -- that is above y; else there is none.
@@ -114,10 +127,6 @@ pub record Last (d q : ℕ → ℕ → Bool) (x y : ℕ) : Type 0 where
   pub same : q y x ≡ true
   pub none : (z : ℕ) → y < z → z < x → lead d z ≡ z → q y z ≡ false
 
-pub record Searched (d q : ℕ → ℕ → Bool) (x : ℕ) (hit : Bool) (y : ℕ) : Type 0 where
-  pub hits : hit ≡ true → (lead d x ≡ y) × (y < x)
-  pub misses : hit ≡ false → Last d q x y
-
 -- ---- The loop over the rounds
 
 -- The list is the rep map of round k, with so many blocks, and no earlier round is the last.
@@ -126,18 +135,15 @@ pub record Turned (F : Finite) (list : List ℕ) (count k : ℕ) : Type 0 where
   pub counted : count ≡ block_count F k
   pub before : k ≤ rounds F
 
--- Beside it: names for its blocks, keys under them that are known or not of items that are not stirred, and that those need no
--- comparison.
-pub record Prepared (F : Finite) (n k : ℕ) (list tags names keys stirred nexts flags resets spots rows : List ℕ) : Type 0 where
-  pub named : Named n list tags names
-  pub keyed : (x : ℕ) → x < n → get_or stirred x 0 ≡ 0
-      → (get_or keys x 0 ≡ 0) ⊎ (get_or keys x 0 ≡ key_of n k names nexts flags resets spots rows x)
-  pub settled : Settled (next F names) (related names) n stirred
+-- The keys of stirred items are forgotten, and the others stay.
+abbrev pub ForgottenAt : (keys keys' : List ℕ) → (stirred : List Bool) → (x : ℕ) → Type 0
+ForgottenAt keys keys' stirred x = get_or keys' x 0 ≡ cond (get_or stirred x false) 0 (get_or keys x 0)
 
--- After a round: some flags mark what changed its name, and what these reach is stirred.
-abbrev pub Followed : (n k : ℕ) → (names names' nexts flags resets spots rows stirred : List ℕ) → Type 0
-Followed n k names names' nexts flags resets spots rows stirred =
-    (changed : List ℕ) × (Changed n names names' changed × Stirred n k changed nexts flags resets spots rows stirred)
+-- Beside it: names for its blocks, keys under them that are known or not, and that items which are not stirred need no comparison.
+pub record Prepared (F : Finite) (g : Graph) (list : List ℕ) (c : Carried) : Type 0 where
+  pub named : Named g.n list c.tags c.names
+  pub keyed : (x : ℕ) → x < g.n → (get_or c.keys x 0 ≡ 0) ⊎ (get_or c.keys x 0 ≡ key_in g c.names x)
+  pub settled : Settled (next F c.names) (related c.names) g.n c.stirred
 
 -- The loop is over: both lists are rep maps of the last round.
 pub record Rested (F : Finite) (one two : List ℕ) (count k : ℕ) : Type 0 where

@@ -2,138 +2,105 @@
 // where a test fails all others are. Along delays this is found from the last item of each chain back. Along edges it is found by clocks:
 // a branch leads to an item with the clocks that the item's own become under the branch's mask, so the clocks of changed items are marked.
 // Of an item that such a mark touches, the available edges are gone through: it rests where none leads to a change.
-ghost use Rattle.std.specs.Prelude.{ℕ, suc, ◌+◌, ◌<◌, ◌≤◌, ◌≡◌, true, false, eqb, length, get_or, set};
+ghost use Rattle.std.specs.Prelude.{ℕ, ◌+◌, ◌<◌, ◌≤◌, ◌≡◌, true, false, length, get_or};
 ghost use Rattle.comparison.specs.Held.{most_items, most_edges, mask_room, Opened};
-ghost use Rattle.rounds.specs.Changes.{Stirred, BranchClassed, EdgeClassed, ItemClassed, Classed, StillAt, Still};
-ghost use Rattle.rounds.specs.Changes.{Kept, MarkedAt, Marked, UsedBy, Used, UntouchedBy, Untouched, EdgeCalm, EdgesCalm};
-ghost use Rattle.rounds.specs.Changes.{RestsAt, Rests, Spared};
+ghost use Rattle.rounds.specs.Changes.{Stirred, BranchClassed, EdgeClassed, ItemClassed, Classed, RestsByDelay, Still};
+ghost use Rattle.rounds.specs.Changes.{Kept, Marked, UsedBy, Used, UntouchedBy, Untouched, EdgeCalm, EdgesCalm};
+ghost use Rattle.rounds.specs.Changes.{RestsAt, Spared};
 
-use crate::stores::{put_flag, put_link};
-use comparison::{Graph, at16, is_clear, is_set};
+use crate::MOST_ITEMS;
+use comparison::Graph;
+use slices::{at, put};
+
+// As many masks as there may be: each tells which of four clocks are reset.
+const MASKS: usize = 16;
 
 // ---- An order in which what follows by delay comes first. Only speed depends on it: what is found by it is verified.
 
 // Is item x not placed yet, and what follows it placed, if anything follows?
-fn is_ready(graph: Graph, x: usize, placed: &[u8]) -> bool {
-    if is_set(placed, x) {
-        return false;
-    }
-    let next = at16(graph.nexts, x);
-    if graph.n <= next {
-        return true;
-    }
-    is_set(placed, next)
-}
-
-// Item x is placed where it is ready. The answer is the count of those placed.
-fn place_one(graph: Graph, x: usize, count: usize, placed: &mut [u8], order: &mut [u16]) -> usize
-    requires { (x < most_items) × (count < 65536) }
-    ensures { (result ≤ suc count) × (length placed.new ≡ length placed.old)
-        × (length order.new ≡ length order.old) }
+fn is_ready(graph: Graph, x: usize, placed: &[bool; MOST_ITEMS]) -> bool
+    requires { x < most_items }
 {
-    if !is_ready(graph, x, placed) {
-        return count;
-    }
-    put_flag(x, 1, placed);
-    put_link(count, x, order);
-    count + 1
+    let next = usize::from(at(graph.nexts, x, 0));
+    !placed[x] && (graph.n <= next || at(placed, next, false))
 }
 
-// A pass over all items, from the last one down.
-fn place_ready(graph: Graph, start: usize, placed: &mut [u8], order: &mut [u16]) -> usize
+// Makes a pass over all items, from the last one down, and places those that are ready. The answer is the count of those placed.
+fn place_ready(
+    graph: Graph,
+    start: usize,
+    placed: &mut [bool; MOST_ITEMS],
+    order: &mut [u16; MOST_ITEMS],
+) -> usize
     requires { (graph.n ≤ most_items) × (start ≤ most_items) }
-    ensures { (length placed.new ≡ length placed.old)
-        × (length order.new ≡ length order.old) }
 {
     let mut count = start;
-    let mut x = graph.n;
-    while 0 < x {
-        x = x - 1;
-        count = place_one(graph, x, count, placed, order);
+    for x in (0..graph.n).rev() {
+        if is_ready(graph, x, placed) {
+            placed[x] = true;
+            put(order, count, x as u16);
+            count += 1;
+        }
     }
     count
 }
 
-// Passes are made until one places nothing.
-fn place_all(graph: Graph, placed: &mut [u8], order: &mut [u16])
+// Makes passes until one places nothing. Items that are on no chain which ends are left out.
+pub(crate) fn list_order(graph: Graph) -> [u16; MOST_ITEMS]
     requires { graph.n ≤ most_items }
-    ensures { (length placed.new ≡ length placed.old)
-        × (length order.new ≡ length order.old) }
 {
+    let mut order = [0u16; MOST_ITEMS];
+    let mut placed = [false; MOST_ITEMS];
     let mut count = 0;
     while count < graph.n {
-        let more = place_ready(graph, count, placed, order);
+        let more = place_ready(graph, count, &mut placed, &mut order);
         if more <= count {
-            return;
+            break;
         }
         count = more;
     }
-}
-
-// Items that are on no chain which ends are left out.
-pub(crate) fn list_order(graph: Graph, order: &mut [u16])
-    requires { graph.n ≤ most_items }
-    ensures { length order.new ≡ length order.old }
-{
-    let mut placed = [0u8; 4096];
-    place_all(graph, &mut placed, order);
+    order
 }
 
 // ---- Still items: neither they nor what follows them by delay has changed
 
-// The flag of item x, by that of what follows it.
-fn still_flag(graph: Graph, x: usize, changed: &[u8], still: &[u8]) -> u8 {
-    if !is_clear(changed, x) {
-        return 0;
-    }
-    let next = at16(graph.nexts, x);
-    if graph.n <= next {
-        return 1;
-    }
-    if is_set(still, next) {
-        return 1;
-    }
-    0
+// Has item x not changed, and is what follows it marked as still, if anything follows?
+fn rests_by_delay(
+    graph: Graph,
+    x: usize,
+    changed: &[bool; MOST_ITEMS],
+    still: &[bool; MOST_ITEMS],
+) -> bool
+    ensures { result ≡ true → RestsByDelay graph.entry changed.now still.now x }
+{
+    let next = usize::from(at(graph.nexts, x, 0));
+    !at(changed, x, false) && (graph.n <= next || at(still, next, false))
 }
 
-fn mark_still(graph: Graph, changed: &[u8], order: &[u16], still: &mut [u8])
-    ensures { length still.new ≡ length still.old }
+fn mark_still(
+    graph: Graph,
+    changed: &[bool; MOST_ITEMS],
+    order: &[u16; MOST_ITEMS],
+) -> [bool; MOST_ITEMS]
+    requires { graph.n ≤ most_items }
 {
-    let mut j = 0;
-    while j < graph.n {
-        let x = at16(order, j);
-        let flag = still_flag(graph, x, changed, still);
-        put_flag(x, flag, still);
-        j = j + 1;
+    let mut still = [false; MOST_ITEMS];
+    for place in &order[..graph.n] {
+        let x = usize::from(*place);
+        let rests = rests_by_delay(graph, x, changed, &still);
+        put(&mut still, x, rests);
     }
+    still
 }
 
-// Is item x not marked as still, or neither it changed nor what follows it unmarked?
-fn is_still_at(graph: Graph, x: usize, changed: &[u8], still: &[u8]) -> bool
-    ensures { result ≡ true → StillAt graph.entry.n changed.now graph.entry.nexts.now still.now x }
+// Does each item that is marked as still rest by delay?
+fn is_still(graph: Graph, changed: &[bool; MOST_ITEMS], still: &[bool; MOST_ITEMS]) -> bool
+    ensures { result ≡ true → Still graph.entry changed.now still.now }
 {
-    if !is_set(still, x) {
-        return true;
-    }
-    if !is_clear(changed, x) {
-        return false;
-    }
-    let next = at16(graph.nexts, x);
-    if graph.n <= next {
-        return true;
-    }
-    is_set(still, next)
-}
-
-fn is_still(graph: Graph, changed: &[u8], still: &[u8]) -> bool
-    ensures { result ≡ true → Still graph.entry.n changed.now graph.entry.nexts.now still.now }
-{
-    let mut x = 0;
-    while x < graph.n {
-        if !is_still_at(graph, x, changed, still) {
+    for x in 0..graph.n {
+        if at(still, x, false) && !rests_by_delay(graph, x, changed, still) {
             return false;
         }
-        x = x + 1;
     }
     true
 }
@@ -142,34 +109,26 @@ fn is_still(graph: Graph, changed: &[u8], still: &[u8]) -> bool
 
 fn is_branch_classed(graph: Graph, x: usize, e: usize, i: usize) -> bool
     requires { (graph.n ≤ most_items) × (x < most_items) × (e < most_edges) × (i < 65536) }
-    ensures { result ≡ true → BranchClassed graph.entry.n graph.entry.resets.now graph.entry.spots.now graph.entry.rows.now x e i }
+    ensures { result ≡ true → BranchClassed graph.entry x e i }
 {
     let target = graph.target_of(x, e, i);
-    if graph.n <= target {
-        return false;
-    }
-    let mask = at16(graph.rows, 32 * e + 4 + 3 * i);
-    if 16 <= mask {
-        return false;
-    }
-    let class = at16(graph.resets, 16 * x + mask);
-    if 4096 <= class {
-        return false;
-    }
-    at16(graph.resets, 16 * target) == class
+    let mask = usize::from(at(graph.rows, 32 * e + 4 + 3 * i, 0));
+    let class = at(graph.resets, 16 * x + mask, 0);
+    target < graph.n
+        && mask < MASKS
+        && usize::from(class) < MOST_ITEMS
+        && at(graph.resets, 16 * target, 0) == class
 }
 
 fn is_edge_classed(graph: Graph, x: usize, e: usize) -> bool
     requires { (graph.n ≤ most_items) × (x < most_items) × (e < most_edges) }
-    ensures { result ≡ true → EdgeClassed graph.entry.n graph.entry.resets.now graph.entry.spots.now graph.entry.rows.now x e }
+    ensures { result ≡ true → EdgeClassed graph.entry x e }
 {
-    let count = at16(graph.rows, 32 * e + 2);
-    let mut i = 0;
-    while i < count {
+    let count = usize::from(at(graph.rows, 32 * e + 2, 0));
+    for i in 0..count {
         if !is_branch_classed(graph, x, e, i) {
             return false;
         }
-        i = i + 1;
     }
     true
 }
@@ -177,9 +136,8 @@ fn is_edge_classed(graph: Graph, x: usize, e: usize) -> bool
 // Are the branches of all edges that are available at x of that kind?
 fn is_item_classed(graph: Graph, x: usize) -> bool
     requires { (graph.n ≤ most_items) × (graph.k ≤ most_edges) × (x < most_items) }
-    ensures { result ≡ true → Opened graph.entry.n graph.entry.k graph.entry.flags.now → x < graph.entry.n
-        → ItemClassed graph.entry.n graph.entry.k graph.entry.flags.now graph.entry.resets.now graph.entry.spots.now
-        graph.entry.rows.now x }
+    ensures { result ≡ true → Opened graph.entry.n graph.entry.k graph.entry.flags.now
+        → x < graph.entry.n → ItemClassed graph.entry x }
 {
     let mut e = graph.open_edge(x, graph.k);
     while 0 < e {
@@ -194,118 +152,97 @@ fn is_item_classed(graph: Graph, x: usize) -> bool
 pub(crate) fn is_classed(graph: Graph) -> bool
     requires { (graph.n ≤ most_items) × (graph.k ≤ most_edges) }
     ensures { result ≡ true → Opened graph.entry.n graph.entry.k graph.entry.flags.now
-        → Classed graph.entry.n graph.entry.k graph.entry.flags.now graph.entry.resets.now graph.entry.spots.now
-        graph.entry.rows.now }
+        → Classed graph.entry }
 {
-    let mut x = 0;
-    while x < graph.n {
+    for x in 0..graph.n {
         if !is_item_classed(graph, x) {
             return false;
         }
-        x = x + 1;
     }
     true
 }
 
 // ---- Marks: the clocks of items that changed, and the masks in use
 
-fn mark_class(graph: Graph, x: usize, changed: &[u8], marks: &mut [u8])
-    requires { (x < most_items) × (length marks.old ≡ most_items) }
-    ensures { (length marks.new ≡ most_items) × Kept marks.old marks.new
-        × MarkedAt changed.now graph.entry.resets.now marks.new x }
+fn mark_classes(graph: Graph, changed: &[bool; MOST_ITEMS]) -> [bool; MOST_ITEMS]
+    requires { graph.n ≤ most_items }
+    ensures { Marked graph.entry changed.now result }
 {
-    if is_clear(changed, x) {
-        return;
+    let mut marks = [false; MOST_ITEMS];
+    for x in 0..graph.n {
+        if changed[x] {
+            put(&mut marks, usize::from(at(graph.resets, 16 * x, 0)), true);
+        }
     }
-    put_flag(at16(graph.resets, 16 * x), 1, marks);
+    marks
 }
 
-fn mark_classes(graph: Graph, changed: &[u8], marks: &mut [u8])
-    requires { (graph.n ≤ most_items) × (length marks.old ≡ most_items) }
-    ensures { (length marks.new ≡ most_items)
-        × Marked graph.entry.n changed.now graph.entry.resets.now marks.new }
+fn mark_edge_masks(graph: Graph, e: usize, used: &mut [bool; MASKS])
+    requires { e < most_edges }
+    ensures { Kept used.old used.new × UsedBy graph.entry used.new e }
 {
-    let mut x = 0;
-    while x < graph.n {
-        mark_class(graph, x, changed, marks);
-        x = x + 1;
-    }
-}
-
-fn mark_edge_masks(graph: Graph, e: usize, used: &mut [u8])
-    requires { (e < most_edges) × (length used.old ≡ mask_room) }
-    ensures { (length used.new ≡ mask_room) × Kept used.old used.new
-        × UsedBy graph.entry.rows.now used.new e }
-{
-    let count = at16(graph.rows, 32 * e + 2);
-    let mut i = 0;
-    while i < count {
-        put_flag(at16(graph.rows, 32 * e + 4 + 3 * i), 1, used);
-        i = i + 1;
+    let count = usize::from(at(graph.rows, 32 * e + 2, 0));
+    for i in 0..count {
+        put(
+            used,
+            usize::from(at(graph.rows, 32 * e + 4 + 3 * i, 0)),
+            true,
+        );
     }
 }
 
-fn mark_masks(graph: Graph, used: &mut [u8])
-    requires { (graph.k ≤ most_edges) × (length used.old ≡ mask_room) }
-    ensures { (length used.new ≡ mask_room) × Used graph.entry.k graph.entry.rows.now used.new }
+fn mark_masks(graph: Graph) -> [bool; MASKS]
+    requires { graph.k ≤ most_edges }
+    ensures { Used graph.entry result }
 {
-    let mut e = 0;
-    while e < graph.k {
-        mark_edge_masks(graph, e, used);
-        e = e + 1;
+    let mut used = [false; MASKS];
+    for e in 0..graph.k {
+        mark_edge_masks(graph, e, &mut used);
     }
+    used
 }
 
 // ---- Stirred items
 
-// Are clocks marked that those of x become under this mask, where it is in use?
-fn is_touched_by(graph: Graph, x: usize, mask: usize, used: &[u8], marks: &[u8]) -> bool
-    requires { (x < most_items) × (mask < mask_room) }
-    ensures { result ≡ false → UntouchedBy used.now graph.entry.resets.now marks.now x mask }
-{
-    if !is_set(used, mask) {
-        return false;
-    }
-    is_set(marks, at16(graph.resets, 16 * x + mask))
-}
-
-// Are they so under any mask in use?
-fn is_touched(graph: Graph, x: usize, used: &[u8], marks: &[u8]) -> bool
+// Are clocks marked that those of x become under a mask in use?
+fn is_touched(graph: Graph, x: usize, used: &[bool; MASKS], marks: &[bool; MOST_ITEMS]) -> bool
     requires { x < most_items }
-    ensures { result ≡ false → Untouched used.now graph.entry.resets.now marks.now x }
+    ensures { result ≡ false → Untouched graph.entry used.now marks.now x }
 {
-    let mut mask = 0;
-    while mask < 16 {
-        if is_touched_by(graph, x, mask, used, marks) {
+    for mask in 0..MASKS {
+        if used[mask]
+            && at(
+                marks,
+                usize::from(at(graph.resets, 16 * x + mask, 0)),
+                false,
+            )
+        {
             return true;
         }
-        mask = mask + 1;
     }
     false
 }
 
 // Does edge e at item x lead to nothing that has changed? Nothing is said where the answer is no.
-fn is_edge_calm(graph: Graph, x: usize, e: usize, changed: &[u8]) -> bool
+fn is_edge_calm(graph: Graph, x: usize, e: usize, changed: &[bool; MOST_ITEMS]) -> bool
     requires { (x < most_items) × (e < most_edges) }
-    ensures { result ≡ true → EdgeCalm changed.now graph.entry.resets.now graph.entry.spots.now graph.entry.rows.now x e }
+    ensures { result ≡ true → EdgeCalm graph.entry changed.now x e }
 {
-    let count = at16(graph.rows, 32 * e + 2);
-    let mut i = 0;
-    while i < count {
-        if !is_clear(changed, graph.target_of(x, e, i)) {
+    let count = usize::from(at(graph.rows, 32 * e + 2, 0));
+    for i in 0..count {
+        let target = graph.target_of(x, e, i);
+        if at(changed, target, false) {
             return false;
         }
-        i = i + 1;
     }
     true
 }
 
 // Do all edges that are available at item x lead to nothing that has changed? Nothing is said where the answer is no.
-fn are_edges_calm(graph: Graph, x: usize, changed: &[u8]) -> bool
+fn are_edges_calm(graph: Graph, x: usize, changed: &[bool; MOST_ITEMS]) -> bool
     requires { (graph.k ≤ most_edges) × (x < most_items) }
     ensures { result ≡ true → (n : ℕ) → Opened n graph.entry.k graph.entry.flags.now → x < n
-        → EdgesCalm graph.entry.k changed.now graph.entry.flags.now graph.entry.resets.now graph.entry.spots.now
-        graph.entry.rows.now x }
+        → EdgesCalm graph.entry changed.now x }
 {
     let mut e = graph.open_edge(x, graph.k);
     while 0 < e {
@@ -317,105 +254,60 @@ fn are_edges_calm(graph: Graph, x: usize, changed: &[u8]) -> bool
     true
 }
 
-// 0 where item x is still, and is untouched or has only available edges that lead to nothing that has changed; else 1, which
-// says nothing. Only the edges of touched items are gone through.
-fn stirred_flag(
+// Is item x not still, or touched while an available edge leads to what has changed? Nothing is said where the answer is yes. Only the
+// edges of touched items are gone through.
+fn is_stirred(
     graph: Graph,
     x: usize,
-    changed: &[u8],
-    used: &[u8],
-    still: &[u8],
-    marks: &[u8],
-) -> u8
+    changed: &[bool; MOST_ITEMS],
+    used: &[bool; MASKS],
+    still: &[bool; MOST_ITEMS],
+    marks: &[bool; MOST_ITEMS],
+) -> bool
     requires { (graph.k ≤ most_edges) × (x < most_items) }
     ensures { (n : ℕ) → Opened n graph.entry.k graph.entry.flags.now → x < n
-        → RestsAt graph.entry.k changed.now graph.entry.flags.now graph.entry.resets.now graph.entry.spots.now graph.entry.rows.now
-        used.now still.now marks.now x result }
+        → RestsAt graph.entry changed.now used.now still.now marks.now x result }
 {
-    if !is_set(still, x) {
-        return 1;
-    }
-    if !is_touched(graph, x, used, marks) {
-        return 0;
-    }
-    if are_edges_calm(graph, x, changed) {
-        return 0;
-    }
-    1
-}
-
-fn stir_touched(
-    graph: Graph,
-    changed: &[u8],
-    used: &[u8],
-    still: &[u8],
-    marks: &[u8],
-    stirred: &mut [u8],
-)
-    requires { (graph.n ≤ most_items) × (graph.k ≤ most_edges) × (graph.n ≤ length stirred.old) }
-    ensures stirred_len_unchanged { length stirred.new ≡ length stirred.old }
-    ensures rests { Opened graph.entry.n graph.entry.k graph.entry.flags.now → Rests graph.entry.n graph.entry.k changed.now
-        graph.entry.flags.now graph.entry.resets.now
-        graph.entry.spots.now graph.entry.rows.now
-        used.now still.now marks.now stirred.new }
-{
-    let mut x = 0;
-    while x < graph.n {
-        let flag = stirred_flag(graph, x, changed, used, still, marks);
-        put_flag(x, flag, stirred);
-        x = x + 1;
-    }
+    !still[x] || is_touched(graph, x, used, marks) && !are_edges_calm(graph, x, changed)
 }
 
 // Stirs what is not still, and what a change reaches by an edge.
-fn stir_some(graph: Graph, changed: &[u8], still: &[u8], stirred: &mut [u8])
-    requires { (graph.n ≤ most_items) × (graph.k ≤ most_edges) × (graph.n ≤ length stirred.old) }
-    ensures stirred_len_unchanged { length stirred.new ≡ length stirred.old }
-    ensures spared { Opened graph.entry.n graph.entry.k graph.entry.flags.now → Spared graph.entry.n graph.entry.k changed.now
-        graph.entry.flags.now graph.entry.resets.now
-        graph.entry.spots.now graph.entry.rows.now
-        still.now stirred.new }
+fn stir_some(
+    graph: Graph,
+    changed: &[bool; MOST_ITEMS],
+    still: &[bool; MOST_ITEMS],
+    stirred: &mut [bool; MOST_ITEMS],
+)
+    requires { (graph.n ≤ most_items) × (graph.k ≤ most_edges) }
+    ensures { Opened graph.entry.n graph.entry.k graph.entry.flags.now
+        → Spared graph.entry changed.now still.now stirred.new }
 {
-    let mut marks = [0u8; 4096];
-    mark_classes(graph, changed, &mut marks);
-    let mut used = [0u8; 16];
-    mark_masks(graph, &mut used);
-    stir_touched(graph, changed, &used, still, &marks, stirred);
-}
-
-fn stir_all(n: usize, stirred: &mut [u8])
-    requires { n ≤ length stirred.old }
-    ensures { (length stirred.new ≡ length stirred.old)
-        × ((x : ℕ) → x < n → get_or stirred.new x 0 ≡ 1) }
-{
-    let mut x = 0;
-    while x < n {
-        put_flag(x, 1, stirred);
-        x = x + 1;
+    let marks = mark_classes(graph, changed);
+    let used = mark_masks(graph);
+    for x in 0..graph.n {
+        stirred[x] = is_stirred(graph, x, changed, &used, still, &marks);
     }
 }
 
 // Marks the items that are stirred: all of them where targets are not as their clocks say, or where the marks of still items fail
 // their test. An item that the order leaves out is stirred.
-pub(crate) fn stir(graph: Graph, classed: bool, changed: &[u8], order: &[u16], stirred: &mut [u8])
-    requires { (graph.n ≤ most_items) × (graph.k ≤ most_edges) × (graph.n ≤ length stirred.old) }
-    ensures stirred_len_unchanged { length stirred.new ≡ length stirred.old }
-    ensures stirred { Opened graph.entry.n graph.entry.k graph.entry.flags.now
-        → (classed ≡ true → Classed graph.entry.n graph.entry.k graph.entry.flags.now graph.entry.resets.now graph.entry.spots.now
-        graph.entry.rows.now)
-        → Stirred graph.entry.n graph.entry.k changed.now graph.entry.nexts.now graph.entry.flags.now graph.entry.resets.now
-        graph.entry.spots.now
-        graph.entry.rows.now stirred.new }
+pub(crate) fn stir(
+    graph: Graph,
+    classed: bool,
+    changed: &[bool; MOST_ITEMS],
+    order: &[u16; MOST_ITEMS],
+    stirred: &mut [bool; MOST_ITEMS],
+)
+    requires { (graph.n ≤ most_items) × (graph.k ≤ most_edges) }
+    ensures { Opened graph.entry.n graph.entry.k graph.entry.flags.now
+        → (classed ≡ true → Classed graph.entry) → Stirred graph.entry changed.now stirred.new }
 {
-    if !classed {
-        stir_all(graph.n, stirred);
-        return;
+    if classed {
+        let still = mark_still(graph, changed, order);
+        if is_still(graph, changed, &still) {
+            stir_some(graph, changed, &still, stirred);
+            return;
+        }
     }
-    let mut still = [0u8; 4096];
-    mark_still(graph, changed, order, &mut still);
-    if !is_still(graph, changed, &still) {
-        stir_all(graph.n, stirred);
-        return;
-    }
-    stir_some(graph, changed, &still, stirred);
+    stirred.fill(true);
 }

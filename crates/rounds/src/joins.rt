@@ -5,46 +5,40 @@ ghost use Rattle.bisimulation.specs.Finite.{Finite, related, next};
 ghost use Rattle.bisimulation.specs.Below.{Reps};
 ghost use Rattle.comparison.specs.Held.{most_items};
 ghost use Rattle.rounds.specs.Changes.{Settled};
-ghost use Rattle.rounds.specs.Rounds.{Anchored, joined_by, join_mark, MarkedTo, Step, Kins};
-ghost use Rattle.comparison.specs.Keys.{Keyed, Equipped};
+ghost use Rattle.rounds.specs.Rounds.{Anchored, joined_by, join_mark, MarkedTo, Step, KinsBelow};
+ghost use Rattle.rounds.specs.Rounds.{KeyedIn, EquippedIn};
 
-use crate::kins::{find_kin, put_kin, sign_of};
-use crate::stores::put_link;
-use comparison::{Graph, at16, index_at, is_clear};
+use crate::MOST_ITEMS;
+use crate::kins::{KinIndex, sign_of};
+use crate::links::{link, linked};
+use comparison::Graph;
+use slices::at;
+
+// What a round goes by: the rep map of the round before, which items are stirred, the anchors of blocks, and the names.
+#[derive(Clone, Copy)]
+pub(crate) struct Before<'a> {
+    pub old: &'a [u64],
+    pub stirred: &'a [bool; MOST_ITEMS],
+    pub anchors: &'a [u16; MOST_ITEMS],
+    pub names: &'a [u64; MOST_ITEMS],
+}
 
 // ---- Anchors
 
-// Item x becomes the anchor of its block where it is the first there that is not stirred.
-fn place_anchor(x: usize, old: &[u64], stirred: &[u8], anchors: &mut [u16])
-    requires { x < most_items }
-    ensures anchors_len_unchanged { length anchors.new ≡ length anchors.old }
-    ensures anchored { get_or old.now x 0 < length anchors.old
-        → Anchored x old.now stirred.now anchors.old
-        → Anchored (x + 1) old.now stirred.now anchors.new }
+// Finds the anchors of all blocks, each told at the number of its leader: the first item of the block that is not stirred.
+pub(crate) fn find_anchors(old: &[u64], stirred: &[bool; MOST_ITEMS]) -> [u16; MOST_ITEMS]
+    requires { length old.now ≤ most_items }
+    ensures { (n : ℕ) → length old.now ≡ n → Reps (related old.now) n old.now
+        → Anchored n old.now stirred.now result }
 {
-    if !is_clear(stirred, x) {
-        return;
+    let mut anchors = [0u16; MOST_ITEMS];
+    for x in 0..old.len() {
+        let block = old[x] as usize;
+        if !stirred[x] && linked(&anchors, block).is_none() {
+            link(&mut anchors, block, x);
+        }
     }
-    let block = index_at(old, x);
-    if 0 < at16(anchors, block) {
-        return;
-    }
-    put_link(block, x + 1, anchors);
-}
-
-// The anchors of all blocks, each told at the number of its leader. The list comes cleared.
-pub(crate) fn find_anchors(n: usize, old: &[u64], stirred: &[u8], anchors: &mut [u16])
-    requires n_le_most_items { (n ≤ most_items) × (n ≤ length anchors.old) }
-    requires by_index { (b : ℕ) → get_or anchors.old b 0 ≡ 0 }
-    ensures anchors_len_unchanged { length anchors.new ≡ length anchors.old }
-    ensures anchored { Reps (related old.now) n old.now
-        → Anchored n old.now stirred.now anchors.new }
-{
-    let mut x = 0;
-    while x < n {
-        place_anchor(x, old, stirred, anchors);
-        x = x + 1;
-    }
+    anchors
 }
 
 // ---- Marks
@@ -53,98 +47,85 @@ pub(crate) fn find_anchors(n: usize, old: &[u64], stirred: &[u8], anchors: &mut 
 // whose mark tells. Else the two are compared, and x may become a kin.
 fn is_joined(
     graph: Graph,
+    before: Before,
     x: usize,
-    old: &[u64],
-    stirred: &[u8],
-    anchors: &[u16],
-    names: &[u64],
-    marks: &[u16],
-    keys: &mut [u64],
-    shelf: &mut [u64],
-    older: &mut [u16],
-    kins: &mut [u16],
+    marks: &[u16; MOST_ITEMS],
+    keys: &mut [u64; MOST_ITEMS],
+    shelf: &mut [u64; 129],
+    kins: &mut KinIndex,
 ) -> bool
-    requires { x < 4096 }
-    ensures keys_len_unchanged { (length keys.new ≡ length keys.old) × (length shelf.new ≡ length shelf.old)
-        × (length older.new ≡ length older.old) × (length kins.new ≡ length kins.old) }
-    ensures kins { Kins x older.old → Kins x kins.old
-        → Kins (x + 1) older.new × Kins (x + 1) kins.new }
-    ensures value { (F : Finite) → Equipped F graph.entry.n graph.entry.k names.now keys.old shelf.old graph.entry.labels.now
-        graph.entry.nexts.now graph.entry.flags.now graph.entry.resets.now graph.entry.spots.now graph.entry.rows.now
-        → Settled (next F names.now) (related old.now) graph.entry.n stirred.now
-        → Anchored graph.entry.n old.now stirred.now anchors.now
-        → Step (next F names.now) graph.entry.n old.now
-        → MarkedTo x (next F names.now) anchors.now old.now marks.now
-        → Kins x older.old → Kins x kins.old → x < graph.entry.n
-        → (result ≡ joined_by (next F names.now) anchors.now old.now x)
-        × Equipped F graph.entry.n graph.entry.k names.now keys.new shelf.new graph.entry.labels.now graph.entry.nexts.now
-        graph.entry.flags.now graph.entry.resets.now graph.entry.spots.now graph.entry.rows.now }
+    requires { x < most_items }
+    ensures kins { (i : ℕ) → x < i → KinsBelow i kins.old → KinsBelow i kins.new }
+    ensures value { (F : Finite) → let d = next F before.entry.names.now in
+        let old = before.entry.old.now in
+        EquippedIn F graph.entry before.entry.names.now keys.old shelf.old
+        → Settled d (related old) graph.entry.n before.entry.stirred.now
+        → Anchored graph.entry.n old before.entry.stirred.now before.entry.anchors.now
+        → Step d graph.entry.n old
+        → MarkedTo x d before.entry.anchors.now old marks.now
+        → KinsBelow x kins.old → x < graph.entry.n
+        → (result ≡ joined_by d before.entry.anchors.now old x)
+        × EquippedIn F graph.entry before.entry.names.now keys.new shelf.new }
 {
-    if is_clear(stirred, x) {
+    let Before {
+        old,
+        stirred,
+        anchors,
+        names,
+    } = before;
+    if !stirred[x] {
         return true;
     }
-    let block = index_at(old, x);
-    let link = at16(anchors, block);
-    if link == 0 {
+    let Some(anchor) = linked(anchors, at(old, x, 0) as usize) else {
         return false;
-    }
-    if graph.is_twin(link - 1, x, names) {
+    };
+    if graph.is_twin(anchor, x, names) {
         return true;
     }
     let sign = sign_of(graph, x, names);
-    let first = at16(kins, sign);
-    let kin = find_kin(graph, x, first, names, older);
-    if 0 < kin {
-        return at16(marks, kin - 1) % 2 == 1;
+    if let Some(kin) = kins.find(graph, x, kins.newest(sign), names) {
+        return at(marks, kin, 0) % 2 == 1;
     }
-    let joins = graph.is_keyed_next(link - 1, x, names, keys, shelf);
-    put_kin(x, sign, keys, older, kins);
+    let joins = graph.is_keyed_next(anchor, x, names, keys, shelf);
+    kins.put(x, sign, keys);
     joins
 }
 
 // The mark of an item. Blocks have the numbers of items; for any other number there is no mark to tell.
-fn mark_of(block: usize, joins: bool) -> usize
-    ensures { (result < 65536) × (block < most_items → result ≡ join_mark block joins) }
+fn mark_of(block: u64, joins: bool) -> u16
+    ensures { block < most_items → result ≡ join_mark block joins }
 {
-    if 4096 <= block {
-        return 0;
+    if block < 4096 {
+        2 * block as u16 + u16::from(joins)
+    } else {
+        0
     }
-    if joins { 2 * block + 1 } else { 2 * block }
 }
 
 // The marks of all items.
 pub(crate) fn fill_marks(
     graph: Graph,
-    old: &[u64],
-    stirred: &[u8],
-    anchors: &[u16],
-    names: &[u64],
-    keys: &mut [u64],
-    marks: &mut [u16],
-)
-    requires { (graph.n ≤ length marks.old) × (graph.n ≤ 4096) }
-    ensures keys_len_unchanged { (length keys.new ≡ length keys.old)
-        × (length marks.new ≡ length marks.old) }
-    ensures marked_to { (F : Finite) → Keyed F graph.entry.n graph.entry.k names.now keys.old graph.entry.labels.now
-        graph.entry.nexts.now
-        graph.entry.flags.now graph.entry.resets.now graph.entry.spots.now graph.entry.rows.now
-        → Settled (next F names.now) (related old.now) graph.entry.n stirred.now
-        → Anchored graph.entry.n old.now stirred.now anchors.now
-        → Step (next F names.now) graph.entry.n old.now
-        → MarkedTo graph.entry.n (next F names.now) anchors.now old.now marks.new
-        × Keyed F graph.entry.n graph.entry.k names.now keys.new graph.entry.labels.now graph.entry.nexts.now
-        graph.entry.flags.now graph.entry.resets.now graph.entry.spots.now graph.entry.rows.now }
+    before: Before,
+    keys: &mut [u64; MOST_ITEMS],
+) -> [u16; MOST_ITEMS]
+    requires { graph.n ≤ most_items }
+    ensures { (F : Finite) → let d = next F before.entry.names.now in
+        let old = before.entry.old.now in
+        KeyedIn F graph.entry before.entry.names.now keys.old
+        → Settled d (related old) graph.entry.n before.entry.stirred.now
+        → Anchored graph.entry.n old before.entry.stirred.now before.entry.anchors.now
+        → Step d graph.entry.n old
+        → MarkedTo graph.entry.n d before.entry.anchors.now old result
+        × KeyedIn F graph.entry before.entry.names.now keys.new }
 {
+    let mut marks = [0u16; MOST_ITEMS];
     // For the codes of an anchor that items are compared with; empty at first.
     let mut shelf = [0u64; 129];
-    let mut older = [0u16; 4096];
-    let mut kins = [0u16; 4096];
-    let mut x = 0;
-    while x < graph.n {
-        let joins = is_joined(
-            graph, x, old, stirred, anchors, names, marks, keys, &mut shelf, &mut older, &mut kins,
-        );
-        put_link(x, mark_of(index_at(old, x), joins), marks);
-        x = x + 1;
+    let mut kins = KinIndex::new();
+    let old = before.old;
+    for x in 0..graph.n {
+        let joins = is_joined(graph, before, x, &marks, keys, &mut shelf, &mut kins);
+        marks[x] = mark_of(at(old, x, 0), joins);
     }
+    marks
 }

@@ -5,10 +5,13 @@ mod changes;
 mod joins;
 mod judging;
 mod kins;
+mod links;
 mod names;
 mod numbering;
 mod rounds;
-mod stores;
 
 pub use judging::judge;
 pub use rounds::{Counted, number_lists};
+
+// As many items as there may be.
+const MOST_ITEMS: usize = 4096;

@@ -1,14 +1,14 @@
 -- The index of first items: a search along a bucket finds the lead of an item (`looking-found`, `looking-none`), and the index grows by
 -- an item that leads (`indexed-on`) and stays by one that does not (`indexed-past`).
-use Rattle.std.specs.Prelude.{ℕ, suc, ◌+◌, ◌-◌, ◌%◌, ◌≤◌, ◌<◌, ◌≡◌, refl, Bool, true, false, List, ◌⊎◌, eqb, ltb, get_or, set, replicate}
-use Rattle.std.proofs.Common.{arith, add-one, sym, ◌∙◌, ap, inl, inr, length-set, get_or-set_same}
+use Rattle.std.specs.Prelude.{ℕ, suc, ◌+◌, ◌%◌, ◌≤◌, ◌<◌, ◌≡◌, refl, Bool, true, false, List, ◌⊎◌, eqb, ltb, length, get_or, set}
+use Rattle.std.proofs.Common.{arith, add-one, sym, ◌∙◌, ap, inl, inr, get_or-set_same}
 use Rattle.std.proofs.Common.{get_or-set_other, eq-eqb, eqb-true, ltb-true, ltb-false}
-use Rattle.std.proofs.lemmas.List.{length-replicate, get_or-replicate}
 use Rattle.bisimulation.specs.Finite.{related, lead}
 use Rattle.bisimulation.proofs.Laws.Tests.{clash, both, same?, and-iff, fails}
 use Rattle.bisimulation.proofs.Laws.Leads.{related-equivalence, lead_low, lead-lowest, lead-lead, lead-found, lead-related}
-use Rattle.comparison.specs.Held.{most_items, open_below}
+use Rattle.comparison.specs.Held.{open_below}
 use Rattle.rounds.specs.Firsts.{bucket_prime, bucket_at, is_first_in, Indexed, Looking}
+use Rattle.rounds.specs.declared.judging.FirstIndex.{FirstIndex}
 use Rattle.comparison.specs.Laws.Open.{open_none, open-yes, open_no, open-most, open_at}
 use Rattle.comparison.specs.Laws.Down.{open-past}
 use Rattle.comparison.specs.Laws.Steps.{below_one}
@@ -58,49 +58,48 @@ module _ (list : List ℕ) where
         ahead = λ y below leads t. open-ahead p e y (ahead y below leads t) (first-in (bucket_at list x) y leads (same-bucket y x t));
       }
 
-  module _ (heads links : List ℕ) (x : ℕ) (index : Indexed list heads links x) where
-    pub looking-start : (link : ℕ) → link ≡ get_or heads (bucket_at list x) 0 → Looking list x link
-    looking-start link is =
-        rw (is ∙ index.head (bucket_at list x) (bucket-below list x)) (looking-from x x (omega arith) (λ y below leads t. below))
+  module _ (stored : FirstIndex) (x : ℕ) (index : Indexed list stored x) where
+    pub looking-start : Looking list x (get_or stored.heads (bucket_at list x) 0)
+    looking-start =
+        rw (index.head (bucket_at list x) (bucket-below list x)) (looking-from x x (omega arith) (λ y below leads t. below))
 
-    module _ (link : ℕ) (at : Looking list x link) (some : 0 < link) where
-      first-there : is_first_in list (bucket_at list x) (link - 1) ≡ true
-      first-there = at.inside (link - 1) (omega arith)
+    module _ (y : ℕ) (at : Looking list x (suc y)) where
+      first-there : is_first_in list (bucket_at list x) y ≡ true
+      first-there = at.inside y refl
 
       -- The next link is told for the items before this one.
-      next-told : get_or links (link - 1) 0 ≡ open_below (is_first_in list (bucket_at list x)) (link - 1)
+      next-told : get_or stored.links y 0 ≡ open_below (is_first_in list (bucket_at list x)) y
       next-told =
-          index.link (link - 1) (omega (arith, at.within)) (first-leads (bucket_at list x) (link - 1) first-there)
-          ∙ ap (λ (b : ℕ). open_below (is_first_in list b) (link - 1)) (first-bucket (bucket_at list x) (link - 1) first-there)
+          index.link y (omega (arith, at.within)) (first-leads (bucket_at list x) y first-there)
+          ∙ ap (λ (b : ℕ). open_below (is_first_in list b) y) (first-bucket (bucket_at list x) y first-there)
 
-      pub next-falls : (next : ℕ) → next ≡ get_or links (link - 1) 0 → next < link
-      next-falls next is = omega (arith, is, next-told, open-most (is_first_in list (bucket_at list x)) (link - 1))
+      pub next-falls : get_or stored.links y 0 ≤ y
+      next-falls = omega (arith, next-told, open-most (is_first_in list (bucket_at list x)) y)
 
-      pub looking-on : (next : ℕ) → next ≡ get_or links (link - 1) 0 → ¬ (get_or list (link - 1) 0 ≡ get_or list x 0) → Looking list x next
-      looking-on next is differs =
-          rw (is ∙ next-told)
-          (looking-from x (link - 1) (omega (arith, at.within))
-          (λ y below leads t.
-          let other : y ≡ link - 1 → ⊥ = λ same.
-          differs (ap (λ (z : ℕ). get_or list z 0) (sym same) ∙ eqb-true (get_or list y 0) (get_or list x 0) t) in
-          omega (arith, at.ahead y below leads t, other)))
+      pub looking-on : ¬ (get_or list y 0 ≡ get_or list x 0) → Looking list x (get_or stored.links y 0)
+      looking-on differs =
+          rw next-told
+          (looking-from x y (omega (arith, at.within))
+          (λ z below leads t.
+          let other : z ≡ y → ⊥ = λ same.
+          differs (ap (λ (w : ℕ). get_or list w 0) (sym same) ∙ eqb-true (get_or list z 0) (get_or list x 0) t) in
+          omega (arith, at.ahead z below leads t, other)))
 
       -- A first item with the number of x is its lead.
-      pub looking-found : get_or list (link - 1) 0 ≡ get_or list x 0 → link - 1 ≡ lead (related list) x
+      pub looking-found : get_or list y 0 ≡ get_or list x 0 → lead (related list) x ≡ y
       looking-found same =
-          let y : ℕ = link - 1 in
           let leads : lead (related list) y ≡ y = first-leads (bucket_at list x) y first-there in
-          sym (lead-found (related list) x y (omega (arith, at.within)) (eq-eqb (get_or list y 0) (get_or list x 0) same)
+          lead-found (related list) x y (omega (arith, at.within)) (eq-eqb (get_or list y 0) (get_or list x 0) same)
           (λ z h.
           ap (λ (v : ℕ). eqb (get_or list z 0) v) (sym same)
-          ∙ lead-lowest (related list) y z (omega (arith, h, leads))))
+          ∙ lead-lowest (related list) y z (omega (arith, h, leads)))
 
     -- Where none is left, x leads.
-    pub looking-none : (link : ℕ) → Looking list x link → link ≤ 0 → x ≡ lead (related list) x
-    looking-none link at over = go (same? (lead (related list) x) x)
+    pub looking-none : Looking list x 0 → lead (related list) x ≡ x
+    looking-none at = go (same? (lead (related list) x) x)
       where
-        go : (lead (related list) x ≡ x) ⊎ (¬ (lead (related list) x ≡ x)) → x ≡ lead (related list) x
-        go (inl same) = sym same
+        go : (lead (related list) x ≡ x) ⊎ (¬ (lead (related list) x ≡ x)) → lead (related list) x ≡ x
+        go (inl same) = same
         go (inr other) =
             absurd (omega (
               arith,
@@ -111,23 +110,18 @@ module _ (list : List ℕ) where
 
   -- ---- The index
 
-  pub indexed-none : Indexed list (replicate most_items 0) (replicate most_items 0) 0
-  indexed-none =
+  pub indexed-none : (stored : FirstIndex) → ((b : ℕ) → get_or stored.heads b 0 ≡ 0) → Indexed list stored 0
+  indexed-none stored none =
       record {
-        buckets = length-replicate {A = ℕ} most_items 0;
-        room = length-replicate {A = ℕ} most_items 0;
-        head = λ bucket h.
-            get_or-replicate most_items bucket 0 0 (omega arith) ∙ sym (open_none (is_first_in list bucket));
+        head = λ bucket h. none bucket ∙ sym (open_none (is_first_in list bucket));
         link = λ y h leads. absurd (omega arith);
       }
 
-  module _ (heads links : List ℕ) (x : ℕ) (index : Indexed list heads links x) where
+  module _ (stored : FirstIndex) (x : ℕ) (index : Indexed list stored x) where
     -- An item that does not lead is in no bucket.
-    pub indexed-past : ¬ (lead (related list) x ≡ x) → Indexed list heads links (x + 1)
+    pub indexed-past : ¬ (lead (related list) x ≡ x) → Indexed list stored (x + 1)
     indexed-past other =
         record {
-          buckets = index.buckets;
-          room = index.room;
           head = λ bucket h.
               index.head bucket h
               ∙ sym (ap (open_below (is_first_in list bucket)) (add-one x)
@@ -136,45 +130,41 @@ module _ (list : List ℕ) where
         }
       where
         go : (y : ℕ) → lead (related list) y ≡ y → (y ≡ x) ⊎ (y < x)
-            → get_or links y 0 ≡ open_below (is_first_in list (bucket_at list y)) y
+            → get_or stored.links y 0 ≡ open_below (is_first_in list (bucket_at list y)) y
         go y leads (inl same) = absurd (other (ap (lead (related list)) (sym same) ∙ leads ∙ same))
         go y leads (inr below) = index.link y below leads
 
     -- One that leads is the new head of its bucket, and links to the old one.
-    pub indexed-on : x < most_items → lead (related list) x ≡ x
-        → Indexed list (set heads (bucket_at list x) (x + 1)) (set links x (get_or heads (bucket_at list x) 0)) (x + 1)
-    indexed-on few leads =
+    pub indexed-on : bucket_prime ≤ length stored.heads → x < length stored.links → lead (related list) x ≡ x
+        → Indexed list (record {
+          heads = set stored.heads (bucket_at list x) (x + 1);
+          links = set stored.links x (get_or stored.heads (bucket_at list x) 0);
+        }) (x + 1)
+    indexed-on buckets room leads =
         record {
-          buckets = length-set heads (bucket_at list x) (x + 1) ∙ index.buckets;
-          room = length-set links x (get_or heads (bucket_at list x) 0) ∙ index.room;
           head = λ bucket h. heads-on bucket h (same? bucket (bucket_at list x));
           link = λ y h leads. links-on y leads (below_one h);
         }
       where
         heads-on : (bucket : ℕ) → bucket < bucket_prime → (bucket ≡ bucket_at list x) ⊎ (¬ (bucket ≡ bucket_at list x))
-            → get_or (set heads (bucket_at list x) (x + 1)) bucket 0 ≡ open_below (is_first_in list bucket) (x + 1)
+            → get_or (set stored.heads (bucket_at list x) (x + 1)) bucket 0 ≡ open_below (is_first_in list bucket) (x + 1)
         heads-on bucket h (inl same) =
-            rw same (get_or-set_same heads (bucket_at list x) (x + 1) 0 (omega (arith, bucket-below list x, index.buckets)))
+            rw same (get_or-set_same stored.heads (bucket_at list x) (x + 1) 0 (omega (arith, bucket-below list x, buckets)))
             ∙ add-one x
             ∙ sym (ap (open_below (is_first_in list bucket)) (add-one x)
             ∙ open-yes (is_first_in list bucket) x (first-in bucket x leads (sym same)))
         heads-on bucket h (inr other) =
-            get_or-set_other heads (bucket_at list x) bucket (x + 1) 0 other
+            get_or-set_other stored.heads (bucket_at list x) bucket (x + 1) 0 other
             ∙ index.head bucket h
             ∙ sym (ap (open_below (is_first_in list bucket)) (add-one x)
             ∙ open_no (is_first_in list bucket) x (fails (is_first_in list bucket x) (λ t. other (sym (first-bucket bucket x t)))))
 
         links-on : (y : ℕ) → lead (related list) y ≡ y → (y ≡ x) ⊎ (y < x)
-            → get_or (set links x (get_or heads (bucket_at list x) 0)) y 0 ≡ open_below (is_first_in list (bucket_at list y)) y
+            → get_or (set stored.links x (get_or stored.heads (bucket_at list x) 0)) y 0
+            ≡ open_below (is_first_in list (bucket_at list y)) y
         links-on y first (inl same) =
-            rw same (get_or-set_same links x (get_or heads (bucket_at list x) 0) 0 (omega (arith, few, index.room))
+            rw same (get_or-set_same stored.links x (get_or stored.heads (bucket_at list x) 0) 0 room
             ∙ index.head (bucket_at list x) (bucket-below list x))
         links-on y first (inr below) =
-            get_or-set_other links x y (get_or heads (bucket_at list x) 0) 0 (λ same. omega (arith, same, below)) ∙ index.link y below first
-
-    -- What the code stores.
-    pub indexed-put : (bucket head : ℕ) (heads' links' : List ℕ) → x < most_items → lead (related list) x ≡ x
-        → bucket ≡ bucket_at list x → head ≡ get_or heads bucket 0
-        → links' ≡ set links x head → heads' ≡ set heads bucket (x + 1) → Indexed list heads' links' (x + 1)
-    indexed-put bucket head heads' links' few leads own was links-are heads-are =
-        rw (heads-are, links-are, was, own) (indexed-on few leads)
+            get_or-set_other stored.links x y (get_or stored.heads (bucket_at list x) 0) 0 (λ same. omega (arith, same, below))
+            ∙ index.link y below first

@@ -1,13 +1,14 @@
 -- Names tell the same items apart as the rep map does; and what the code that gives the names keeps, one law for each turn of a loop.
-use Rattle.std.specs.Prelude.{ℕ, ◌+◌, ◌≤◌, ◌<◌, ◌≡◌, refl, Bool, List, ◌⊎◌, length, get_or, set}
+use Rattle.std.specs.Prelude.{ℕ, ◌+◌, ◌≤◌, ◌<◌, ◌≡◌, refl, Bool, false, List, ◌⊎◌, length, get_or, set}
 use Rattle.std.proofs.Common.{arith, sym, ◌∙◌, ap, subst, inl, inr, length-set, get_or-set_same, get_or-set_other, eq-eqb, eqb-true}
+use Rattle.std.specs.List.{swap}
+use Rattle.std.proofs.lemmas.List.Edits.{swap_is}
 use Rattle.bisimulation.specs.Finite.{related, lead}
 use Rattle.bisimulation.proofs.Laws.Tests.{same?, same_test}
 use Rattle.bisimulation.proofs.Laws.Leads.{related-equivalence, lead_low, lead-lead, leader-finer}
 use Rattle.bisimulation.specs.Below.{AgreeBelow, Reps}
-use Rattle.rounds.specs.Names.{Tagged, Named, LeadersKept, Reached, TaggedIn, swapped, RenamedTo}
+use Rattle.rounds.specs.Names.{Tagged, Named, LeadersKept, Reached, TaggedIn, RenamedTo}
 use Rattle.rounds.specs.Rounds.{Step}
-use Rattle.rounds.specs.Laws.Rounds.{CopiedTo}
 use Rattle.comparison.specs.Laws.Steps.{below_one}
 
 -- ---- What names say
@@ -56,23 +57,12 @@ tags-own n reps tags same =
       apart = λ l m hl hm el em e. sym (same l hl) ∙ e ∙ same m hm;
     }
 
--- One more number is its own tag.
-abbrev pub OwnTo : ℕ → (tags : List ℕ) → Type 0
-OwnTo i tags = (l : ℕ) → l < i → get_or tags l 0 ≡ l
-
-pub own_on : (tags : List ℕ) (i : ℕ) → i < length tags → OwnTo i tags → OwnTo (i + 1) (set tags i i)
-own_on tags i h own l hl = at (below_one hl)
-  where
-    at : (l ≡ i) ⊎ (l < i) → get_or (set tags i i) l 0 ≡ l
-    at (inl s) = rw s (get_or-set_same tags i i 0 h)
-    at (inr b) = get_or-set_other tags i l i 0 (λ s. absurd (omega (arith, s))) ∙ own l b
-
-pub named-first : (n : ℕ) (reps tags names : List ℕ) → OwnTo n tags → CopiedTo n reps names
-    → ((x : ℕ) → x < n → get_or reps x 0 < n) → Named n reps tags names
-named-first n reps tags names own copied below =
+pub named-first : (n : ℕ) (reps tags names : List ℕ) → ((l : ℕ) → l < n → get_or tags l 0 ≡ l)
+    → ((x : ℕ) → x < n → get_or names x 0 ≡ get_or reps x 0) → ((x : ℕ) → x < n → get_or reps x 0 < n) → Named n reps tags names
+named-first n reps tags names own same below =
     record {
       tagged = tags-own n reps tags own;
-      name = λ x h. copied x h ∙ sym (own (get_or reps x 0) (below x h));
+      name = λ x h. same x h ∙ sym (own (get_or reps x 0) (below x h));
     }
 
 -- ---- Tagging the leaders of the next round
@@ -184,11 +174,10 @@ module _ (n : ℕ) (old new tags : List ℕ) (x : ℕ) (hx : x < n) (long : n �
       apart l m hl hm rl rm (inr o) (inr u) e =
           tagged.apart l m hl hm (earlier l rl o) (earlier m rm u) (sym (there l o) ∙ e ∙ there m u)
 
-pub swapped-length : (tags : List ℕ) (x y : ℕ) → length (swapped tags x y) ≡ length tags
-swapped-length tags x y =
-    length-set (set tags x (get_or tags y 0)) y (get_or tags x 0) ∙ length-set tags x (get_or tags y 0)
-
 -- Two of these numbers may swap their tags.
+abbrev swapped : (tags : List ℕ) → (x y : ℕ) → List ℕ
+swapped tags x y = set (set tags x (get_or tags y 0)) y (get_or tags x 0)
+
 module _ (n : ℕ) (these : ℕ → Type 0) (tags : List ℕ) (x y : ℕ) (hx : x < n) (hy : y < n) (sx : these x) (sy : these y)
     (long : n ≤ length tags) (tagged : TaggedIn n these tags) where
   -- Where the tag of l comes from.
@@ -235,8 +224,8 @@ module _ (n : ℕ) (these : ℕ → Type 0) (tags : List ℕ) (x y : ℕ) (hx : 
   single l m k j (From.same a b f) (From.first c d g) e = absurd (a (omega (arith, f, g, e)))
   single l m k j (From.same a b f) (From.same c d g) e = omega (arith, f, g, e)
 
-  pub tagged-swap : TaggedIn n these (swapped tags x y)
-  tagged-swap =
+  tagged-swapped : TaggedIn n these (swapped tags x y)
+  tagged-swapped =
       record {
         own =
             λ l h s.
@@ -252,15 +241,18 @@ module _ (n : ℕ) (these : ℕ → Type 0) (tags : List ℕ) (x y : ℕ) (hx : 
             single l m k j f g (tagged.apart k j hk hj sk sj (sym p ∙ e ∙ q));
       }
 
+  pub tagged-swap : TaggedIn n these (swap tags x y)
+  tagged-swap = subst (TaggedIn n these) (swap_is tags x y 0 (omega arith) (omega arith)) tagged-swapped
+
 -- ---- Renaming
 
-pub renamed-none : (new tags names changed : List ℕ) → RenamedTo new tags names names changed 0
+pub renamed-none : (new tags names : List ℕ) (changed : List Bool) → RenamedTo new tags names names changed 0
 renamed-none new tags names changed =
     record { done = λ x h. absurd (omega arith); same = λ x h. absurd (omega arith); rest = λ x h. refl }
 
--- One more item: its flag is 0 only where its name is the old one.
-pub renamed-on : (new tags names₀ names changed : List ℕ) (i name flag : ℕ) → i < length names → i < length changed
-    → RenamedTo new tags names₀ names changed i → name ≡ get_or tags (get_or new i 0) 0 → (flag ≡ 0 → name ≡ get_or names i 0)
+-- One more item: it is not flagged only where its name is the old one.
+pub renamed-on : (new tags names₀ names : List ℕ) (changed : List Bool) (i name : ℕ) (flag : Bool) → i < length names → i < length changed
+    → RenamedTo new tags names₀ names changed i → name ≡ get_or tags (get_or new i 0) 0 → (flag ≡ false → name ≡ get_or names i 0)
     → RenamedTo new tags names₀ (set names i name) (set changed i flag) (i + 1)
 renamed-on new tags names₀ names changed i name flag hn hc renamed named flagged =
     record {
@@ -276,10 +268,11 @@ renamed-on new tags names₀ names changed i name flag hn hc renamed named flagg
     done x (inl s) = rw s (get_or-set_same names i name 0 hn ∙ named)
     done x (inr b) = other x b ∙ renamed.done x b
 
-    same : (x : ℕ) → (x ≡ i) ⊎ (x < i) → get_or (set changed i flag) x 0 ≡ 0 → get_or (set names i name) x 0 ≡ get_or names₀ x 0
+    same : (x : ℕ) → (x ≡ i) ⊎ (x < i) → get_or (set changed i flag) x false ≡ false
+        → get_or (set names i name) x 0 ≡ get_or names₀ x 0
     same x (inl s) z =
-        let zero-here : flag ≡ 0 =
-        sym (get_or-set_same changed i flag 0 hc) ∙ sym (ap (λ (k : ℕ). get_or (set changed i flag) k 0) s) ∙ z in
-        rw s (get_or-set_same names i name 0 hn ∙ flagged zero-here ∙ renamed.rest i (omega arith))
+        let clear : flag ≡ false =
+        sym (get_or-set_same changed i flag false hc) ∙ sym (ap (λ (k : ℕ). get_or (set changed i flag) k false) s) ∙ z in
+        rw s (get_or-set_same names i name 0 hn ∙ flagged clear ∙ renamed.rest i (omega arith))
     same x (inr b) z =
-        other x b ∙ renamed.same x b (sym (get_or-set_other changed i x flag 0 (λ s. absurd (omega (arith, s)))) ∙ z)
+        other x b ∙ renamed.same x b (sym (get_or-set_other changed i x flag false (λ s. absurd (omega (arith, s)))) ∙ z)

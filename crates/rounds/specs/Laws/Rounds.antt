@@ -1,6 +1,6 @@
 -- Laws on what the code of the rounds keeps, one for each turn of a loop.
-use Prim.Native.Nat.{ℕ, suc, ◌+◌, ◌-◌, ◌≤◌, ◌<◌}
-use Rattle.std.proofs.Common.{arith, add-one, sym, ◌∙◌, subst, inl, inr, length-set, ext_get_or}
+use Prim.Native.Nat.{ℕ, suc, ◌+◌, ◌≤◌, ◌<◌}
+use Rattle.std.proofs.Common.{arith, add-one, sym, ◌∙◌, subst, inl, inr, ext_get_or}
 use Rattle.std.proofs.Common.{get_or-set_same, get_or-set_other, eq-eqb, ne_eqb, eqb-true}
 use Rattle.std.proofs.Math.Decide.{dec_lt}
 use Rattle.std.specs.Prelude.{◌≡◌, refl, false, ◌&&◌, ◌↔◌, ◌⊎◌, length, get_or, set}
@@ -26,44 +26,47 @@ use Rattle.bisimulation.proofs.Laws.Judging.{WithFirst, judged-first}
 use Rattle.comparison.specs.Held.{most_items}
 use Rattle.comparison.specs.Compare.{Below}
 use Rattle.comparison.specs.Laws.Compare.{all-agree}
-use Rattle.comparison.specs.Laws.Steps.{below_one, cond_yes, cond_no}
-use Rattle.rounds.specs.Rounds.{Numbered, number_of, count_after, Led, FirstWith, Seen, lead_by, label_room}
-use Rattle.rounds.specs.Rounds.{Step, Kins, LedByKin, After, Chains, Walked, Last, Searched, Turned, Rested, judged_with}
+use Rattle.comparison.specs.Laws.Steps.{below_one}
+use Rattle.rounds.specs.Rounds.{Numbered, Led, FirstWith, Seen, label_room}
+use Rattle.rounds.specs.Rounds.{Step, LinksBelow, KinsBelow, After, Chains, Walked, Last, Turned, Rested, judged_with}
+use Rattle.rounds.specs.declared.kins.KinIndex.{KinIndex}
+use Rattle.rounds.specs.Links.{link_to}
+use Rattle.std.specs.Prelude.{Option, None, Some, IfSome}
+use Rattle.std.specs.Option.{is_some}
+use mathlib.Core.Bool.{not}
 
 -- ---- Lists filled from the front
 
-pub count-on : (d : ℕ → ℕ → Bool) (i l count : ℕ) → l ≡ lead d i → count ≡ leaders d i → count_after i l count ≡ leaders d (i + 1)
-count-on d i l count e h = rw (add-one i, e, h)
+-- The count of leaders after an item: one more where it leads itself.
+pub data Counts (i l count count' : ℕ) : Type 0 where
+  one_more : l ≡ i → count' ≡ count + 1 → Counts i l count count'
+  as_before : ¬ (l ≡ i) → count' ≡ count → Counts i l count count'
+
+pub counts-most : {i l count count' : ℕ} → Counts i l count count' → count ≤ i → count' ≤ i + 1
+counts-most (Counts.one_more s c) h = omega (arith, c, h)
+counts-most (Counts.as_before o c) h = omega (arith, c, h)
+
+pub count-on : (d : ℕ → ℕ → Bool) (i l count count' : ℕ) → l ≡ lead d i → count ≡ leaders d i → Counts i l count count'
+    → count' ≡ leaders d (i + 1)
+count-on d i l count count' e h (Counts.one_more s c) = rw (add-one i, eq-eqb (lead d i) i (sym e ∙ s)) (c ∙ add-one count ∙ ap suc h)
+count-on d i l count count' e h (Counts.as_before o c) = rw (add-one i, ne_eqb (lead d i) i (λ s. o (e ∙ s))) (c ∙ h)
+
+-- A rep map, filled from the front.
+pub reps-on : (q : ℕ → ℕ → Bool) (list : List ℕ) (i l : ℕ) → i < length list → Reps q i list → l ≡ lead q i
+    → Reps q (i + 1) (set list i l)
+reps-on q list i l h reps e = record { rep = λ x hx. at x (below_one hx) }
+  where
+    at : (x : ℕ) → (x ≡ i) ⊎ (x < i) → get_or (set list i l) x 0 ≡ lead q x
+    at x (inl s) = rw s (get_or-set_same list i l 0 h ∙ e)
+    at x (inr b) = get_or-set_other list i x l 0 (λ s. absurd (omega (arith, s))) ∙ reps.rep x b
 
 pub led-none : (d : ℕ → ℕ → Bool) (list : List ℕ) → Led d list 0 0
 led-none d list = record { reps = record { rep = λ x h. absurd (omega arith) }; counted = refl }
 
-pub led_on : (d : ℕ → ℕ → Bool) (list : List ℕ) (i l count : ℕ) → i < length list → Led d list i count → l ≡ lead d i
-    → Led d (set list i l) (i + 1) (count_after i l count)
-led_on d list i l count h led e =
-    record {
-      reps = record { rep = λ x hx. at x (below_one hx) };
-      counted = count-on d i l count e led.counted;
-    }
-  where
-    at : (x : ℕ) → (x ≡ i) ⊎ (x < i) → get_or (set list i l) x 0 ≡ lead d x
-    at x (inl s) = rw s (get_or-set_same list i l 0 h ∙ e)
-    at x (inr b) = get_or-set_other list i x l 0 (λ s. absurd (omega (arith, s))) ∙ led.reps.rep x b
-
--- A list that was copied from the front.
-abbrev pub CopiedTo : ℕ → (from to : List ℕ) → Type 0
-CopiedTo i from to = (x : ℕ) → x < i → get_or to x 0 ≡ get_or from x 0
-
-pub copied_on : (from to : List ℕ) (i v : ℕ) → i < length to → CopiedTo i from to → v ≡ get_or from i 0
-    → CopiedTo (i + 1) from (set to i v)
-copied_on from to i v h copied e x hx = at (below_one hx)
-  where
-    at : (x ≡ i) ⊎ (x < i) → get_or (set to i v) x 0 ≡ get_or from x 0
-    at (inl s) = rw s (get_or-set_same to i v 0 h ∙ e)
-    at (inr b) = get_or-set_other to i x v 0 (λ s. absurd (omega (arith, s))) ∙ copied x b
-
-pub copied-over : (from to : List ℕ) (n i : ℕ) → length from ≡ n → length to ≡ n → n ≤ i → CopiedTo i from to → to ≡ from
-copied-over from to n i hf ht h copied = ext_get_or 0 to from (ht ∙ sym hf) (λ x hx. copied x (omega arith))
+pub led_on : (d : ℕ → ℕ → Bool) (list : List ℕ) (i l count count' : ℕ) → i < length list → Led d list i count → l ≡ lead d i
+    → Counts i l count count' → Led d (set list i l) (i + 1) count'
+led_on d list i l count count' h led e counts =
+    record { reps = reps-on d list i l h led.reps e; counted = count-on d i l count count' e led.counted counts }
 
 -- ---- Numbering
 
@@ -71,37 +74,36 @@ pub numbered-none : (q : ℕ → ℕ → Bool) (list : List ℕ) → Numbered q 
 numbered-none q list = record { counted = refl; done = λ x h. absurd (omega arith); rest = λ x h. refl }
 
 module _ (n : ℕ) (q : ℕ → ℕ → Bool) (classes : EquivalenceBelow n q) (list₀ : List ℕ) (reps : Reps q n list₀) where
-  pub numbered-on : (list : List ℕ) (i l count : ℕ) → length list ≡ n → i < n → Numbered q list₀ list i count → l ≡ get_or list i 0
-      → Numbered q list₀ (set list i (number_of list i l count)) (i + 1) (count_after i l count)
-  numbered-on list i l count hl h numbered e =
-      record {
-        counted = count-on d i l count led numbered.counted;
-        done = λ x hx. at x (below_one hx);
-        rest =
-            λ x hx. get_or-set_other list i x v 0 (λ s. absurd (omega (arith, s))) ∙ numbered.rest x (omega arith);
-      }
-    where
-      d : ℕ → ℕ → Bool
-      d = q
+  module _ (list : List ℕ) (i count : ℕ) (hl : length list ≡ n) (h : i < n) (numbered : Numbered q list₀ list i count) where
+    led : get_or list i 0 ≡ lead q i
+    led = numbered.rest i (omega arith) ∙ reps.rep i h
 
-      v : ℕ
-      v = number_of list i l count
+    numbered-by : (v count' : ℕ) → v ≡ block_of q i → Counts i (get_or list i 0) count count'
+        → Numbered q list₀ (set list i v) (i + 1) count'
+    numbered-by v count' is counts =
+        record {
+          counted = count-on q i (get_or list i 0) count count' led numbered.counted counts;
+          done = λ x hx. at x (below_one hx);
+          rest =
+              λ x hx. get_or-set_other list i x v 0 (λ s. absurd (omega (arith, s))) ∙ numbered.rest x (omega arith);
+        }
+      where
+        at : (x : ℕ) → (x ≡ i) ⊎ (x < i) → get_or (set list i v) x 0 ≡ block_of q x
+        at x (inl s) = rw s (get_or-set_same list i v 0 (omega arith) ∙ is)
+        at x (inr b) = get_or-set_other list i x v 0 (λ s. absurd (omega (arith, s))) ∙ numbered.done x b
 
-      led : l ≡ lead q i
-      led = e ∙ numbered.rest i (omega arith) ∙ reps.rep i h
+    -- An item that leads itself gets a new number, and any other the one that its lead has got.
+    pub numbered_new : get_or list i 0 ≡ i → Numbered q list₀ (set list i count) (i + 1) (count + 1)
+    numbered_new s =
+        numbered-by count (count + 1) (numbered.counted ∙ sym (block_new classes i (sym led ∙ s))) (Counts.one_more s refl)
 
-      number : (l ≡ i) ⊎ (¬ (l ≡ i)) → v ≡ block_of q i
-      number (inl s) =
-          cond_yes (eqb l i) count (get_or list l 0) (eq-eqb l i s) ∙ numbered.counted ∙ sym (block_new classes i (sym led ∙ s))
-      number (inr o) =
-          cond_no (eqb l i) count (get_or list l 0) (ne_eqb l i o)
-          ∙ numbered.done l (omega (arith, lead_low q i, led))
-          ∙ ap (block_of q) led
-          ∙ sym (block-old classes i h)
-
-      at : (x : ℕ) → (x ≡ i) ⊎ (x < i) → get_or (set list i v) x 0 ≡ block_of q x
-      at x (inl s) = rw s (get_or-set_same list i v 0 (omega arith) ∙ number (same? l i))
-      at x (inr b) = get_or-set_other list i x v 0 (λ s. absurd (omega (arith, s))) ∙ numbered.done x b
+    pub numbered_old : ¬ (get_or list i 0 ≡ i)
+        → Numbered q list₀ (set list i (get_or list (get_or list i 0) 0)) (i + 1) count
+    numbered_old o =
+        numbered-by (get_or list (get_or list i 0) 0) count
+        (numbered.done (get_or list i 0) (omega (arith, lead_low q i, led))
+        ∙ ap (block_of q) led
+        ∙ sym (block-old classes i h)) (Counts.as_before o refl)
 
   pub numbered-over : (list : List ℕ) (i count : ℕ) → length list ≡ n → n ≤ i → Numbered q list₀ list i count
       → list ≡ blocks_by n q
@@ -114,44 +116,16 @@ module _ (n : ℕ) (q : ℕ → ℕ → Bool) (classes : EquivalenceBelow n q) (
 pub seen_none : (labels seen : List ℕ) → ((label : ℕ) → label < label_room → get_or seen label 0 ≡ 0) → Seen labels seen 0
 seen_none labels seen zeros = record { at = λ label h. FirstWith.none (zeros label h) (λ y k. absurd (omega arith)) }
 
-module _ (labels seen : List ℕ) (i label link l : ℕ) (known : Seen labels seen i) (labelled : label ≡ get_or labels i 0)
-    (room : label < label_room) (long : length seen ≡ label_room) (linked : link ≡ get_or seen label 0) (led : l ≡ lead_by link i) where
-  first-is : FirstWith labels i label link
-  first-is = rw linked (known.at label room)
-
-  -- The lead that the link tells, and that it is the first with that label.
-  pub seen-lead : l ≡ lead (related labels) i
-  seen-lead = go first-is
+module _ (labels seen : List ℕ) (i label : ℕ) (known : Seen labels seen i) (labelled : label ≡ get_or labels i 0)
+    (room : label < label_room) where
+  -- Item i is passed: its label has a first item now, and what is known of the others stays.
+  seen-by : (seen' : List ℕ) → FirstWith labels (i + 1) label (get_or seen' label 0)
+      → ((other : ℕ) → ¬ (other ≡ label) → get_or seen' other 0 ≡ get_or seen other 0) → Seen labels seen' (i + 1)
+  seen-by seen' here there = record { at = λ other h. at other h (same? other label) }
     where
-      go : FirstWith labels i label link → l ≡ lead (related labels) i
-      go (FirstWith.none e none) =
-          led ∙ cond_yes (eqb link 0) i (link - 1) (eq-eqb link 0 e)
-          ∙ sym (lead-none (related labels) i (eq-eqb (get_or labels i 0) (get_or labels i 0) refl)
-          (λ y h. ne_eqb (get_or labels y 0) (get_or labels i 0) (λ s. none y h (s ∙ sym labelled))))
-      go (FirstWith.some m e below at none) =
-          led ∙ cond_no (eqb link 0) i (link - 1) (ne_eqb link 0 (λ z. absurd (omega (arith, e, z))))
-          ∙ omega (arith, e)
-          ∙ sym (lead-found (related labels) i m (omega arith) (eq-eqb (get_or labels m 0) (get_or labels i 0) (at ∙ labelled))
-          (λ y h. ne_eqb (get_or labels y 0) (get_or labels i 0) (λ s. none y h (s ∙ sym labelled))))
-
-  first-now : FirstWith labels (i + 1) label (l + 1)
-  first-now = go first-is
-    where
-      go : FirstWith labels i label link → FirstWith labels (i + 1) label (l + 1)
-      go (FirstWith.none e none) =
-          let s : l ≡ i = led ∙ cond_yes (eqb link 0) i (link - 1) (eq-eqb link 0 e) in
-          FirstWith.some i (omega arith) (omega arith) (sym labelled) none
-      go (FirstWith.some m e below at none) =
-          let s : l ≡ link - 1 = led ∙ cond_no (eqb link 0) i (link - 1) (ne_eqb link 0 (λ z. absurd (omega (arith, e, z)))) in
-          FirstWith.some m (omega arith) (omega arith) at none
-
-  pub seen-on : Seen labels (set seen label (l + 1)) (i + 1)
-  seen-on = record { at = λ other h. at other h (same? other label) }
-    where
-      at : (other : ℕ) → other < label_room → (other ≡ label) ⊎ (¬ (other ≡ label))
-          → FirstWith labels (i + 1) other (get_or (set seen label (l + 1)) other 0)
-      at other h (inl s) = rw (s, get_or-set_same seen label (l + 1) 0 (omega arith)) first-now
-      at other h (inr o) = rw (get_or-set_other seen label other (l + 1) 0 o) (go (known.at other h))
+      at : (other : ℕ) → other < label_room → (other ≡ label) ⊎ (¬ (other ≡ label)) → FirstWith labels (i + 1) other (get_or seen' other 0)
+      at other h (inl s) = rw s here
+      at other h (inr o) = rw (there other o) (go (known.at other h))
         where
           not-here : ¬ (get_or labels i 0 ≡ other)
           not-here s = o (sym s ∙ sym labelled)
@@ -164,6 +138,36 @@ module _ (labels seen : List ℕ) (i label link l : ℕ) (known : Seen labels se
           go (FirstWith.none e none) = FirstWith.none e (λ y k. nowhere none y (below_one k))
           go (FirstWith.some m e below at none) = FirstWith.some m e (omega arith) at none
 
+  -- No item is linked: item i is the first with its label.
+  pub seen_new : get_or seen label 0 ≡ 0 → length seen ≡ label_room
+      → (i ≡ lead (related labels) i) × Seen labels (set seen label (i + 1)) (i + 1)
+  seen_new e long = go (known.at label room)
+    where
+      go : FirstWith labels i label (get_or seen label 0) → (i ≡ lead (related labels) i) × Seen labels (set seen label (i + 1)) (i + 1)
+      go (FirstWith.some m f below at none) = absurd (omega (arith, e, f))
+      go (FirstWith.none f none) = (
+        sym (lead-none (related labels) i (eq-eqb (get_or labels i 0) (get_or labels i 0) refl)
+            (λ y h. ne_eqb (get_or labels y 0) (get_or labels i 0) (λ s. none y h (s ∙ sym labelled)))),
+        seen-by (set seen label (i + 1))
+            (rw (get_or-set_same seen label (i + 1) 0 (omega (arith, room, long)))
+            (FirstWith.some i (omega arith) (omega arith) (sym labelled) none))
+            (λ other o. get_or-set_other seen label other (i + 1) 0 o),
+      )
+
+  -- One is, and leads item i.
+  pub seen_known : (m : ℕ) → get_or seen label 0 ≡ suc m → (m ≡ lead (related labels) i) × (m < i) × Seen labels seen (i + 1)
+  seen_known m e = go (known.at label room)
+    where
+      go : FirstWith labels i label (get_or seen label 0) → (m ≡ lead (related labels) i) × (m < i) × Seen labels seen (i + 1)
+      go (FirstWith.none f none) = absurd (omega (arith, e, f))
+      go (FirstWith.some k f below at none) =
+          let same : m ≡ k = omega (arith, e, f) in (
+            same ∙ sym (lead-found (related labels) i k (omega arith) (eq-eqb (get_or labels k 0) (get_or labels i 0) (at ∙ labelled))
+                (λ y h. ne_eqb (get_or labels y 0) (get_or labels i 0) (λ s. none y h (s ∙ sym labelled)))),
+            omega (arith, same),
+            seen-by seen (FirstWith.some k f (omega arith) at none) (λ other o. refl),
+          )
+
 -- ---- A round from the one before
 
 pub chains-none : (d q : ℕ → ℕ → Bool) (links : List ℕ) → Chains d q links 0
@@ -174,45 +178,53 @@ chains-past : (d q : ℕ → ℕ → Bool) (links : List ℕ) (i v : ℕ) → Ch
 chains-past d q links i v chains =
     record { after = λ y h e. rw (get_or-set_other links i y v 0 (λ s. absurd (omega (arith, s)))) (chains.after y h e) }
 
--- Kins: none at first, and then only items that were passed.
-pub kins-none : (kins : List ℕ) → ((b : ℕ) → get_or kins b 0 ≡ 0) → Kins 0 kins
-kins-none kins none b z e = absurd (omega (arith, none b, e))
+-- Links to kins: none at first, and then only to items that were passed.
+pub links-none : (links : List ℕ) → ((b : ℕ) → get_or links b 0 ≡ 0) → LinksBelow 0 links
+links-none links none b z e = absurd (omega (arith, none b, e))
 
-pub kins-kept : (kins : List ℕ) (i : ℕ) → Kins i kins → Kins (i + 1) kins
-kins-kept kins i known b z e = let below = known b z e in omega arith
+links-kept : (links : List ℕ) (i : ℕ) → LinksBelow i links → LinksBelow (i + 1) links
+links-kept links i known b z e = let below = known b z e in omega arith
 
-pub kins-set : (kins kins' : List ℕ) (i b v : ℕ) → kins' ≡ set kins b v → ((z : ℕ) → v ≡ suc z → z < i) → Kins i kins → Kins i kins'
-kins-set kins kins' i b v e below known = rw e (go (dec_lt b (length kins)))
+links-set : (links : List ℕ) (i b v : ℕ) → ((z : ℕ) → v ≡ suc z → z < i) → LinksBelow i links → LinksBelow i (set links b v)
+links-set links i b v below known = go (dec_lt b (length links))
   where
-    go : Dec (b < length kins) → Kins i (set kins b v)
-    go (no h) = rw (set_out kins b v (omega arith)) known
+    go : Dec (b < length links) → LinksBelow i (set links b v)
+    go (no h) = rw (set_out links b v (omega arith)) known
     go (yes h) = λ c z f. at c z f (same? c b)
       where
-        at : (c z : ℕ) → get_or (set kins b v) c 0 ≡ suc z → (c ≡ b) ⊎ (¬ (c ≡ b)) → z < i
+        at : (c z : ℕ) → get_or (set links b v) c 0 ≡ suc z → (c ≡ b) ⊎ (¬ (c ≡ b)) → z < i
         at c z f (inl s) =
-            below z (sym (ap (λ (m : ℕ). get_or (set kins b v) m 0) s ∙ get_or-set_same kins b v 0 h) ∙ f)
-        at c z f (inr o) = known c z (sym (get_or-set_other kins b c v 0 o) ∙ f)
+            below z (sym (ap (λ (m : ℕ). get_or (set links b v) m 0) s ∙ get_or-set_same links b v 0 h) ∙ f)
+        at c z f (inr o) = known c z (sym (get_or-set_other links b c v 0 o) ∙ f)
 
--- Item i becomes the first kin of b, and what was first there comes after it.
-pub kins-put : (kins kins' : List ℕ) (i b : ℕ) → kins' ≡ set kins b (i + 1) → Kins i kins → Kins (i + 1) kins'
-kins-put kins kins' i b e known = kins-set kins kins' (i + 1) b (i + 1) e (λ z f. omega arith) (kins-kept kins i known)
+pub kins-kept : (kins : KinIndex) (i : ℕ) → KinsBelow i kins → KinsBelow (i + 1) kins
+kins-kept kins i known =
+    record { newest = links-kept kins.newest i known.newest; older = links-kept kins.older i known.older }
 
-pub older-put : (kins older older' : List ℕ) (i b v : ℕ) → v ≡ get_or kins b 0 → older' ≡ set older i v → Kins i kins → Kins i older
-    → Kins (i + 1) older'
-older-put kins older older' i b v first e known olds =
-    kins-kept older' i (kins-set older older' i i v e (λ z f. known b z (sym first ∙ f)) olds)
+-- Item x becomes the newest kin of its sign, and what was the newest comes after it.
+pub kins-put : (kins : KinIndex) (x sign i : ℕ) → x < i → KinsBelow i kins
+    → KinsBelow i (record { newest = set kins.newest sign (x + 1); older = set kins.older x (get_or kins.newest sign 0) })
+kins-put kins x sign i h known =
+    record {
+      newest = links-set kins.newest i sign (x + 1) (λ z f. omega arith) known.newest;
+      older = links-set kins.older i x (get_or kins.newest sign 0) (λ z f. known.newest sign z f) known.older;
+    }
+
+-- The item that a link tells.
+pub linked-below : (links : List ℕ) (i b : ℕ) (o : Option ℕ) → link_to o ≡ get_or links b 0 → LinksBelow i links → IfSome o (λ z. z < i)
+linked-below links i b None e known = tt
+linked-below links i b (Some z) e known = known b z (sym e)
+
+pub linked-some : (o : Option ℕ) (b : Bool) → is_some o ≡ not b → b ≡ false → ¬ (link_to o ≡ 0)
+linked-some None b e f = λ z. clash (e ∙ ap not f) refl
+linked-some (Some y) b e f = λ z. omega (arith, z)
 
 -- An item that is related to one below it has that one's lead.
-pub led-by-kin : (d : ℕ → ℕ → Bool) (n x z l : ℕ) (new : List ℕ) → EquivalenceBelow n d → x < n → z < x → Reps d x new
-    → l ≡ get_or new z 0 → d z x ≡ true → LedByKin d x l
-led-by-kin d n x z l new classes hx h reps e t =
-    let own = e ∙ reps.rep z h in
-    inr (own ∙ (lead-iff classes z x (omega arith) hx).1 t, omega (arith, own, lead_low d z))
-
--- A lead below x was found by a kin.
-pub kin-found : (d : ℕ → ℕ → Bool) (x l : ℕ) → LedByKin d x l → l < x → lead d x ≡ l
-kin-found d x l (inl e) h = absurd (omega (arith, e))
-kin-found d x l (inr (e, _)) h = sym e
+pub led-by-kin : (d : ℕ → ℕ → Bool) (n x z : ℕ) (new : List ℕ) → EquivalenceBelow n d → x < n → z < x → Reps d x new → d z x ≡ true
+    → (get_or new z 0 ≡ lead d x) × (get_or new z 0 < x)
+led-by-kin d n x z new classes hx h reps t =
+    let own = reps.rep z h in
+    (own ∙ (lead-iff classes z x (omega arith) hx).1 t, omega (arith, own, lead_low d z))
 
 module _ (d : ℕ → ℕ → Bool) (n : ℕ) (old : List ℕ) (step : Step d n old) where
   abbrev q : ℕ → ℕ → Bool
@@ -377,31 +389,20 @@ module _ (d : ℕ → ℕ → Bool) (n : ℕ) (old : List ℕ) (step : Step d n 
         at z lz (inr b) (inr o) = rw (other z o) (grown z b lz o (chains.after z b lz))
 
   -- An item is placed: its link is cleared, and where a search found no lead it is linked in.
-  module _ (links links₁ : List ℕ) (x : ℕ) (hx : x < n) (long : n ≤ length links) (chains : Chains d (related old) links x)
-      (cleared : links₁ ≡ set links x 0) where
-    pub chains-cleared : Chains d (related old) links₁ x
-    chains-cleared = rw cleared (chains-past d q links x 0 chains)
+  module _ (links : List ℕ) (x : ℕ) (hx : x < n) (chains : Chains d (related old) links x) where
+    pub chains-cleared : Chains d (related old) (set links x 0) x
+    chains-cleared = chains-past d q links x 0 chains
 
-    zero-here : get_or links₁ x 0 ≡ 0
-    zero-here = rw cleared (get_or-set_same links x 0 0 (omega arith))
+    pub placed-own : x ≤ get_or old x 0 → get_or links x 0 ≡ 0 → (x ≡ lead d x) × Chains d (related old) links (x + 1)
+    placed-own own zero-here = (sym (own-lead x hx own), chains-own links x hx chains own zero-here)
 
-    pub placed-own : x ≤ get_or old x 0 → (x ≡ lead d x) × Chains d (related old) links₁ (x + 1)
-    placed-own own = (sym (own-lead x hx own), chains-own links₁ x hx chains-cleared own zero-here)
+    -- Its lead is known.
+    pub placed-known : (y : ℕ) → lead d x ≡ y → y < x → (y ≡ lead d x) × Chains d (related old) links (x + 1)
+    placed-known y e h = (sym e, chains-hit links x hx chains y e h)
 
-    -- Its lead is known without a search.
-    pub placed-known : (y : ℕ) → lead d x ≡ y → y < x → (y ≡ lead d x) × Chains d (related old) links₁ (x + 1)
-    placed-known y e h = (sym e, chains-hit links₁ x hx chains-cleared y e h)
-
-    pub placed-hit : (hit : Bool) (y : ℕ) → Searched d (related old) x hit y → hit ≡ true
-        → (y ≡ lead d x) × Chains d (related old) links₁ (x + 1)
-    placed-hit hit y searched t = let (e, h) = searched.hits t in placed-known y e h
-
-    pub placed-new : (hit : Bool) (y : ℕ) → Searched d (related old) x hit y → hit ≡ false
-        → (links₂ : List ℕ) → links₂ ≡ set links₁ y x → (x ≡ lead d x) × Chains d (related old) links₂ (x + 1)
-    placed-new hit y searched f links₂ e =
-        let last = searched.misses f in
-        let long₁ = ap length cleared ∙ length-set links x 0 in
-        (sym last.own, rw e (chains-new links₁ x hx chains-cleared y last zero-here (omega arith)))
+    pub placed-new : (y : ℕ) → Last d (related old) x y → get_or links x 0 ≡ 0 → x < length links
+        → (x ≡ lead d x) × Chains d (related old) (set links y x) (x + 1)
+    placed-new y last zero-here long = (sym last.own, chains-new links x hx chains y last zero-here long)
 
 -- ---- The loop over the rounds
 
@@ -537,17 +538,8 @@ judged-on F list i y judged e t x h = at (below_one h)
 
 -- ---- Lists that relate the same items
 
--- A rep map, filled from the front.
 pub reps-none : (q : ℕ → ℕ → Bool) (list : List ℕ) → Reps q 0 list
 reps-none q list = record { rep = λ x h. absurd (omega arith) }
-
-pub reps-on : (q : ℕ → ℕ → Bool) (list : List ℕ) (i l : ℕ) → i < length list → Reps q i list → l ≡ lead q i
-    → Reps q (i + 1) (set list i l)
-reps-on q list i l h reps e = record { rep = λ x hx. at x (below_one hx) }
-  where
-    at : (x : ℕ) → (x ≡ i) ⊎ (x < i) → get_or (set list i l) x 0 ≡ lead q x
-    at x (inl s) = rw s (get_or-set_same list i l 0 h ∙ e)
-    at x (inr b) = get_or-set_other list i x l 0 (λ s. absurd (omega (arith, s))) ∙ reps.rep x b
 
 -- A rep map's numbers are those of items.
 pub reps-below : (n : ℕ) (q : ℕ → ℕ → Bool) (list : List ℕ) → n ≤ most_items → Reps q n list → Below n list

@@ -1,10 +1,7 @@
--- `is_touched` meets its contract. Assumes nothing.
-use Prim.Native.Nat.{ℕ, ◌-◌, ◌<◌, ◌≤◌}
+-- No mask that was passed touches the item.
+use Rattle.std.proofs.Common.{ℕ, ◌<◌}
 use Rattle.rounds.specs.Changes.{UntouchedBy}
 use Rattle.rounds.proofs.changes.is_touched.Given as goal
 
 abbrev pub invariant-loop-mask : goal.invariant-loop-mask
-invariant-loop-mask l = (l.mask ≤ 16) × ((m : ℕ) → m < l.mask → UntouchedBy l.used l.graph.resets.now l.marks l.x m)
-
-abbrev pub decreases-loop-mask : goal.decreases-loop-mask
-decreases-loop-mask l = 16 - l.mask
+invariant-loop-mask l = (m : ℕ) → m < l.mask → UntouchedBy l.graph l.used l.marks l.x m

@@ -1,60 +1,48 @@
--- `find_anchors` meets its contract. Assumes nothing.
-use Prim.Native.Nat.{ℕ}
-use native.Mathlib.Omega.{arith}
-use mathlib.Core.Path.{refl, ◌∙◌, subst}
+-- The first item of its block that is not stirred becomes the anchor.
+use Rattle.std.proofs.Common.{ℕ, ◌<◌, ◌+◌, get_or, length, length-set, arith, refl, ◌∙◌, replicate}
+use Rattle.std.proofs.lemmas.List.{length-replicate}
 use Rattle.bisimulation.specs.Finite.{related}
 use Rattle.bisimulation.proofs.Laws.Leads.{lead_low}
-use Rattle.rounds.specs.Rounds.{Anchored}
-use Rattle.rounds.specs.Laws.Joins.{anchored-none}
+use Rattle.comparison.specs.Laws.Steps.{zeros-at}
+use Rattle.rounds.specs.Laws.Joins.{anchored-none, anchored-stirred, anchored-known, anchored-new}
+use Rattle.rounds.specs.Laws.Rounds.{linked-some}
+use Rattle.rounds.proofs.joins.find_anchors.Goals.{then-not-stirred-x+then-is_none, else-not-stirred-x}
+use Rattle.rounds.proofs.joins.find_anchors.Goals.{else-not-stirred-x-via-then-not-stirred-x+else-is_none}
+use Rattle.rounds.proofs.joins.find_anchors.Goals.{else-not-stirred-x-via-else-not-stirred-x}
 use Rattle.rounds.proofs.joins.find_anchors.Goals as goal
 
 pub loop-x-init : goal.loop-x-init
 loop-x-init c =
-    let args = c.args in
-    let pre = c.requires in
-    (refl, omega arith, λ reps. anchored-none args.old.now args.stirred.now args.anchors.now pre.by_index)
-
-pub place_anchor-requires : goal.place_anchor-requires
-place_anchor-requires c =
-    let loop-test = c.loop-x-test in
-    let pre = c.requires in
-    omega (arith, loop-test.true, pre.n_le_most_items.0)
+    (length-replicate {A = ℕ} 4096 0, λ n size reps. anchored-none c.args.old.now c.args.stirred.now (replicate 4096 0) (zeros-at 4096))
 
 pub loop-x-preserved : goal.loop-x-preserved
 loop-x-preserved c =
-    let place-anchor = c.place_anchor in
+    let old = c.args.old.now in
+    let stirred = c.args.stirred.now in
     let loop = c.loop-x in
-    let loop-test = c.loop-x-test in
-    let args = c.args in
-    let pre = c.requires in (
-      place-anchor.ensures.anchors_len_unchanged ∙ loop.invariant.0,
-      omega (arith, loop-test.true),
-      λ reps. place-anchor.ensures.anchored
-          (omega (
-            arith,
-            reps.rep loop.x loop-test.true,
-            lead_low (related args.old.now) loop.x,
-            loop-test.true,
-            loop.invariant.0,
-            pre.n_le_most_items.1,
-          ))
-          (loop.invariant.2 reps),
-    )
-
-pub shape_of-anchors : goal.shape_of-anchors
-shape_of-anchors c =
-    let loop = c.loop-x in
-    loop.invariant.0
-
-pub returns : goal.returns
-returns c =
-    let loop = c.loop-x in
-    let args = c.args in
-    record {
-      anchors_len_unchanged = loop.invariant.0;
-      anchored = λ reps. subst (λ (i : ℕ). Anchored i args.old.now args.stirred.now loop.anchors) (omega (
-        arith,
-        loop.invariant.1,
-        c.loop-x-test.false,
-      )) (loop.invariant.2 reps);
-    }
+    let x = loop.x in
+    elim c.if-not-stirred-x.branch [
+      | then-not-stirred-x+then-is_none w ↦ rw (w.anchors-is, w.link.ensures) (
+        length-set loop.anchors (get_or old x 0) (x + 1) ∙ loop.invariant.0,
+        λ n size reps.
+            let inside : get_or old x 0 < length loop.anchors = omega (
+              arith,
+              reps.rep x (omega (arith, size, c.loop-x-test.true)),
+              lead_low (related old) x,
+              c.loop-x-test.true,
+              loop.invariant.0,
+              c.requires,
+            ) in
+            anchored-new old stirred loop.anchors x (loop.invariant.1 n size reps) (get_or old x 0) refl inside w.if-not-stirred-x.true,
+      )
+      | else-not-stirred-x w ↦ rw w.anchors-is (
+        loop.invariant.0,
+        λ n size reps.
+            let anchored = loop.invariant.1 n size reps in
+            elim w.else-not-stirred-x.branch [
+              | else-not-stirred-x-via-then-not-stirred-x+else-is_none v ↦ anchored-known old stirred loop.anchors x anchored
+                  (λ z. linked-some v.linked.result v.is_none.result v.is_none.ensures v.if-is_none.false (v.linked.ensures ∙ z))
+              | else-not-stirred-x-via-else-not-stirred-x v ↦ anchored-stirred old stirred loop.anchors x anchored v.if-not-stirred-x.false
+            ],
+      )
+    ]

@@ -1,5 +1,5 @@
--- `sign_of` meets its contract. Assumes nothing.
-use Prim.Native.Nat.{◌<◌, ◌≤◌}
+-- The sign and the edge stay below their bounds.
+use Rattle.std.proofs.Common.{◌<◌, ◌≤◌}
 use Rattle.rounds.proofs.kins.sign_of.Given as goal
 
 abbrev pub invariant-loop-e : goal.invariant-loop-e

@@ -1,52 +1,36 @@
--- `tag_leader` meets its contract. Assumes nothing.
-use Rattle.rounds.specs.Laws.Names.{tagged-on, tagged-new}
-use native.Mathlib.Omega.{arith}
-use lib.ListN.{length, length-set}
-use mathlib.Core.Path.{refl, sym, ◌∙◌, ap}
-use mathlib.Core.Logic.{inl, inr}
+-- A new leader is tagged by its own number, and may swap it for the tag of its old block.
+use Rattle.std.proofs.Common.{◌≡◌, ◌≤◌, ◌+◌, get_or, set, length, inl, arith, sym, ◌∙◌}
+use Rattle.std.proofs.Common.{length-set}
+use Rattle.std.proofs.Math.Logic.{⊎_map}
+use Rattle.rounds.specs.Names.{Reached}
+use Rattle.rounds.specs.Laws.Names.{tagged-on, tagged-new, tagged-swap}
 use Rattle.rounds.proofs.names.tag_leader.Goals as goal
 
-pub returns-then-index_at-x : goal.returns-then-index_at-x
-returns-then-index_at-x c =
+pub returns-then-at-x : goal.returns-then-at-x
+returns-then-at-x c =
     let args = c.args in
-    let index_at = c.index_at in
-    record {
-      holders_len_unchanged = (refl, refl);
-      by_index = λ n hx long tagged.
-          tagged-on n args.old.now args.new.now args.tags.now args.x hx long tagged
-          (inl (λ e. c.if-index_at-x.true (index_at.ensures ∙ e)));
-    }
+    λ n hx few tagged. tagged-on n args.old.now args.new.now args.tags.now args.x hx (omega (arith, c.told-tags, few)) tagged
+    (⊎_map (λ o e. o (c.at.ensures ∙ e)) (λ p. sym c.at-lead.ensures ∙ p.1) c.then-at-x.either)
 
-pub returns-then-lead-x : goal.returns-then-lead-x
-returns-then-lead-x c =
+pub returns-then-outgrows : goal.returns-then-outgrows
+returns-then-outgrows c =
     let args = c.args in
-    let index-at2 = c.index_at-lead in
-    record {
-      holders_len_unchanged = (refl, refl);
-      by_index = λ n hx long tagged.
-          tagged-on n args.old.now args.new.now args.tags.now args.x hx long tagged
-          (inr (sym index-at2.ensures ∙ c.if-lead-x.true));
-    }
+    let x = args.x in
+    λ n hx few tagged.
+    let led : get_or args.new.now x 0 ≡ x = sym c.at.ensures ∙ c.if-at-x.false in
+    let long : n ≤ length args.tags.now = omega (arith, c.told-tags, few) in
+    let own = tagged-new n args.old.now args.new.now args.tags.now x hx long tagged led (λ e. c.if-lead-x.false (c.at-lead.ensures ∙ e)) in
+    let (below, leads) = c.outgrows.ensures c.if-outgrows.true in
+    rw c.swap.ensures.after
+    (tagged-swap n (Reached args.old.now args.new.now (x + 1)) (set args.tags.now x x) x c.unwrap_or-holder.result hx
+    (omega (arith, below, hx)) (led, inl (omega arith)) (leads, inl (omega (arith, below)))
+    (omega (arith, length-set args.tags.now x x, long)) own)
 
-pub returns : goal.returns
-returns c =
-    let take-tag = c.take_tag in
-    let put-link = c.put_link in
+pub returns-else-outgrows : goal.returns-else-outgrows
+returns-else-outgrows c =
     let args = c.args in
-    let index_at = c.index_at in
-    let if1 = c.if-index_at-x in
-    let if2 = c.if-lead-x in
-    let index-at2 = c.index_at-lead in
-    record {
-      holders_len_unchanged = (
-        take-tag.ensures.holders_len_unchanged.0,
-        take-tag.ensures.holders_len_unchanged.1
-            ∙ ap length put-link.ensures ∙ length-set args.tags.now args.x args.x,
-      );
-      by_index = λ n hx long tagged.
-          let led = sym index_at.ensures ∙ if1.false in
-          take-tag.ensures.by_index n args.old.now hx
-          (omega (arith, ap length put-link.ensures, length-set args.tags.now args.x args.x, long)) led
-          (rw put-link.ensures (tagged-new n args.old.now args.new.now args.tags.now args.x hx long tagged led
-          (λ e. if2.false (index-at2.ensures ∙ e))));
-    }
+    let x = args.x in
+    λ n hx few tagged.
+    let led : get_or args.new.now x 0 ≡ x = sym c.at.ensures ∙ c.if-at-x.false in
+    tagged-new n args.old.now args.new.now args.tags.now x hx (omega (arith, c.told-tags, few)) tagged led
+    (λ e. c.if-lead-x.false (c.at-lead.ensures ∙ e))

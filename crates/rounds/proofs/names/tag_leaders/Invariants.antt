@@ -1,14 +1,8 @@
--- `tag_leaders` meets its contract. Assumes nothing.
-use Rattle.rounds.specs.Names.{Tagged, TaggedIn, Reached, LeadersKept}
-use lib.ListN.{length}
-use mathlib.Core.Path.{◌≡◌}
-use Prim.Native.Nat.{◌-◌}
+-- The leaders that were passed, and those that led before, have their tags.
+use Rattle.std.proofs.Common.{ℕ, ◌≡◌, length}
+use Rattle.rounds.specs.Names.{LeadersKept, Tagged, TaggedIn, Reached}
 use Rattle.rounds.proofs.names.tag_leaders.Given as goal
 
 abbrev pub invariant-loop-x : goal.invariant-loop-x
-invariant-loop-x l =
-    (length l.holders ≡ length l.initial.holders) × (length l.tags ≡ length l.initial.tags)
-    × (LeadersKept l.n l.old l.new → Tagged l.n l.old l.initial.tags → TaggedIn l.n (Reached l.old l.new l.x) l.tags)
-
-abbrev pub decreases-loop-x : goal.decreases-loop-x
-decreases-loop-x l = l.n - l.x
+invariant-loop-x l = (n : ℕ) → length l.new ≡ n → LeadersKept n l.old l.new → Tagged n l.old l.initial.tags
+    → TaggedIn n (Reached l.old l.new l.x) l.tags

@@ -1,49 +1,18 @@
--- `make_round` meets its contract. Assumes nothing.
-use Rattle.rounds.specs.Laws.Joins.{zeros-at, marks-sort}
+-- Equal marks sort the items, as the blocks of the round before and the anchors say.
 use Rattle.bisimulation.specs.Finite.{next}
-use native.Mathlib.Omega.{arith}
-use mathlib.Core.Path.{◌∙◌}
-use lib.ListN.{length-replicate}
-use Prim.Native.Nat.{ℕ}
+use Rattle.rounds.specs.Laws.Joins.{marks-sort}
 use Rattle.rounds.proofs.rounds.make_round.Goals as goal
 
-pub find_anchors-requires : goal.find_anchors-requires
-find_anchors-requires c =
-    let pre = c.requires in
-    record {
-      n_le_most_items = (pre.1, omega (arith, pre.1, length-replicate {A = ℕ} 4096 0));
-      by_index = λ b. zeros-at 4096 b;
-    }
-
-pub fill_marks-requires : goal.fill_marks-requires
-fill_marks-requires c =
-    let pre = c.requires in
-    (omega (arith, pre.1, length-replicate {A = ℕ} 4096 0), pre.1)
-
-pub next_round-requires : goal.next_round-requires
-next_round-requires c =
-    let pre = c.requires in
-    (pre.0, pre.1, omega (arith, pre.1, length-replicate {A = ℕ} 4096 0))
-
-pub returns : goal.returns
-returns c =
-    let next-round = c.next_round in
-    let fill-marks = c.fill_marks in
-    let find-anchors = c.find_anchors in
+pub returns-clause-led : goal.returns-clause-led
+returns-clause-led c =
     let args = c.args in
-    let first_round = c.first_round in
-    record {
-      keys_len_unchanged = (
-        next-round.ensures.keys_len_unchanged.0
-            ∙ fill-marks.ensures.keys_len_unchanged.0,
-        next-round.ensures.keys_len_unchanged.2,
-        next-round.ensures.keys_len_unchanged.3,
-      );
-      led = λ F keyed step settled.
-          let anchored = find-anchors.ensures.anchored step.reps in
-          let (marked, known) = fill-marks.ensures.marked_to F keyed settled anchored step in
-          next-round.ensures.led F known (marks-sort (next F args.names.now) args.graph.n args.old.now args.stirred.now
-          find-anchors.new.anchors anchored
-          step.classes step.finer fill-marks.new.marks marked
-          first_round.new.list first_round.ensures.led.reps);
-    }
+    let n = args.graph.n in
+    λ F keyed step settled.
+    let d = next F args.names.now in
+    let anchors = c.find_anchors-anchors.result in
+    let marks = c.fill_marks-marks.result in
+    let mid = c.first_round.new.list in
+    let anchored = c.find_anchors-anchors.ensures n c.requires.0 step.reps in
+    let (marked, keyed') = c.fill_marks-marks.ensures F keyed settled anchored step in
+    c.next_round.ensures.led F keyed'
+    (marks-sort d n args.old.now args.stirred.now anchors anchored step.classes step.finer marks marked mid c.first_round.ensures.led.reps)

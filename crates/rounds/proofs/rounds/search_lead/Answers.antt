@@ -1,48 +1,60 @@
--- `search_lead` meets its contract. Assumes nothing.
-use Rattle.rounds.specs.Laws.Rounds.{chains-cleared, placed-hit, placed-new}
-use Rattle.bisimulation.specs.Finite.{next}
-use mathlib.Core.Path.{refl, ◌∙◌, ap}
-use lib.ListN.{length, length-set}
+-- The search comes to a leader that is related to the item, or to the last one.
+use Rattle.std.proofs.Common.{ℕ, get_or, length, List, arith, refl, sym, ap, ◌∙◌}
+use Rattle.bisimulation.specs.Finite.{next, related}
+use Rattle.rounds.specs.Rounds.{Chains}
+use Rattle.rounds.specs.Laws.Rounds.{walk_start, walk-on, walk-hit, walk_end, placed-known, placed-new}
 use Rattle.rounds.proofs.rounds.search_lead.Goals as goal
 
-pub returns-then-found : goal.returns-then-found
-returns-then-found c =
-    let find-lead = c.find_lead-found in
+pub loop-links-init : goal.loop-links-init
+loop-links-init c =
+    let args = c.args in (
+      refl,
+      λ F mid equipped step chains hx e h. (walk_start (next F args.names.now) args.graph.n mid step args.x args.start hx e h, equipped),
+    )
+
+pub returns-then-next-y : goal.returns-then-next-y
+returns-then-next-y c =
+    let loop = c.loop-links in
     let args = c.args in
-    let pre = c.requires in
-    let if1 = c.if-found in
-    record {
-      keys_len_unchanged = (find-lead.ensures.keys_len_unchanged.0, find-lead.ensures.keys_len_unchanged.1, refl);
-      value = λ F before equipped step chains cleared long e h.
-          let (searched, known) = find-lead.ensures.searched F equipped step (chains-cleared (next F args.names.now) args.graph.n
-          args.mid.now step before args.links.now
-          args.x pre.0 long chains cleared) pre.0 e h in
-          let (led, linked) = placed-hit (next F args.names.now) args.graph.n args.mid.now step before args.links.now args.x
-          pre.0 long chains cleared
-          find-lead.result.hit find-lead.result.at searched if1.true in
-          (led, linked, known);
-    }
+    let n = args.graph.n in
+    λ F mid equipped step chains zero hx e h.
+    let d = next F args.names.now in
+    let chains' : Chains d (related mid) loop.links args.x = rw (loop.invariant.0) chains in
+    let (w, known) = loop.invariant.1 F mid equipped step chains' hx e h in
+    let (told, known') = c.is_keyed_next.ensures.value F known (omega (arith, w.below, hx)) hx in
+    let last = walk_end d n mid step loop.links args.x hx chains' loop.y c.from-next.result w (sym told ∙ c.loop-links-test.true)
+    (c.from-next.ensures ∙ c.at.ensures) c.if-next-y.true in
+    let (own, linked) = placed-new d n mid step loop.links args.x hx chains' loop.y last
+    (ap (λ (l : List ℕ). get_or l args.x 0) loop.invariant.0 ∙ zero)
+    (omega (arith, ap length loop.invariant.0, c.told-links, c.requires)) in
+    (own, rw c.put.ensures linked, known')
+
+pub loop-links-preserved : goal.loop-links-preserved
+loop-links-preserved c =
+    let loop = c.loop-links in
+    let args = c.args in
+    let n = args.graph.n in (
+      loop.invariant.0,
+      λ F mid equipped step chains hx e h.
+          let d = next F args.names.now in
+          let (w, known) = loop.invariant.1 F mid equipped step chains hx e h in
+          let (told, known') = c.is_keyed_next.ensures.value F known (omega (arith, w.below, hx)) hx in (
+            walk-on d n mid step loop.links args.x hx chains loop.y c.from-next.result w (sym told ∙ c.loop-links-test.true)
+                (c.from-next.ensures ∙ c.at.ensures) c.if-next-y.false,
+            known',
+          ),
+    )
 
 pub returns : goal.returns
 returns c =
-    let find-lead = c.find_lead-found in
-    let put-link = c.put_link in
+    let loop = c.loop-links in
     let args = c.args in
-    let pre = c.requires in
-    let if1 = c.if-found in
-    record {
-      keys_len_unchanged = (
-        find-lead.ensures.keys_len_unchanged.0,
-        find-lead.ensures.keys_len_unchanged.1,
-        ap length put-link.ensures
-            ∙ length-set args.links.now find-lead.result.at args.x,
-      );
-      value = λ F before equipped step chains cleared long e h.
-          let (searched, known) = find-lead.ensures.searched F equipped step (chains-cleared (next F args.names.now) args.graph.n
-          args.mid.now step before args.links.now
-          args.x pre.0 long chains cleared) pre.0 e h in
-          let (led, linked) = placed-new (next F args.names.now) args.graph.n args.mid.now step before args.links.now args.x
-          pre.0 long chains cleared
-          find-lead.result.hit find-lead.result.at searched if1.false put-link.new.links put-link.ensures in
-          (led, linked, known);
-    }
+    let n = args.graph.n in
+    λ F mid equipped step chains zero hx e h.
+    let d = next F args.names.now in
+    let chains' : Chains d (related mid) loop.links args.x = rw (loop.invariant.0) chains in
+    let (w, known) = loop.invariant.1 F mid equipped step chains' hx e h in
+    let (told, known') = c.is_keyed_next.ensures.value F known (omega (arith, w.below, hx)) hx in
+    let (own, linked) = placed-known d n mid step loop.links args.x hx chains' loop.y
+    (walk-hit d n mid step args.x loop.y hx w (sym told ∙ c.loop-links-test.false)) w.below in
+    (own, linked, known')
