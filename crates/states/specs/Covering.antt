@@ -1,6 +1,6 @@
 -- Bounds of the clocks that are enough for a model, and reaching by some delay for any bounds. The region theorem holds for all
 -- such bounds. Document 01 has one M for all clocks, the largest constant, which is such.
-use Rattle.std.specs.Prelude.{◌≤◌, ◌≡◌, true, get_or}
+use Rattle.std.specs.Prelude.{◌≤◌, ◌≡◌, true, get_or, Some}
 use mathlib.Core.List.{Memᴰ}
 use Rattle.table.specs.Model.{Model, Edge}
 use Rattle.table.specs.declared.model.Guard.{Guard}
@@ -23,5 +23,5 @@ pub record Covers (bounds : Bounds) (m : Model) : Type 0 where
 -- invariant, as for `DelaysTo`.
 pub data Waits (bounds : Bounds) (m : Model) : Region → Region → Type 0 where
   still : {r : Region} → meets bounds m.invariants r ≡ true → Waits bounds m r r
-  onward : {r q : Region} → (delayed bounds r).any ≡ true → meets bounds m.invariants (delayed bounds r).region ≡ true
-      → Waits bounds m (delayed bounds r).region q → Waits bounds m r q
+  onward : {r p q : Region} → delayed bounds r ≡ Some p → meets bounds m.invariants p ≡ true → Waits bounds m p q
+      → Waits bounds m r q

@@ -1,40 +1,39 @@
 -- How the code places a state: each clock by its whole part and fraction, and the ranks by counting the different fractions.
-use Rattle.std.specs.Prelude.{ℕ, ◌≡◌, Bool, cond, not, ◌&&◌, List, [], ◌∷◌, eqb, leb, ltb, get_or}
-use Rattle.clocks.specs.Cells.{Cell, over, fraction_of, member, rank}
-use Rattle.clocks.specs.Packed.{clock_of, byte_at}
-use Rattle.states.specs.Placing.{value_cell}
-use Rattle.clocks.specs.declared.region.Bounds.{Bounds}
+use Rattle.std.specs.Prelude.{ℕ, Bool, cond, not, ◌&&◌, List, [], ◌∷◌, map, eqb, leb, get_or}
+use Rattle.clocks.specs.Cells.{Cell, fraction_of, member, rank}
+use Rattle.clocks.specs.Packed.{over_part, clock_of, byte_at}
+use Rattle.states.specs.States.{State}
+use Rattle.states.specs.declared.states.Asked.{Asked}
 use Rattle.states.specs.declared.states.Spot.{Spot}
-use Rattle.states.specs.declared.states.Spots.{Spots}
 
--- Clock i at v/d.
-abbrev pub value_at : Bounds → (d i v : ℕ) → Cell
-value_at bounds d i v = cond (ltb i bounds.count) (value_cell d (get_or bounds.bound i 0) v) (over 0)
+-- The state that is asked for.
+abbrev pub state_of : Asked → State
+state_of a = record { location = a.location; values = a.values; denominator = a.denominator }
 
-pub record SpotIs (s : Spot) (c : Cell) : Type 0 where
-  pub whole : s.whole ≡ (clock_of c).whole
-  pub fraction : s.fraction ≡ fraction_of c
+-- What the code holds of a cell.
+abbrev pub spot_of : Cell → Spot
+spot_of c = record { whole = (clock_of c).whole; fraction = fraction_of c }
 
-pub record SpotsAre (s : Spots) (a b c d : Cell) : Type 0 where
-  pub a-is : SpotIs s.a a
-  pub b-is : SpotIs s.b b
-  pub c-is : SpotIs s.c c
-  pub d-is : SpotIs s.d d
+-- A clock that takes no part.
+abbrev pub no_spot : Spot
+no_spot = record { whole = over_part; fraction = 0 }
 
--- The fractions of four clocks, and the bytes of a region that has them.
-abbrev pub spot_fractions : Spots → List ℕ
-spot_fractions s = s.a.fraction ∷ s.b.fraction ∷ s.c.fraction ∷ s.d.fraction ∷ []
+-- The integer parts of four clocks as bytes of a region, and the ranks of their fractions.
+abbrev pub spot_wholes : ℕ → List Spot → List ℕ
+spot_wholes count ss =
+    byte_at count 0 (get_or ss 0 no_spot).whole ∷ byte_at count 1 (get_or ss 1 no_spot).whole
+    ∷ byte_at count 2 (get_or ss 2 no_spot).whole ∷ byte_at count 3 (get_or ss 3 no_spot).whole ∷ []
 
-abbrev pub spot_wholes : ℕ → Spots → List ℕ
-spot_wholes n s = byte_at n 0 s.a.whole ∷ byte_at n 1 s.b.whole ∷ byte_at n 2 s.c.whole ∷ byte_at n 3 s.d.whole ∷ []
+abbrev pub spot_fractions : List Spot → List ℕ
+spot_fractions ss = map (λ (s : Spot). s.fraction) ss
 
-abbrev pub spot_ranks : ℕ → Spots → List ℕ
-spot_ranks n s =
-    byte_at n 0 (rank (spot_fractions s) s.a.fraction)
-    ∷ byte_at n 1 (rank (spot_fractions s) s.b.fraction)
-    ∷ byte_at n 2 (rank (spot_fractions s) s.c.fraction)
-    ∷ byte_at n 3 (rank (spot_fractions s) s.d.fraction)
-    ∷ []
+abbrev pub fraction_ranks : ℕ → List ℕ → List ℕ
+fraction_ranks count fs =
+    byte_at count 0 (rank fs (get_or fs 0 0)) ∷ byte_at count 1 (rank fs (get_or fs 1 0))
+    ∷ byte_at count 2 (rank fs (get_or fs 2 0)) ∷ byte_at count 3 (rank fs (get_or fs 3 0)) ∷ []
+
+abbrev pub spot_ranks : ℕ → List Spot → List ℕ
+spot_ranks count ss = fraction_ranks count (spot_fractions ss)
 
 -- A fraction is from 1 to f, and none of some others.
 abbrev pub is_fresh : ℕ → ℕ → List ℕ → Bool

@@ -1,6 +1,6 @@
 -- The state call (document 01, "Refusal list"): where a state lies in the graph. The rows are those of the graph call (1 to 15),
 -- then 20, then 21; the lent entries hold what the graph call leaves.
-use Rattle.std.specs.Prelude.{ℕ, suc, Bool, false, cond, not, ◌&&◌, ◌||◌, List, [], ◌∷◌, eqb, leb, ltb, length, take}
+use Rattle.std.specs.Prelude.{ℕ, suc, Bool, false, cond, not, ◌&&◌, ◌||◌, List, [], ◌∷◌, eqb, leb, ltb, length, take, Result, Ok, Err}
 use Rattle.table.specs.Model.{Model}
 use Rattle.table.specs.Reading.{Answer, refusal, accepted, read_table}
 use Rattle.regions.specs.Graph.{bounds_of}
@@ -8,8 +8,9 @@ use Rattle.states.specs.States.{State}
 use Rattle.states.specs.Placing.{placed}
 use Rattle.regions.specs.Call.{Outcome, refused, cut, whole, from_answer}
 use Rattle.regions.specs.View.{number_in}
-use Rattle.states.specs.declared.states.Placing.{Placing}
-use Rattle.states.specs.declared.states.Placing.TheVariants.{Refused, Region}
+use Rattle.table.specs.Reasons.{refusal_at}
+use Rattle.table.specs.declared.refusals.Reason.TheVariants.{TooManyRegions, BadState, Unreached}
+use Rattle.table.specs.declared.refusals.Refusal.{Refusal}
 
 -- The state that a call asks for: four values over a denominator at a location.
 abbrev pub asked : (location v₀ v₁ v₂ v₃ d : ℕ) → State
@@ -36,19 +37,19 @@ unfoldable pub own_state : Model → State → State
 own_state m s = record { location = s.location; values = take m.clocks s.values; denominator = s.denominator }
 
 -- "21. The state's region was not reached." Otherwise its number.
-abbrev pub numbered : (count number : ℕ) → Placing
-numbered count number = cond (ltb number count) (Region number) (Refused 21 0)
+abbrev pub numbered : (count number : ℕ) → Result ℕ Refusal
+numbered count number = cond (ltb number count) (Ok number) (Err (refusal_at Unreached 0))
 
-abbrev pub placed_among : Model → State → Outcome → Placing
-placed_among m s (refused number place) = Refused number place
-placed_among m s (cut found) = Refused 15 0
+abbrev pub placed_among : Model → State → Outcome → Result ℕ Refusal
+placed_among m s (refused reason place) = Err (refusal_at reason place)
+placed_among m s (cut found) = Err (refusal_at TooManyRegions 0)
 placed_among m s (whole found) =
-    cond (is_not_taken m s) (Refused 20 0) (numbered (length found) (number_in found (placed (bounds_of m) (own_state m s))))
+    cond (is_not_taken m s) (Err (refusal_at BadState 0)) (numbered (length found) (number_in found (placed (bounds_of m) (own_state m s))))
 
-abbrev pub placed_from : (cap : ℕ) → State → Answer → Placing
-placed_from cap s (refusal number place) = Refused number place
+abbrev pub placed_from : (cap : ℕ) → State → Answer → Result ℕ Refusal
+placed_from cap s (refusal reason place) = Err (refusal_at reason place)
 placed_from cap s (accepted m) = placed_among m s (from_answer cap (accepted m))
 
 -- The answer of the call, for a table, room for so many regions, and four values over a denominator at a location.
-unfoldable pub place_of : List ℕ → (cap : ℕ) → State → Placing
+unfoldable pub place_of : List ℕ → (cap : ℕ) → State → Result ℕ Refusal
 place_of table cap s = placed_from cap s (read_table table)

@@ -3,4 +3,4 @@
 
 mod states;
 
-pub use states::{Placing, place_state};
+pub use states::place_state;

@@ -1,7 +1,7 @@
 -- Laws on fractions and ranks. What a delay, a reset and an atom come to on the numerators of a state's clocks is what they come to
 -- on the ranks of its region: only the order of the fractions matters, and which of them are zero.
 use Rattle.std.specs.Prelude.{ℕ, zero, suc, ◌+◌, ◌*◌, ◌/◌, ◌%◌, ◌≤◌, ◌<◌, ◌⊎◌, ◌≡◌, refl, Bool}
-use Rattle.std.specs.Prelude.{true, false, cond, not, ◌&&◌, ◌||◌, eqb, leb, ltb}
+use Rattle.std.specs.Prelude.{true, false, cond, not, ◌&&◌, ◌||◌, eqb, leb, ltb, Option, None}
 use Rattle.std.proofs.Common.{arith, mul-le-mul_right, le_of_mul-le-mul_right, mul_assoc, zero-mul, suc-mul, add-mul}
 use Rattle.std.proofs.Common.{mod-lt, div-add-mod', inl, inr, sym, ◌∙◌, ap, ap₂, subst, eqb-true, eq-eqb, ne_eqb}
 use Rattle.std.proofs.Common.{leb-true, leb-false, le-leb, ltb-true, ltb-false, lt-ltb, le-ltb}
@@ -17,8 +17,6 @@ use Rattle.clocks.specs.Atoms.{below, at_most, verdict, atom}
 use Rattle.regions.specs.Graph.{is_holds}
 use Rattle.states.specs.States.{compares}
 use Rattle.states.specs.Placing.{value_cell}
-use Rattle.clocks.specs.declared.region.Verdict.{Verdict}
-use Rattle.clocks.specs.declared.region.Verdict.TheVariants.{Unknown}
 use Rattle.clocks.proofs.Laws.Cells.{both, true-false, none, one, or-true, to_map, most}
 use Rattle.clocks.specs.Cells.{Proper, NoGap}
 use Rattle.clocks.proofs.Laws.Cells.{closed-rank, close-no-gap, delay-no-gap}
@@ -587,12 +585,12 @@ delay-all-over cs e = delay-nothing (close cs) (close-over cs ∙ e)
 -- ---- Atoms
 
 -- An atom asks no more than whether the clock is below the constant, and whether it is at most the constant.
-abbrev answer : (comparison : ℕ) (less most : Bool) → Verdict
+abbrev answer : (comparison : ℕ) (less most : Bool) → Option Bool
 answer comparison less most =
     cond (eqb comparison 0) (verdict less)
     (cond (eqb comparison 1) (verdict most)
     (cond (eqb comparison 2) (verdict (not most))
-    (cond (eqb comparison 3) (verdict (not less)) (cond (eqb comparison 4) (verdict (most && not less)) Unknown))))
+    (cond (eqb comparison 3) (verdict (not less)) (cond (eqb comparison 4) (verdict (most && not less)) None))))
 
 atom-is : (comparison k : ℕ) (c : Cell) → atom comparison k c ≡ answer comparison (below k c) (at_most k c)
 unfolding atom
@@ -679,9 +677,8 @@ equal-both a b =
     go true false ex ey h = refl
     go false y ex ey h = refl
 
-holds-cond : (t a x y : Bool) (v : Verdict) → a ≡ x → is_holds v ≡ y → is_holds (cond t (verdict a) v) ≡ cond t x y
-holds-cond true true x y v e q = e
-holds-cond true false x y v e q = e
+holds-cond : (t a x y : Bool) (v : Option Bool) → a ≡ x → is_holds v ≡ y → is_holds (cond t (verdict a) v) ≡ cond t x y
+holds-cond true a x y v e q = e
 holds-cond false a x y v e q = q
 
 -- An atom says of a value what the automaton says of it.
@@ -695,4 +692,4 @@ atom-value comparison k d m v h q =
     (holds-cond (eqb comparison 1) _ _ _ _ atmost
     (holds-cond (eqb comparison 2) _ _ _ _ (ap not atmost ∙ not-most v (k * d))
     (holds-cond (eqb comparison 3) _ _ _ _ (ap not less ∙ not-less v (k * d))
-    (holds-cond (eqb comparison 4) _ _ _ Unknown (ap₂ ◌&&◌ atmost (ap not less ∙ not-less v (k * d)) ∙ equal-both v (k * d)) refl))))
+    (holds-cond (eqb comparison 4) _ _ _ None (ap₂ ◌&&◌ atmost (ap not less ∙ not-less v (k * d)) ∙ equal-both v (k * d)) refl))))

@@ -1,56 +1,61 @@
 -- Laws for the code that places a state: each clock by its whole part and fraction, ranks by counting, and the region of the four clocks.
 use Rattle.std.specs.Prelude.{ℕ, zero, suc, ◌+◌, ◌*◌, ◌/◌, ◌%◌, ◌≤◌, ◌<◌, min, ◌≡◌, refl, Bool, true, false, cond}
-use Rattle.std.specs.Prelude.{not, ◌&&◌, ◌||◌, List, [], ◌∷◌, map, eqb, leb, length, get_or}
-use Rattle.std.proofs.Common.{arith, mul-le-mul_right, div-lt_iff_lt-mul, sym, ◌∙◌, ap, ap₂, eq-eqb, ne_eqb}
+use Rattle.std.specs.Prelude.{not, ◌&&◌, ◌||◌, List, [], ◌∷◌, map, eqb, leb, ltb, length, get_or, take, drop, ◌-◌}
+use Rattle.std.specs.List.{list_any}
+use Rattle.std.proofs.lemmas.List.{take_all}
+use Rattle.std.proofs.Common.{arith, add-one, drop-cons, drop_of_length-le, length-drop, mul-le-mul_right, div-lt_iff_lt-mul, sym, ◌∙◌, ap, ap₂, eq-eqb, ne_eqb}
 use Rattle.std.proofs.Common.{eqb-true, lt-ltb, le-ltb, le-leb, leb-true, leb-false}
 use Rattle.std.proofs.lemmas.Bool.{eqb-false, lt-leb}
 use Rattle.clocks.specs.Cells.{Cell, over, at, fraction_of, member, rank, closed, close}
 use Rattle.clocks.specs.Packed.{over_part, clock_of, byte_at, pack}
-use Rattle.states.specs.StateCall.{asked}
-use Rattle.states.specs.Placing.{value_cell, state_cell, placed}
+use Rattle.states.specs.States.{State}
+use Rattle.states.specs.Placing.{state_cell, state_cells, placed}
 use Rattle.clocks.specs.declared.region.Bounds.{Bounds}
 use Rattle.states.specs.declared.states.Spot.{Spot}
-use Rattle.states.specs.declared.states.Spots.{Spots}
-use Rattle.states.specs.Spots.{value_at, SpotIs, SpotsAre, spot_fractions, spot_wholes, spot_ranks, is_fresh, fresh_count}
+use Rattle.states.specs.Spots.{spot_of, spot_wholes, spot_ranks, is_fresh, fresh_count}
 
 -- ---- One clock
 
-module _ (bounds : Bounds) (d i v : ℕ) where
-  here : i < bounds.count → value_at bounds d i v ≡ value_cell d (get_or bounds.bound i 0) v
-  here h = rw (lt-ltb i bounds.count h) refl
+-- A byte times a denominator that the call takes.
+pub product_small : (b d : ℕ) → b < 256 → d ≤ 1000000 → b * d < 18446744073709551616
+product_small b d hb hd =
+    let most : b ≤ 255 = omega arith in
+    omega (arith, mul-le-mul_right d most, hd)
 
-  -- The clock is over.
-  pub spot-over : (s : Spot) → i < bounds.count → get_or bounds.bound i 0 * d < v → s.whole ≡ over_part → s.fraction ≡ 0
-      → SpotIs s (value_at bounds d i v)
-  spot-over s h past ew ef =
-      let e : value_at bounds d i v ≡ over (get_or bounds.bound i 0) = here h ∙ rw (lt-ltb (get_or bounds.bound i 0 * d) v past) refl in
-      record { whole = ew ∙ sym (ap (λ c. (clock_of c).whole) e); fraction = ef ∙ sym (ap fraction_of e) }
+-- The whole part of a value is at most the bound that the value does not exceed.
+pub whole-small : (b d v : ℕ) → b < 256 → 0 < d → v ≤ b * d → v / d < 256
+whole-small b d v byte positive low =
+    let most : b ≤ 255 = omega arith in
+    let product : b * d ≤ 255 * d = mul-le-mul_right d most in
+    (div-lt_iff_lt-mul positive).1 (omega (arith, product, low, positive))
 
-  -- The model does not have the clock.
-  pub spot-beyond : (s : Spot) → bounds.count ≤ i → s.whole ≡ over_part → s.fraction ≡ 0 → SpotIs s (value_at bounds d i v)
-  spot-beyond s h ew ef =
-      let e : value_at bounds d i v ≡ over 0 = rw (le-ltb i bounds.count h) refl in
-      record { whole = ew ∙ sym (ap (λ c. (clock_of c).whole) e); fraction = ef ∙ sym (ap fraction_of e) }
-
-  -- The whole part of a value is at most the bound that the value does not exceed.
-  pub whole-small : 0 < d → get_or bounds.bound i 0 < 256 → v ≤ get_or bounds.bound i 0 * d → v / d < 256
-  whole-small positive byte low =
-      let most : get_or bounds.bound i 0 ≤ 255 = omega arith in
-      let product : get_or bounds.bound i 0 * d ≤ 255 * d = mul-le-mul_right d most in
-      (div-lt_iff_lt-mul positive).1 (omega (arith, product, low, positive))
-
+module _ (bounds : Bounds) (s : State) (i b v : ℕ) (bound : b ≡ get_or bounds.bound i 0) (value : v ≡ get_or s.values i 0) where
   -- The clock has a whole part and a fraction.
-  pub spot-at : (s : Spot) → i < bounds.count → v ≤ get_or bounds.bound i 0 * d → v / d < 256 → s.whole ≡ v / d → s.fraction ≡ v % d
-      → SpotIs s (value_at bounds d i v)
-  spot-at s h low byte ew ef =
-      let e : value_at bounds d i v ≡ at (get_or bounds.bound i 0) (v / d) (v % d) =
-      here h ∙ rw (le-ltb (get_or bounds.bound i 0 * d) v low) refl in
-      record { whole = ew ∙ omega (arith, byte) ∙ sym (ap (λ c. (clock_of c).whole) e); fraction = ef ∙ sym (ap fraction_of e) }
+  pub spot-at : i < bounds.count → v ≤ b * s.denominator → v / s.denominator < 256
+      → record { whole = v / s.denominator; fraction = v % s.denominator } ≡ spot_of (state_cell bounds s i)
+  unfolding state_cell
+  spot-at h low byte =
+      let small : v / s.denominator ≡ min (v / s.denominator) 255 = omega (arith, byte) in
+      rw (← bound, ← value, lt-ltb i bounds.count h, le-ltb (b * s.denominator) v low)
+      (ap (λ (x : ℕ). record { whole = x; fraction = v % s.denominator }) small)
+
+  -- It is over, or the model does not have it.
+  pub spot-over : b * s.denominator < v → record { whole = over_part; fraction = 0 } ≡ spot_of (state_cell bounds s i)
+  unfolding state_cell
+  spot-over past = rw (← bound, ← value, lt-ltb (b * s.denominator) v past) (either (ltb i bounds.count))
+    where
+      either : (here : Bool) → record { whole = over_part; fraction = 0 } ≡ spot_of (cond here (over b) (over 0))
+      either true = refl
+      either false = refl
+
+  pub spot-beyond : bounds.count ≤ i → record { whole = over_part; fraction = 0 } ≡ spot_of (state_cell bounds s i)
+  unfolding state_cell
+  spot-beyond h = rw (le-ltb i bounds.count h) refl
 
 -- ---- Ranks by counting
 
 -- One fraction more: it adds to the rank where it is fresh.
-rank-more : (x : ℕ) (l : List ℕ) (f : ℕ) → rank (x ∷ l) f ≡ rank l f + fresh_count f x l
+pub rank-more : (x : ℕ) (l : List ℕ) (f : ℕ) → rank (x ∷ l) f ≡ rank l f + fresh_count f x l
 rank-more x l zero = none (eqb x 0) refl
   where
     none : (b : Bool) → eqb x 0 ≡ b → 0 ≡ 0 + fresh_count 0 x l
@@ -95,63 +100,61 @@ rank-more x l (suc f) = go (eqb (suc f) x) refl (rank-more x l f)
         kept true b = omega (arith, b)
         kept false b = b
 
--- Zeros among the others do not matter to a fraction that is not 0.
-fresh-padded : (f x : ℕ) (l k : List ℕ) → ((x ≡ 0 → ⊥) → member x l ≡ member x k) → is_fresh f x l ≡ is_fresh f x k
-fresh-padded f x l k same = go (eqb x 0) refl
+-- One fraction more of a list, looked at from the first on.
+pub rank-rest : (f : ℕ) (fs : List ℕ) (i : ℕ) → i < length fs
+    → rank (drop i fs) f ≡ rank (drop (i + 1) fs) f + fresh_count f (get_or fs i 0) (drop (i + 1) fs)
+rank-rest f fs i h =
+    ap (λ l. rank l f) (drop-cons fs i 0 h)
+    ∙ rank-more (get_or fs i 0) (drop (suc i) fs) f
+    ∙ ap (λ k. rank (drop k fs) f + fresh_count f (get_or fs i 0) (drop k fs)) (sym (add-one i))
+
+pub rank-none : (f : ℕ) → rank [] f ≡ 0
+rank-none zero = refl
+rank-none (suc f) = rank-none f
+
+pub rank-end : (f : ℕ) (fs : List ℕ) (i : ℕ) → length fs ≤ i → rank (drop i fs) f ≡ 0
+rank-end f fs i h = ap (λ l. rank l f) (drop_of_length-le fs h) ∙ rank-none f
+
+-- The fractions after one of four.
+pub rest-of : (fs : List ℕ) (i : ℕ) → length fs ≡ 4 → take (4 - (i + 1)) (drop (i + 1) fs) ≡ drop (i + 1) fs
+rest-of fs i four = take_all (4 - (i + 1)) (drop (i + 1) fs) (omega (arith, length-drop (i + 1) fs, four))
+
+member-any : (k : ℕ) (l : List ℕ) → list_any (λ x. eqb x k) l ≡ member k l
+member-any k [] = refl
+member-any k (x ∷ l) = ap₂ (λ a b. a || b) (turned (eqb x k) refl) (member-any k l)
   where
-    go : (b : Bool) → eqb x 0 ≡ b → is_fresh f x l ≡ is_fresh f x k
-    go true e = rw e refl
-    go false e = rw (same (eqb-false x 0 e)) refl
+    turned : (b : Bool) → eqb x k ≡ b → b ≡ eqb k x
+    turned true e = sym (eq-eqb k x (sym (eqb-true x k e)))
+    turned false e = sym (ne_eqb k x (λ q. eqb-false x k e (sym q)))
 
--- The rank among four, counted.
-pub rank-four : (f a b c d : ℕ) → fresh_count f a (b ∷ c ∷ d ∷ []) + fresh_count f b (c ∷ d ∷ 0 ∷ [])
-    + fresh_count f c (d ∷ 0 ∷ 0 ∷ []) + fresh_count f d (0 ∷ 0 ∷ 0 ∷ []) ≡ rank (a ∷ b ∷ c ∷ d ∷ []) f
-rank-four f a b c d =
-    let none = rank-none f in
-    let last = rank-more d [] f in
-    let third = rank-more c (d ∷ []) f in
-    let second = rank-more b (c ∷ d ∷ []) f in
-    let first = rank-more a (b ∷ c ∷ d ∷ []) f in
-    let pd : is_fresh f d (0 ∷ 0 ∷ 0 ∷ []) ≡ is_fresh f d [] = fresh-padded f d (0 ∷ 0 ∷ 0 ∷ []) [] (λ n. rw (ne_eqb d 0 n) refl) in
-    let pc : is_fresh f c (d ∷ 0 ∷ 0 ∷ []) ≡ is_fresh f c (d ∷ []) =
-    fresh-padded f c (d ∷ 0 ∷ 0 ∷ []) (d ∷ []) (λ n. rw (ne_eqb c 0 n) refl) in
-    let pb : is_fresh f b (c ∷ d ∷ 0 ∷ []) ≡ is_fresh f b (c ∷ d ∷ []) =
-    fresh-padded f b (c ∷ d ∷ 0 ∷ []) (c ∷ d ∷ []) (λ n. rw (ne_eqb b 0 n) refl) in
-    rw (pd, pc, pb) (omega (arith, none, last, third, second, first))
+-- What a fraction adds, by the tests of the code.
+module _ (f x : ℕ) (l : List ℕ) where
+  pub fresh-one : 0 < x → x ≤ f → list_any (λ y. eqb y x) l ≡ false → fresh_count f x l ≡ 1
+  fresh-one h low e = rw (ne_eqb x 0 (λ q. omega (arith, q)), le-leb x f low, sym (member-any x l) ∙ e) refl
+
+  pub fresh-zero : x ≤ 0 → fresh_count f x l ≡ 0
+  fresh-zero h = rw (eq-eqb x 0 (omega arith)) refl
+
+  pub fresh-above : f < x → fresh_count f x l ≡ 0
+  fresh-above h = rw (lt-leb x f h) (falls (not (eqb x 0)))
+    where
+      falls : (a : Bool) → ◌≡◌ {A = ℕ} (cond ((a && false) && not (member x l)) 1 0) 0
+      falls true = refl
+      falls false = refl
+
+  pub fresh-met : list_any (λ y. eqb y x) l ≡ true → fresh_count f x l ≡ 0
+  fresh-met e = rw (sym (member-any x l) ∙ e) (falls (not (eqb x 0) && leb x f))
+    where
+      falls : (a : Bool) → ◌≡◌ {A = ℕ} (cond (a && false) 1 0) 0
+      falls true = refl
+      falls false = refl
+
+pub fresh-most : (f x : ℕ) (l : List ℕ) → fresh_count f x l ≤ 1
+fresh-most f x l = one (is_fresh f x l)
   where
-    rank-none : (f : ℕ) → rank [] f ≡ 0
-    rank-none zero = refl
-    rank-none (suc f) = rank-none f
-
--- Where a fraction is not fresh, by the tests of the code, and where it is.
-module _ (f x p q s : ℕ) where
-  pub fresh-zero : x ≡ 0 → 0 ≡ fresh_count f x (p ∷ q ∷ s ∷ [])
-  fresh-zero e = rw (eq-eqb x 0 e) refl
-
-  pub fresh-above : (x ≡ 0 → ⊥) → f < x → 0 ≡ fresh_count f x (p ∷ q ∷ s ∷ [])
-  fresh-above n h = rw (ne_eqb x 0 n, lt-leb x f h) refl
-
-  stale : (b c : Bool) → c ≡ true → ◌≡◌ {A = ℕ} 0 (cond (b && not c) 1 0)
-  stale true c e = rw e refl
-  stale false c e = refl
-
-  or-last : (a b : Bool) → b ≡ true → (a || b) ≡ true
-  or-last true b e = refl
-  or-last false b e = e
-
-  pub fresh-first : x ≡ p → 0 ≡ fresh_count f x (p ∷ q ∷ s ∷ [])
-  fresh-first e = stale (not (eqb x 0) && leb x f) (member x (p ∷ q ∷ s ∷ [])) (rw (eq-eqb x p e) refl)
-
-  pub fresh-second : x ≡ q → 0 ≡ fresh_count f x (p ∷ q ∷ s ∷ [])
-  fresh-second e = stale (not (eqb x 0) && leb x f) (member x (p ∷ q ∷ s ∷ [])) (or-last (eqb x p) _ (rw (eq-eqb x q e) refl))
-
-  pub fresh-third : x ≡ s → 0 ≡ fresh_count f x (p ∷ q ∷ s ∷ [])
-  fresh-third e =
-      stale (not (eqb x 0) && leb x f) (member x (p ∷ q ∷ s ∷ []))
-      (or-last (eqb x p) _ (or-last (eqb x q) _ (rw (eq-eqb x s e) refl)))
-
-  pub fresh-one : (x ≡ 0 → ⊥) → x ≤ f → (x ≡ p → ⊥) → (x ≡ q → ⊥) → (x ≡ s → ⊥) → 1 ≡ fresh_count f x (p ∷ q ∷ s ∷ [])
-  fresh-one n h np nq ns = rw (ne_eqb x 0 n, le-leb x f h, ne_eqb x p np, ne_eqb x q nq, ne_eqb x s ns) refl
+    one : (b : Bool) → cond b 1 0 ≤ 1
+    one true = omega arith
+    one false = omega arith
 
 -- ---- The region
 
@@ -165,65 +168,35 @@ closed-rank fs (at m w f) = refl
 
 -- A rank among four is at most four.
 few : (fs : List ℕ) (f : ℕ) → rank fs f ≤ length fs
-few [] f = none f
-  where
-    none : (f : ℕ) → rank [] f ≤ 0
-    none zero = omega arith
-    none (suc f) = none f
-few (x ∷ l) f = omega (arith, rank-more x l f, few l f, one (is_fresh f x l))
-  where
-    one : (b : Bool) → cond b 1 0 ≤ 1
-    one true = omega arith
-    one false = omega arith
+few [] f = omega (arith, rank-none f)
+few (x ∷ l) f = omega (arith, rank-more x l f, few l f, fresh-most f x l)
 
--- A region with the bytes of four clocks of a state is the state's region.
-pub region-is : (bounds : Bounds) (location v₀ v₁ v₂ v₃ d : ℕ) (s : Spots)
-    → SpotsAre s (value_at bounds d 0 v₀) (value_at bounds d 1 v₁) (value_at bounds d 2 v₂) (value_at bounds d 3 v₃)
-    → (whole ranks : List ℕ) → whole ≡ spot_wholes bounds.count s → ranks ≡ spot_ranks bounds.count s
-    → record { location = location; whole = whole; rank = ranks } ≡ placed bounds (asked location v₀ v₁ v₂ v₃ d)
-unfolding placed state_cell
-region-is bounds location v₀ v₁ v₂ v₃ d s is whole ranks ew er =
-    ap₂ (λ (x y : List ℕ). record { location = location; whole = x; rank = y }) (ew ∙ wholes) (er ∙ ranks-are)
+-- The region of the four clocks of a state is the state's region.
+pub region-is : (bounds : Bounds) (s : State) (ss : List Spot) (ws rs : List ℕ) → ss ≡ map spot_of (state_cells bounds s)
+    → ws ≡ spot_wholes bounds.count ss → rs ≡ spot_ranks bounds.count ss
+    → record { location = s.location; whole = ws; rank = rs } ≡ placed bounds s
+unfolding placed
+region-is bounds s ss ws rs is ew er =
+    ap₂ (λ (x y : List ℕ). record { location = s.location; whole = x; rank = y })
+    (ew ∙ ap (spot_wholes bounds.count) is ∙ wholes)
+    (er ∙ ap (spot_ranks bounds.count) is ∙ ranks)
   where
     cs : List Cell
-    cs = value_at bounds d 0 v₀ ∷ value_at bounds d 1 v₁ ∷ value_at bounds d 2 v₂ ∷ value_at bounds d 3 v₃ ∷ []
+    cs = state_cells bounds s
 
     fs : List ℕ
     fs = map fraction_of cs
 
-    same : spot_fractions s ≡ fs
-    same = rw (is.a-is.fraction, is.b-is.fraction, is.c-is.fraction, is.d-is.fraction) refl
+    whole-byte : (i : ℕ) (c : Cell) → byte_at bounds.count i (spot_of c).whole ≡ byte_at bounds.count i (clock_of (closed fs c)).whole
+    whole-byte i c = ap (byte_at bounds.count i) (sym (closed-whole fs c))
 
-    whole-byte : (i : ℕ) (c : Cell) (x : Spot) → SpotIs x c
-        → byte_at bounds.count i x.whole ≡ byte_at bounds.count i (clock_of (closed fs c)).whole
-    whole-byte i c x e = ap (byte_at bounds.count i) (e.whole ∙ sym (closed-whole fs c))
+    wholes : spot_wholes bounds.count (map spot_of cs) ≡ (pack bounds s.location (close cs)).whole
+    wholes = rw (whole-byte 0 (state_cell bounds s 0), whole-byte 1 (state_cell bounds s 1), whole-byte 2 (state_cell bounds s 2), whole-byte 3 (state_cell bounds s 3)) refl
 
-    wholes : spot_wholes bounds.count s ≡ (pack bounds location (close cs)).whole
-    wholes =
-        rw (
-          whole-byte 0 _ s.a is.a-is,
-          whole-byte 1 _ s.b is.b-is,
-          whole-byte 2 _ s.c is.c-is,
-          whole-byte 3 _ s.d is.d-is,
-        ) refl
-
-    rank-byte : (i : ℕ) (c : Cell) (x : Spot) → SpotIs x c
-        → byte_at bounds.count i (rank (spot_fractions s) x.fraction) ≡ byte_at bounds.count i (clock_of (closed fs c)).rank
-    rank-byte i c x e =
+    rank-byte : (i : ℕ) (c : Cell) → byte_at bounds.count i (rank fs (fraction_of c)) ≡ byte_at bounds.count i (clock_of (closed fs c)).rank
+    rank-byte i c =
         let small : rank fs (fraction_of c) ≡ min (rank fs (fraction_of c)) 255 = omega (arith, few fs (fraction_of c)) in
-        ap (byte_at bounds.count i) (ap₂ rank same e.fraction ∙ small ∙ sym (closed-rank fs c))
+        ap (byte_at bounds.count i) (small ∙ sym (closed-rank fs c))
 
-    ranks-are : spot_ranks bounds.count s ≡ (pack bounds location (close cs)).rank
-    ranks-are =
-        rw (
-          rank-byte 0 _ s.a is.a-is,
-          rank-byte 1 _ s.b is.b-is,
-          rank-byte 2 _ s.c is.c-is,
-          rank-byte 3 _ s.d is.d-is,
-        ) refl
-
--- A byte times a denominator that the call takes.
-pub product_small : (b d : ℕ) → b < 256 → d ≤ 1000000 → b * d < 18446744073709551616
-product_small b d hb hd =
-    let most : b ≤ 255 = omega arith in
-    omega (arith, mul-le-mul_right d most, hd)
+    ranks : spot_ranks bounds.count (map spot_of cs) ≡ (pack bounds s.location (close cs)).rank
+    ranks = rw (rank-byte 0 (state_cell bounds s 0), rank-byte 1 (state_cell bounds s 1), rank-byte 2 (state_cell bounds s 2), rank-byte 3 (state_cell bounds s 3)) refl

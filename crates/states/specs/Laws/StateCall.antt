@@ -1,8 +1,9 @@
 -- Laws for the code of the state call: what its tests come to, and how its steps are put together.
-use Rattle.std.specs.Prelude.{ℕ, ◌≤◌, ◌<◌, ◌≡◌, Bool, true, false, cond, not, ◌&&◌, List, eqb, leb, ltb, length, get_or, take}
+use Rattle.std.specs.Prelude.{ℕ, ◌≤◌, ◌<◌, ◌≡◌, Bool, true, false, cond, not, ◌&&◌, ◌||◌, List, [], ◌∷◌, eqb, leb, ltb, length, get_or, take, drop, ◌-◌, zero, suc, Result, Ok, Err}
+use Rattle.std.specs.List.{list_any}
 use Rattle.std.proofs.Common.{arith, sym, ◌∙◌, ap, ap₂, get_or-take}
 use Rattle.std.proofs.Math.Path.{refl}
-use borrow.Author.Tests.{eq-eqb, ne_eqb, lt-ltb, le-ltb, le-leb, lt-leb, ltb-true}
+use borrow.Author.Tests.{eq-eqb, ne_eqb, lt-ltb, le-ltb, le-leb, lt-leb, ltb-true, leb-true, leb-false}
 use Rattle.table.specs.Model.{Model}
 use Rattle.table.specs.Reading.{accepted, read_table}
 use Rattle.regions.specs.Graph.{bounds_of}
@@ -14,22 +15,38 @@ use Rattle.regions.specs.Explore.{listed}
 use Rattle.regions.specs.Entries.{max_entries}
 use Rattle.regions.specs.Call.{Outcome, refused, cut, whole, from_answer, outcome_of, graph_of, entries_after}
 use Rattle.regions.specs.View.{number_in}
-use Rattle.states.specs.StateCall.{most_denominator, strays, is_not_taken, own_state, numbered, placed_among}
+use Rattle.states.specs.StateCall.{most_denominator, strays, is_not_taken, own_state, numbered, placed_among, placed_from, place_of}
 use Rattle.regions.specs.Laws.Bytes.{listed-whole}
 use Rattle.regions.specs.Laws.Call.{whole-graph}
-use Rattle.regions.specs.declared.call.Graph.{Graph}
-use Rattle.regions.specs.declared.call.Graph.TheVariants as G
 use Rattle.clocks.specs.declared.region.Region.{Region}
-use Rattle.states.specs.declared.states.Placing.{Placing}
-use Rattle.states.specs.declared.states.Placing.TheVariants as P
+use Rattle.table.specs.Reasons.{refusal_at}
+use Rattle.table.specs.declared.refusals.Reason.TheVariants.{TooManyRegions, BadState}
+use Rattle.table.specs.declared.refusals.Refusal.{Refusal}
 
 -- ---- Laws for the code
 
-pub not-stray : (n i v : ℕ) → i < n → false ≡ (leb n i && not (eqb v 0))
-not-stray n i v h = rw (lt-leb n i h) refl
+-- A value that is not 0, of a clock beyond n.
+strays-from : (n i : ℕ) (vs : List ℕ) → list_any (λ v. not (eqb v 0)) (drop (n - i) vs) ≡ strays n i vs
+strays-from n i [] = none (n - i)
+  where
+    none : (k : ℕ) → list_any (λ v. not (eqb v 0)) (drop k []) ≡ false
+    none zero = refl
+    none (suc k) = refl
+strays-from n i (v ∷ vs) = by (leb n i) refl (strays-from n (suc i) vs)
+  where
+    by : (b : Bool) → leb n i ≡ b → list_any (λ v. not (eqb v 0)) (drop (n - suc i) vs) ≡ strays n (suc i) vs
+        → list_any (λ v. not (eqb v 0)) (drop (n - i) (v ∷ vs)) ≡ ((b && not (eqb v 0)) || strays n (suc i) vs)
+    by true h e =
+        let now : n - i ≡ 0 = omega (arith, leb-true n i h) in
+        let next : n - suc i ≡ 0 = omega (arith, leb-true n i h) in
+        let e' : list_any (λ v. not (eqb v 0)) vs ≡ strays n (suc i) vs = rw next at e in
+        rw (now, e')
+    by false h e =
+        let next : n - i ≡ suc (n - suc i) = omega (arith, leb-false n i h) in
+        rw (next, e)
 
-pub maybe-stray : (n i v : ℕ) → n ≤ i → not (eqb v 0) ≡ (leb n i && not (eqb v 0))
-maybe-stray n i v h = rw (le-leb n i h) refl
+pub strays-any : (n : ℕ) (vs : List ℕ) → list_any (λ v. not (eqb v 0)) (drop n vs) ≡ strays n 0 vs
+strays-any n vs = let all : n ≡ n - 0 = omega arith in ap (λ k. list_any (λ v. not (eqb v 0)) (drop k vs)) all ∙ strays-from n 0 vs
 
 module _ (m : Model) (s : State) where
   pub no-location : m.locations ≤ s.location → true ≡ is_not_taken m s
@@ -79,68 +96,52 @@ placed-own m s =
 
 -- ---- The steps of the code, put together
 
-pub twenty : (b : Bool) (other : Placing) → b ≡ true → P.Refused 20 0 ≡ cond b (P.Refused 20 0) other
-twenty b other e = rw e refl
-
-pub twenty-one : (b : Bool) (n k k' : ℕ) → b ≡ false → k ≡ k' → n ≤ k → P.Refused 21 0 ≡ cond b (P.Refused 20 0) (numbered n k')
-twenty-one b n k k' e same h = rw (e, le-ltb k' n (omega (arith, same, h))) refl
-
-pub has-number : (b : Bool) (n k k' : ℕ) → b ≡ false → k ≡ k' → k < n → P.Region k ≡ cond b (P.Refused 20 0) (numbered n k')
-has-number b n k k' e same h = rw (e, lt-ltb k' n (omega (arith, same, h))) (ap P.Region same)
-
--- The answers of the two calls, told apart by a number.
-abbrev kind_of : Graph → ℕ
-kind_of (G.Refused n p) = 0
-kind_of (G.Regions n) = 1
-
-pub place-refused : (m : Model) (s : State) (o : Outcome) (number place : ℕ) → G.Refused number place ≡ graph_of o
-    → P.Refused number place ≡ placed_among m s o
-place-refused m s (refused n p) number place e = cc
-place-refused m s (cut found) number place e = cc
-place-refused m s (whole found) number place e = absurd (omega (arith, ap kind_of e))
+pub is-found : (n j k : ℕ) → k ≡ j → j < n → Ok j ≡ numbered n k
+is-found n j k e h = rw (e, lt-ltb j n h) refl
 
 -- What exploring a table comes to, by the model that it is read as.
 outcome-read : (table : List ℕ) (m : Model) (cap : ℕ) → read_table table ≡ accepted m → outcome_of table cap ≡ from_answer cap (accepted m)
 unfolding outcome_of
 outcome-read table m cap read = ap (from_answer cap) read
 
-pub explored : (table es es' : List ℕ) (g : Graph) (m : Model) (cap : ℕ) → read_table table ≡ accepted m
-    → g ≡ graph_of (outcome_of table cap) → es' ≡ entries_after es (outcome_of table cap)
-    → (g ≡ graph_of (from_answer cap (accepted m))) × (es' ≡ entries_after es (from_answer cap (accepted m)))
-explored table es es' g m cap read answer left =
-    let is = outcome-read table m cap read in (answer ∙ ap graph_of is, left ∙ ap (entries_after es) is)
+-- Where exploring is refused, the call is.
+pub place-refused : (table : List ℕ) (m : Model) (s : State) (cap : ℕ) → read_table table ≡ accepted m → (r : Refusal)
+    → Err r ≡ graph_of (outcome_of table cap) → Err r ≡ place_of table cap s
+unfolding place_of
+place-refused table m s cap read r e =
+    by (from_answer cap (accepted m)) (e ∙ ap graph_of (outcome-read table m cap read)) ∙ sym (ap (placed_from cap s) read)
+  where
+    by : (o : Outcome) → Err r ≡ graph_of o → Err r ≡ placed_among m s o
+    by (refused reason place) e = e
+    by (cut found) e = e
+    by (whole found) e = cc
 
 module _ (table es es' : List ℕ) (m : Model) (cap : ℕ) (read : read_table table ≡ accepted m) (room : cap ≤ max_entries) (n : ℕ)
-    (answer : G.Regions n ≡ graph_of (from_answer cap (accepted m))) (left : es' ≡ entries_after es (from_answer cap (accepted m))) where
-  the-regions : (o : Outcome) → from_answer cap (accepted m) ≡ o
-      → (found : List Region) × (from_answer cap (accepted m) ≡ whole found) × (length found ≡ n)
-  the-regions (refused k p) e = absurd (omega (arith, ap kind_of (answer ∙ ap graph_of e)))
-  the-regions (cut found) e = absurd (omega (arith, ap kind_of (answer ∙ ap graph_of e)))
-  the-regions (whole found) e = (found, e, let t = answer ∙ ap graph_of e in sym (ap count_of t))
-    where
-      count_of : Graph → ℕ
-      count_of (G.Refused k p) = 0
-      count_of (G.Regions k) = k
+    (answer : Ok n ≡ graph_of (outcome_of table cap)) (left : es' ≡ entries_after es (outcome_of table cap)) where
+  the-regions : (o : Outcome) → outcome_of table cap ≡ o → (found : List Region) × (outcome_of table cap ≡ whole found) × (length found ≡ n)
+  the-regions (refused reason place) e = let none : Ok n ≡ Err (refusal_at reason place) = answer ∙ ap graph_of e in cc
+  the-regions (cut found) e = let none : Ok n ≡ Err (refusal_at TooManyRegions 0) = answer ∙ ap graph_of e in cc
+  the-regions (whole found) e = (found, e, let t : Ok n ≡ Ok (length found) = answer ∙ ap graph_of e in cc)
 
   -- There are no more regions than entries.
   pub place-few : n ≤ max_entries
   place-few =
-      let f = the-regions (from_answer cap (accepted m)) refl in
-      let g = whole-graph table cap f.0 ((outcome-read table m cap read) ∙ f.1) in
+      let f = the-regions (outcome_of table cap) refl in
+      let g = whole-graph table cap f.0 f.1 in
       omega (arith, g.2, f.2, room)
 
-  pub place-regions : (s : State) (r : Placing)
-      → r ≡ cond (is_not_taken m s) (P.Refused 20 0) (numbered n (number_in (listed es' n) (placed (bounds_of m) s)))
-      → r ≡ placed_among m s (from_answer cap (accepted m))
+  pub place-regions : (s : State) (r : Result ℕ Refusal)
+      → r ≡ cond (is_not_taken m s) (Err (refusal_at BadState 0)) (numbered n (number_in (listed es' n) (placed (bounds_of m) s)))
+      → r ≡ place_of table cap s
+  unfolding place_of
   place-regions s r e =
-      let f = the-regions (from_answer cap (accepted m)) refl in
+      let f = the-regions (outcome_of table cap) refl in
       let found = f.0 in
-      let is : outcome_of table cap ≡ whole found = (outcome-read table m cap read) ∙ f.1 in
-      let bytes : es' ≡ entries_after es (outcome_of table cap) = left ∙ ap (entries_after es) (sym (outcome-read table m cap read)) in
       let list : listed es' n ≡ found =
-      ap₂ (λ (x : List ℕ) (k : ℕ). listed x k) bytes (sym f.2) ∙ listed-whole table es cap found is in
+      ap₂ (λ (x : List ℕ) (k : ℕ). listed x k) left (sym f.2) ∙ listed-whole table es cap found f.1 in
       e
-      ∙ ap₂ (λ (k : List Region) (x : ℕ). cond (is_not_taken m s) (P.Refused 20 0) (numbered x (number_in k (placed (bounds_of m) s)))) list
-      (sym f.2)
-      ∙ ap (λ q. cond (is_not_taken m s) (P.Refused 20 0) (numbered (length found) (number_in found q))) (sym (placed-own m s))
-      ∙ sym (ap (placed_among m s) f.1)
+      ∙ ap₂ (λ (k : List Region) (x : ℕ). cond (is_not_taken m s) (Err (refusal_at BadState 0)) (numbered x (number_in k (placed (bounds_of m) s))))
+      list (sym f.2)
+      ∙ ap (λ q. cond (is_not_taken m s) (Err (refusal_at BadState 0)) (numbered (length found) (number_in found q))) (sym (placed-own m s))
+      ∙ sym (ap (placed_among m s) (sym (outcome-read table m cap read) ∙ f.1))
+      ∙ sym (ap (placed_from cap s) read)

@@ -2,7 +2,7 @@
 -- a state are those of its region (`..-placed`). A state delays as its region does (`delays-placed`): by some least steps over
 -- a larger denominator, each of which leads nowhere or to the region that follows.
 use Rattle.std.specs.Prelude.{ℕ, zero, suc, ◌+◌, ◌*◌, ◌/◌, ◌%◌, ◌≤◌, ◌<◌, ◌⊎◌, ◌↔◌, ◌≡◌, Bool}
-use Rattle.std.specs.Prelude.{true, false, ◌&&◌, ◌||◌, eqb, length, replicate}
+use Rattle.std.specs.Prelude.{true, false, ◌&&◌, ◌||◌, eqb, length, replicate, Some, None}
 use native.Mathlib.Omega.{arith}
 use Rattle.std.proofs.Math.Nat.{zero-div, zero-mod, one-le-mul, eq_of_mul-eq-mul_right}
 use Rattle.std.proofs.Common.{mul_comm, mul-le-mul_right, mul-lt-mul_of_pos_right, le_of_mul-le-mul_right, lt_of_mul-lt-mul_right, sym}
@@ -25,13 +25,13 @@ use Rattle.clocks.specs.Cells.{Cell, over, at, fraction_of, closed, close, resta
 use Rattle.clocks.specs.Cells.{is_over, standing, all, some, nothing, cells, delay}
 use Rattle.clocks.specs.Packed.{cell_of, clock_of, clock_at, unpack, byte_at, pack, moved_to, delayed, after_reset}
 use Rattle.regions.specs.Graph.{every, largest_constant, bounds_of, is_holds, holds, meets, fits, landing, lands, available}
-use Rattle.regions.specs.Graph.{delay_next, first, DelaysTo, stays, goes}
+use Rattle.regions.specs.Graph.{first, DelaysTo, stays, goes}
 use Rattle.regions.specs.Graph.{by-delay, by-edge, Reached, led}
 use Rattle.states.specs.Covering.{Covers, Waits, still, onward}
 use Rattle.states.specs.Placing.{value_cell, state_cell, state_cells, placed}
 use Rattle.regions.specs.Laws.Bounds.{all-at, invariant-bound, guard-bound, sound-guard, sound-invariant}
 use Rattle.regions.specs.Laws.Bounds.{constants-small}
-use Rattle.regions.specs.Laws.Call.{false-true, kept, gathers}
+use Rattle.regions.specs.Laws.Call.{false-true, follows, gathers}
 use Rattle.regions.specs.Explore.{both_true}
 use Rattle.regions.specs.View.{label_of}
 use Rattle.regions.specs.Laws.Graph.{delay-some, edge-some}
@@ -45,7 +45,6 @@ use Rattle.states.specs.Laws.Fractions.{value-below, ticked, value-ticked, tick-
 use Rattle.states.specs.Laws.Fractions.{delay-all-over, atom-closed, atom-value}
 use Rattle.clocks.specs.declared.region.Bounds.{Bounds}
 use Rattle.clocks.specs.declared.region.Region.{Region}
-use Rattle.clocks.specs.declared.region.Moved.{Moved}
 use Rattle.states.specs.States.{State, IsState, Same, compares, is_true, inside, later, Delays}
 use Rattle.states.specs.States.{cleared, target, enabled}
 
@@ -454,18 +453,18 @@ module _ (bounds : Bounds) (s : State) where
       -- Where the cells of another state follow those of a state, its region follows.
       follow-placed : (t : State) → t.location ≡ s.location
           → delay (close (state_cells bounds s)) ≡ cells (close (state_cells bounds t))
-          → delayed bounds (placed bounds s) ≡ record { any = true; region = placed bounds t }
+          → delayed bounds (placed bounds s) ≡ Some (placed bounds t)
       unfolding delayed placed
       follow-placed t e f =
           ap (λ c. moved_to bounds (placed bounds s) (delay c)) placed-cells
           ∙ ap (moved_to bounds (placed bounds s)) f
-          ∙ ap (λ l. record { any = true; region = pack bounds l (close (state_cells bounds t)) }) (sym e)
+          ∙ ap (λ l. Some (pack bounds l (close (state_cells bounds t)))) (sym e)
 
-      follow-none : delay (close (state_cells bounds s)) ≡ nothing → (delayed bounds (placed bounds s)).any ≡ false
+      follow-none : delay (close (state_cells bounds s)) ≡ nothing → delayed bounds (placed bounds s) ≡ None
       unfolding delayed
       follow-none f =
-          ap (λ c. (moved_to bounds (placed bounds s) (delay c)).any) placed-cells
-          ∙ ap (λ c. (moved_to bounds (placed bounds s) c).any) f
+          ap (λ c. moved_to bounds (placed bounds s) (delay c)) placed-cells
+          ∙ ap (moved_to bounds (placed bounds s)) f
 
 -- ---- The region over a larger denominator
 
@@ -747,7 +746,7 @@ positive-fraction (at m w f) s o = omega (arith, eqb-false f 0 s)
 module _ (bounds : Bounds) (m : Model) (covers : Covers bounds m) where
   -- The region that follows the region of s is that of t.
   abbrev Follows : State → State → Type 0
-  Follows s t = delayed bounds (placed bounds s) ≡ record { any = true; region = placed bounds t }
+  Follows s t = delayed bounds (placed bounds s) ≡ Some (placed bounds t)
 
   module _ (s : State) (is : IsState m s) (two : 2 ≤ s.denominator) where
     stepped-cell : (i : ℕ) → state_cell bounds (stepped s) i ≡ ticked s.denominator (state_cell bounds s i)
@@ -910,14 +909,14 @@ module _ (bounds : Bounds) (m : Model) (covers : Covers bounds m) where
             )
       ]
 
-  next-state : (s : State) → IsState m s → (delayed bounds (placed bounds s)).any ≡ true → Next s
-  next-state s is a =
+  next-state : (s : State) → IsState m s → (p : Region) → delayed bounds (placed bounds s) ≡ Some p → Next s
+  next-state s is p a =
       elim (both (some standing (state_cells bounds s))) [
         | inl e ↦ next-leaves s is e
         | inr e ↦ elim (both (all is_over (state_cells bounds s))) [
           | inl o ↦
               let none-follows = follow-none bounds s is.denominator covers.small (delay-all-over (state_cells bounds s) o) in
-              false-true (sym none-follows ∙ a)
+              absurd (let z : ◌≡◌ {A = ℕ} 0 1 = cc (none-follows, a) in omega arith)
           | inr o ↦
               let x = not-over (state_cells bounds s) o in
               next-arrives s.denominator s is e x.0 x.1 x.2 (omega arith)
@@ -925,11 +924,11 @@ module _ (bounds : Bounds) (m : Model) (covers : Covers bounds m) where
       ]
 
   -- The state that a region delay leads to.
-  pub delayed-state : (s : State) → IsState m s → (delayed bounds (placed bounds s)).any ≡ true
-      → (t : State) × IsState m t × Later s t × (placed bounds t ≡ (delayed bounds (placed bounds s)).region)
-  delayed-state s is a =
-      let r = next-state s is a in
-      (r.0, r.1, r.2, sym (ap (λ (x : Moved). x.region) r.3))
+  pub delayed-state : (s : State) → IsState m s → (p : Region) → delayed bounds (placed bounds s) ≡ Some p
+      → (t : State) × IsState m t × Later s t × (placed bounds t ≡ p)
+  delayed-state s is p a =
+      let r = next-state s is p a in
+      (r.0, r.1, r.2, cc (r.3, a))
 
   module _ (sound : Sound m) where
     -- Where the region waits, each state in it delays.
@@ -939,9 +938,9 @@ module _ (bounds : Bounds) (m : Model) (covers : Covers bounds m) where
         let here : inside m s ≡ true =
         inside-placed bounds m covers sound s is.denominator ∙ ap (meets bounds m.invariants) e ∙ h in
         (s, is, later-delays (later_same is.denominator (same_refl s)) here, e)
-    waits-states r q (onward a h w) s is e =
-        let n = delayed-state s is (ap (λ x. (delayed bounds x).any) e ∙ a) in
-        let l = waits-states (delayed bounds r).region q w n.0 n.1 (n.3 ∙ ap (λ x. (delayed bounds x).region) e) in
+    waits-states r q (onward {p = p} a h w) s is e =
+        let n = delayed-state s is p (ap (delayed bounds) e ∙ a) in
+        let l = waits-states p q w n.0 n.1 n.3 in
         let whole = later_trans is.denominator n.1.denominator n.2 (delays-later l.2) in
         (l.0, l.1, later-delays whole l.2.meets, l.3)
 
@@ -952,11 +951,7 @@ module _ (bounds : Bounds) (m : Model) (covers : Covers bounds m) where
         → inside m (stepped s) ≡ true → (q : Region) → Waits bounds m (placed bounds (stepped s)) q
         → Waits bounds m (placed bounds s) q
     before-step s pos (inl e) h q w = subst (λ r. Waits bounds m r q) e w
-    before-step s pos (inr e) h q w =
-        let next : (delayed bounds (placed bounds s)).region ≡ placed bounds (stepped s) = ap (λ (x : Moved). x.region) e in
-        onward (ap (λ (x : Moved). x.any) e)
-        (ap (meets bounds m.invariants) next ∙ sym (inside-placed bounds m covers sound (stepped s) pos) ∙ h)
-        (subst (λ r. Waits bounds m r q) (sym next) w)
+    before-step s pos (inr e) h q w = onward e (sym (inside-placed bounds m covers sound (stepped s) pos) ∙ h) w
 
     -- Before a least step: two halves of it.
     before : (s : State) → IsState m s → inside m (stepped s) ≡ true → (q : Region)
@@ -1063,27 +1058,16 @@ get_d-zeros (suc n) (suc i) = get_d-zeros n i
 
 module _ (m : Model) where
   -- Some delay of a region, with the bounds of the model.
-  delay-next : (r p : Region) → Memᴰ p (delay_next m r)
-      → ((delayed (bounds_of m) r).any ≡ true) × (meets (bounds_of m) m.invariants (delayed (bounds_of m) r).region ≡ true)
-      × (p ≡ (delayed (bounds_of m) r).region)
-  unfolding delay_next
-  delay-next r p n =
-      let next = (delayed (bounds_of m) r).region in
-      let k = kept m ((delayed (bounds_of m) r).any && meets (bounds_of m) m.invariants next) (next ∷ []) p n in
-      let h = both_true (delayed (bounds_of m) r).any (meets (bounds_of m) m.invariants next) k.0 in
-      (h.0, h.1, Memᴰ.eq_of_singleton k.1)
-
   waits-to : (r q : Region) → Waits (bounds_of m) m r q → DelaysTo m r q
   waits-to r q (still h) = stays h
-  waits-to r q (onward a h w) =
-      goes (subst (λ l. Memᴰ (delayed (bounds_of m) r).region l) (sym (delay-some m r a h)) (Memᴰ.head refl))
-      (waits-to (delayed (bounds_of m) r).region q w)
+  waits-to r q (onward {p = p} a h w) =
+      goes (subst (λ l. Memᴰ p l) (sym (delay-some m r p a h)) (Memᴰ.head refl)) (waits-to p q w)
 
   to-waits : (r q : Region) → DelaysTo m r q → Waits (bounds_of m) m r q
   to-waits r q (stays h) = still h
   to-waits r q (goes {p} n d) =
-      let k = delay-next r p n in
-      onward k.0 k.1 (subst (λ x. Waits (bounds_of m) m x q) k.2 (to-waits p q d))
+      let k = follows m r p n in
+      onward k.0 k.1 (to-waits p q d)
 
   pub waits-iff : (r q : Region) → Waits (bounds_of m) m r q ↔ DelaysTo m r q
   waits-iff r q = (waits-to r q, to-waits r q)

@@ -1,59 +1,33 @@
--- `number_of` meets its contract. Assumes nothing.
-use native.Mathlib.Omega.{arith}
-use mathlib.Core.Path.{sym, ◌∙◌}
+-- The entry is the region, or it is not.
+use Rattle.std.proofs.Common.{rules, arith, sym, ◌∙◌, ◌≡◌, ◌<◌, length}
 use Rattle.regions.specs.Explore.{listed, listed-length, listed_at}
 use Rattle.regions.specs.Laws.Sight.{entry-inside}
-use Rattle.regions.specs.Laws.View.{number-start, number-here, number-on, number-over}
+use Rattle.regions.specs.Laws.View.{number-here, number-on}
+use Rattle.states.specs.Laws.StateCall.{is-found}
 use Rattle.states.proofs.states.number_of.Goals as goal
 
-pub loop-j-init : goal.loop-j-init
-loop-j-init c =
+pub returns-then-eq : goal.returns-then-eq
+returns-then-eq c =
+    λ few.
     let args = c.args in
-    (omega arith, λ h. number-start (listed args.entries.now args.n) args.q)
-
-pub returns-then-same_region : goal.returns-then-same_region
-returns-then-same_region c =
-    let args = c.args in
-    let loop = c.loop-j in
-    let fewer = c.fewer-most in
-    let loop-test = c.loop-j-test in
-    let same-region = c.same_region in
-    let entry_at = c.entry_at in
-    λ h. sym (number-here (listed args.entries.now args.n) args.q loop.j args.q (loop.invariant.1 h) (omega
-    (arith, listed-length args.entries.now args.n, fewer.ensures.1 h, loop-test.true)) (same-region.ensures.holds
-    c.if-same_region.true ∙ entry_at.ensures ∙ entry-inside args.entries.now loop.j (omega
-    (arith, fewer.ensures.0, loop-test.true)) ∙ sym (listed_at args.entries.now args.n loop.j args.q (omega
-    (arith, fewer.ensures.1 h, loop-test.true)))))
+    let list = listed args.entries.now args.n in
+    let j = c.loop-j.j in
+    let inside : j < length list = omega (arith, listed-length args.entries.now args.n) in
+    let here : c.entry_at.result ≡ args.region = search rules in
+    let entry =
+    sym here ∙ c.entry_at.ensures ∙ entry-inside args.entries.now j (omega arith)
+    ∙ sym (listed_at args.entries.now args.n j args.region (omega arith)) in
+    is-found args.n j _ (number-here list args.region j args.region (c.loop-j.invariant few) inside entry) c.loop-j-test.true
 
 pub loop-j-preserved : goal.loop-j-preserved
 loop-j-preserved c =
-    let loop-test = c.loop-j-test in
+    λ few.
     let args = c.args in
-    let loop = c.loop-j in
-    let fewer = c.fewer-most in
-    let same-region = c.same_region in
-    let entry_at = c.entry_at in (
-      omega (arith, loop-test.true),
-      λ h. number-on (listed args.entries.now args.n) args.q loop.j args.q
-          (loop.invariant.1 h) (omega (arith, listed-length args.entries.now args.n, fewer.ensures.1 h, loop-test.true)) (λ
-          e. same-region.ensures.fails c.if-same_region.false (e ∙ listed_at args.entries.now args.n loop.j args.q (omega
-          (arith, fewer.ensures.1 h, loop-test.true)) ∙ sym (entry_at.ensures ∙ entry-inside args.entries.now loop.j (omega
-          (arith, fewer.ensures.0, loop-test.true))))),
-    )
-
-pub returns : goal.returns
-returns c =
-    let args = c.args in
-    let loop = c.loop-j in
-    let fewer = c.fewer-most in
-    λ h. sym (number-over (listed args.entries.now args.n) args.q loop.j (loop.invariant.1 h) (omega (
-      arith,
-      listed-length args.entries.now args.n,
-      fewer.ensures.1 h,
-      c.loop-j-test.false,
-    )) ∙ omega (
-      arith,
-      fewer.ensures.1 h,
-      loop.invariant.0,
-      c.loop-j-test.false,
-    ))
+    let list = listed args.entries.now args.n in
+    let j = c.loop-j.j in
+    let inside : j < length list = omega (arith, listed-length args.entries.now args.n) in
+    let other : c.entry_at.result ≡ args.region → ⊥ = search rules in
+    let entry =
+    c.entry_at.ensures ∙ entry-inside args.entries.now j (omega arith)
+    ∙ sym (listed_at args.entries.now args.n j args.region (omega arith)) in
+    number-on list args.region j args.region (c.loop-j.invariant few) inside (λ e. other (entry ∙ sym e))

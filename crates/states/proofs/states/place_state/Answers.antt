@@ -1,27 +1,48 @@
--- `place_state` meets its contract. Assumes nothing.
-use mathlib.Core.Path.{sym, ◌∙◌, ap}
-use lib.ListN.{length}
+-- Reading is refused, or exploring, or the state is looked for among the regions.
+use Rattle.std.proofs.Common.{rules, arith, ◌≡◌, ◌≤◌, sym, ◌∙◌, ap, Err, length}
 use Rattle.table.proofs.Laws.Reads.{refusal-of, reads_of}
+use Rattle.regions.specs.Entries.{max_entries}
 use Rattle.regions.specs.Call.{room_for, from_answer, outcome_of, entries_after}
 use Rattle.states.specs.StateCall.{asked, placed_from, place_of}
+use Rattle.states.specs.Laws.StateCall.{place-refused, place-few, place-regions}
 use Rattle.states.proofs.states.place_state.Goals as goal
 
-pub returns-in-Refused : goal.returns-in-Refused
+pub returns-in_err-shape : goal.returns-in_err-shape
 unfolding outcome_of place_of
-returns-in-Refused c = let out = refusal-of c.args.bytes.now _ _ (sym c.in-Refused.is ∙ c.read-reading.ensures) in
+returns-in_err-shape c =
+    let args = c.args in
+    let cap = room_for (length args.entries.now) in
+    let same : c.from_residual.result ≡ Err c.in_err-shape.field-0.0 = search rules in
+    let out = refusal-of args.bytes.now _ (sym c.in_err-shape.was ∙ c.read.ensures) in
     record {
-      value = sym (ap (placed_from (room_for (length c.args.entries.now))
-          (asked c.args.location c.args.v0 c.args.v1 c.args.v2 c.args.v3 c.args.denominator)) out);
-      entries_after = sym (ap (entries_after c.args.entries.now) (ap (from_answer (room_for (length c.args.entries.now))) out));
+      value = same ∙ sym (ap (placed_from cap (asked args.location args.v0 args.v1 args.v2 args.v3 args.denominator)) out);
+      entries_after = sym (ap (entries_after args.entries.now) (ap (from_answer cap) out));
     }
 
-pub returns-in-Accepted : goal.returns-in-Accepted
-unfolding outcome_of place_of
-returns-in-Accepted c = let (m, reads) = reads_of c.args.bytes.now _ (sym c.in-Accepted.is ∙ c.read-reading.ensures) in let done =
-    c.place_read.ensures m reads in
+pub returns-in_err-n : goal.returns-in_err-n
+returns-in_err-n c =
+    let args = c.args in
+    let explore = c.explore_table in
+    let cap = room_for (length args.entries.now) in
+    let same : c.from_residual-in_err-n.result ≡ Err c.in_err-n.field-0.0 = search rules in
+    let (m, reads) = reads_of args.bytes.now _ (sym c.in_ok-shape.was ∙ c.read.ensures) in
     record {
-      value = done.0 ∙ sym (ap (placed_from (room_for (length c.args.entries.now))
-          (asked c.args.location c.args.v0 c.args.v1 c.args.v2 c.args.v3 c.args.denominator)) reads.answer);
-      entries_after = done.1 ∙ sym (ap (entries_after c.args.entries.now)
-          (ap (from_answer (room_for (length c.args.entries.now))) reads.answer));
+      value = same ∙ place-refused args.bytes.now m (asked args.location args.v0 args.v1 args.v2 args.v3 args.denominator) cap reads.answer _ (sym c.in_err-n.was ∙ explore.ensures.value);
+      entries_after = explore.ensures.entries_after;
+    }
+
+pub returns : goal.returns
+returns c =
+    let args = c.args in
+    let explore = c.explore_table in
+    let cap = room_for (length args.entries.now) in
+    let room : cap ≤ max_entries = omega arith in
+    let (m, reads) = reads_of args.bytes.now _ (sym c.in_ok-shape.was ∙ c.read.ensures) in
+    let answer = sym c.in_ok-n.was ∙ explore.ensures.value in
+    let few = place-few args.bytes.now args.entries.now explore.new.entries m cap reads.answer room _ answer explore.ensures.entries_after in
+    record {
+      value =
+          place-regions args.bytes.now args.entries.now explore.new.entries m cap reads.answer room _ answer explore.ensures.entries_after
+          (asked args.location args.v0 args.v1 args.v2 args.v3 args.denominator) c.place_among.result (c.place_among.ensures m reads few);
+      entries_after = explore.ensures.entries_after;
     }
