@@ -9,6 +9,7 @@ use Rattle.std.proofs.Math.ListN.{get_or-append}
 use Rattle.table.specs.Reasons.{refusal_at}
 use Rattle.regions.specs.Passed.{Model, Answer, refusal, accepted, read_table, Region}
 use Rattle.regions.specs.Call.{Outcome, refused, cut, whole, from_answer, room_for, outcome_of, graph_of}
+use Rattle.regions.specs.Shown.{Shown}
 use Rattle.regions.specs.View.{edges_read}
 use Rattle.regions.specs.Laws.Call.{whole-graph}
 use Rattle.regions.specs.Laws.Numbers.{answers-n}
@@ -24,6 +25,7 @@ use Rattle.partition.specs.Calls.{reduce_of, list_of, list_after, shared_of, pai
 use Rattle.table.specs.declared.refusals.Reason.{Reason}
 use Rattle.table.specs.declared.refusals.Reason.TheVariants.{TooManyRegions, ShortList, WrongLength, NoBisimulation, UnknownRegion}
 use Rattle.table.specs.declared.refusals.Refusal.{Refusal}
+use Rattle.comparison.specs.Held.{Held}
 use Rattle.comparison.specs.declared.held.Graph.{Graph}
 use Rattle.partition.specs.declared.calls.Reduction.{Reduction}
 use Rattle.partition.specs.declared.room.Room.{Room}
@@ -207,15 +209,23 @@ module _ (first second : List ℕ) (m : Model) (found : List Region) where
 
 -- ---- For the code
 
--- Arrays that show the graph of an accepted table, lent as slices, hold its structure.
+-- Slices that show the graph of an accepted table hold its structure.
 pub held-for : (table : List ℕ) (cap : ℕ) (a : Accepted table cap) → cap ≤ 4096 → (n k : ℕ) → n ≡ length a.found
+    → k ≡ edges_read (read_table table) → (labels nexts flags resets spots rows : List ℕ)
+    → Shown a.model a.found labels nexts flags resets spots rows
+    → Held (graph a.model a.found) n k labels nexts flags resets spots rows
+held-for table cap a room n k en ek labels nexts flags resets spots rows shown =
+    let held = whole-held table cap a.model a.found labels nexts flags resets spots rows room a.read a.out shown in
+    let edges : k ≡ length a.model.edges = ek ∙ ap edges_read a.read in
+    rw (en, edges) held
+
+-- So do those that a room lends.
+pub held-lent : (table : List ℕ) (cap : ℕ) (a : Accepted table cap) → cap ≤ 4096 → (n k : ℕ) → n ≡ length a.found
     → k ≡ edges_read (read_table table) → (r : Room) → ShownIn a.model a.found r → (g : Graph) → Lends r n k g
     → HeldIn (graph a.model a.found) g
-held-for table cap a room n k en ek r shown g lends =
-    let held = whole-held table cap a.model a.found r.labels r.nexts r.flags r.resets r.spots r.rows room a.read a.out shown in
-    let items : g.n ≡ length a.found = lends.items ∙ en in
-    let edges : g.k ≡ length a.model.edges = lends.edges ∙ ek ∙ ap edges_read a.read in
-    rw (items, edges, lends.labels, lends.nexts, lends.flags, lends.resets, lends.spots, lends.rows) held
+held-lent table cap a room n k en ek r shown g lends =
+    let held = held-for table cap a room n k en ek r.labels r.nexts r.flags r.resets r.spots r.rows shown in
+    rw (lends.items, lends.edges, lends.labels, lends.nexts, lends.flags, lends.resets, lends.spots, lends.rows) held
 
 -- What a call on the graph in slices is proved for: where the graph call answered N, the slices hold the graph of an accepted table.
 pub shown-for : (table entries : List ℕ) (n : ℕ) → Ok n ≡ graph_of (outcome_of table (room_for (length entries))) → (r : Room)
@@ -228,6 +238,6 @@ shown-for table entries n e r shown g lends =
     let (a, en, few) = of-regions table cap n e in
     let most : room_for (length entries) ≤ 4096 = omega arith in (
       a,
-      held-for table cap a most n (edges_read (read_table table)) en refl r (shown a.model a.found a.read a.out) g lends,
+      held-lent table cap a most n (edges_read (read_table table)) en refl r (shown a.model a.found a.read a.out) g lends,
       call-closed table cap a.found a.out a.model a.read,
     )
