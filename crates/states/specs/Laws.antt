@@ -5,7 +5,7 @@
 --   RegionTheorem  a region leads by delays and edges exactly where each state in it does
 --   Spots      for the code that places a state
 --   StateCall  for the code of the state call
---   Steps      what follows of four fractions, of one value and of an answer
+--   Steps      what follows of one clock, of four fractions, of one value and of an answer
 --   Placed     what the answer of the state call says about the state's region
 pub mod Fractions
 pub mod States
