@@ -11,6 +11,7 @@
 --   Masks      the bits of a reset mask
 --   Turns      for the loop that reads a table
 --   Walks      for the loop that walks over records of one kind
+--   Steps      what follows for a number that is no kind, for the record that a walk comes to, and for loops that have not begun
 pub mod Lengths
 pub mod Runs
 pub mod Models
@@ -23,3 +24,4 @@ pub mod Reads
 pub mod Masks
 pub mod Turns
 pub mod Walks
+pub mod Steps

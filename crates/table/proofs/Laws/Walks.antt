@@ -76,7 +76,7 @@ walking_on table first kind most at n w less here =
     }
 
 -- A part of the record that is read is that part of what is read of it.
-item-part : {A : Type 0} (f : Body → A) (table : List ℕ) (first kind i : ℕ)
+pub item-part : {A : Type 0} (f : Body → A) (table : List ℕ) (first kind i : ℕ)
     → f (item_from kind no_body body_at table first i) ≡ item_from kind (f no_body) (λ t at. f (body_at t at)) table first i
 item-part f table first kind i = part (eqb (kind_at table (walk_to kind i table first)) kind)
   where
