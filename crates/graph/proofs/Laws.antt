@@ -13,6 +13,7 @@
 --   Kept       a column that is kept is read as before
 --   Sources    the resets backwards
 --   Resets     the resets both ways
+--   Steps      the default of a list, and words that are cleared
 pub mod Columns
 pub mod Latest
 pub mod Index
@@ -27,3 +28,4 @@ pub mod Kept
 pub mod Chains
 pub mod Keys
 pub mod Resets
+pub mod Steps
