@@ -16,12 +16,13 @@ use Rattle.comparison.specs.Held.{most_items}
 use Rattle.comparison.specs.Laws.Steps.{below_one}
 use Rattle.comparison.specs.declared.held.Graph.{Graph}
 use Rattle.rounds.specs.Changes.{Stirred}
-use Rattle.rounds.specs.Names.{Changed}
+use Rattle.rounds.specs.Names.{Changed, TaggedIn}
 use Rattle.rounds.specs.Rounds.{Numbered, Led, FirstWith, Seen, label_room, Step, LedByKin, Chains, Last}
 use Rattle.rounds.specs.Firsts.{bucket_at, Indexed}
 use Rattle.rounds.specs.Laws.Rounds as R
 use Rattle.rounds.specs.Laws.Rounds.{Counts}
 use Rattle.rounds.specs.Laws.Firsts.{indexed-on}
+use Rattle.rounds.specs.Laws.Names as N
 use Rattle.rounds.specs.declared.judging.FirstIndex.{FirstIndex}
 
 -- ---- Lists filled from the front
@@ -43,6 +44,15 @@ count-on d i l count e h = R.count-on d i l count (count_after i l count) e h (c
 pub led_on : (d : ℕ → ℕ → Bool) (list : List ℕ) (i l count : ℕ) → i < length list → Led d list i count → l ≡ lead d i
     → Led d (set list i l) (i + 1) (count_after i l count)
 led_on d list i l count h led e = R.led_on d list i l count (count_after i l count) h led e (counts-after i l count)
+
+-- One more element of a list is as it should be.
+pub filled_on : {A : Type 0} (none : A) (P : ℕ → A → Type 0) (list : List A) (i : ℕ) (v : A) → i < length list
+    → ((x : ℕ) → x < i → P x (get_or list x none)) → P i v → (x : ℕ) → x < i + 1 → P x (get_or (set list i v) x none)
+filled_on none P list i v h all here x b = go (below_one b)
+  where
+    go : (x ≡ i) ⊎ (x < i) → P x (get_or (set list i v) x none)
+    go (inl same) = rw (same, get_or-set_same list i v none h) here
+    go (inr below) = rw (get_or-set_other list i x v none (λ s. absurd (omega (arith, s)))) (all x below)
 
 -- A list that was copied from the front.
 abbrev pub CopiedTo : ℕ → (from to : List ℕ) → Type 0
@@ -215,6 +225,11 @@ swapped-is tags x y hx hy = swap_is tags x y 0 hx hy
 
 pub swapped-length : (tags : List ℕ) (x y : ℕ) → length (swapped tags x y) ≡ length tags
 swapped-length tags x y = length-set (set tags x (get_or tags y 0)) y (get_or tags x 0) ∙ length-set tags x (get_or tags y 0)
+
+pub tagged-swap : (n : ℕ) (these : ℕ → Type 0) (tags : List ℕ) (x y : ℕ) → x < n → y < n → these x → these y → n ≤ length tags
+    → TaggedIn n these tags → TaggedIn n these (swapped tags x y)
+tagged-swap n these tags x y hx hy sx sy long tagged =
+    subst (TaggedIn n these) (sym (swapped-is tags x y (omega arith) (omega arith))) (N.tagged-swap n these tags x y hx hy sx sy long tagged)
 
 -- After a round: some flags mark what changed its name, and what these reach is stirred.
 abbrev pub Followed : Graph → (names names' : List ℕ) → (stirred : List Bool) → Type 0

@@ -12,11 +12,12 @@ use Rattle.table.specs.declared.refusals.Refusal.{Refusal}
 use Rattle.clocks.specs.Cells.{Cell, over, at, fraction_of, member, rank}
 use Rattle.clocks.specs.Packed.{over_part, clock_of}
 use Rattle.clocks.specs.declared.region.Bounds.{Bounds}
-use Rattle.regions.specs.Call.{from_answer, outcome_of, graph_of, entries_after}
+use Rattle.regions.specs.Call as C
+use Rattle.regions.specs.Call.{Outcome, from_answer, outcome_of, graph_of, entries_after}
 use Rattle.states.specs.States.{State}
 use Rattle.states.specs.Placing.{value_cell, state_cell, state_cells, placed}
 use Rattle.states.specs.Spots.{spot_of, spot_wholes, spot_ranks, is_fresh, fresh_count}
-use Rattle.states.specs.StateCall.{asked, numbered}
+use Rattle.states.specs.StateCall.{asked, numbered, placed_among}
 use Rattle.states.specs.Laws.Spots as S
 use Rattle.states.specs.Laws.Spots.{rank-more, rank-none}
 use Rattle.states.specs.declared.states.Spot.{Spot}
@@ -157,6 +158,12 @@ twenty-one b n k k' e same h = rw (e, le-ltb k' n (omega (arith, same, h))) refl
 
 pub has-number : (b : Bool) (n k k' : ℕ) → b ≡ false → k ≡ k' → k < n → Ok k ≡ cond b (Err (refusal_at BadState 0)) (numbered n k')
 has-number b n k k' e same h = rw (e, lt-ltb k' n (omega (arith, same, h))) (ap Ok same)
+
+-- What exploring is refused with, the call is.
+pub place-refused : (m : Model) (s : State) (o : Outcome) (r : Refusal) → Err r ≡ graph_of o → Err r ≡ placed_among m s o
+place-refused m s (C.refused reason place) r e = e
+place-refused m s (C.cut found) r e = e
+place-refused m s (C.whole found) r e = cc
 
 -- What exploring a table comes to, by the model that it is read as.
 pub explored : (table es es' : List ℕ) (g : Result ℕ Refusal) (m : Model) (cap : ℕ) → read_table table ≡ accepted m
