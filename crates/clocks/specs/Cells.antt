@@ -119,27 +119,28 @@ pub leave-ranked : (any : Bool) (m w f : ℕ) → (f ≡ 0 → ⊥) → leave an
 leave-ranked any m w zero e = absurd (e refl)
 leave-ranked any m w (suc f) e = refl
 
--- One more number is looked at in finding a rank, by a test of each fraction.
-
-tested : (k : ℕ) (fs : List ℕ) → list_any (λ x. eqb x k) fs ≡ member k fs
-tested k [] = refl
-tested k (x ∷ fs) = ap₂ (λ a b. a || b) (turned (eqb x k) refl) (tested k fs)
+-- A number is among others, by a test of each.
+pub member-any : (k : ℕ) (fs : List ℕ) → list_any (λ x. eqb x k) fs ≡ member k fs
+member-any k [] = refl
+member-any k (x ∷ fs) = ap₂ (λ a b. a || b) (turned (eqb x k) refl) (member-any k fs)
   where
     turned : (b : Bool) → eqb x k ≡ b → b ≡ eqb k x
     turned true e = sym (eq-eqb k x (sym (eqb-true x k e)))
     turned false e = sym (ne_eqb k x (λ q. eqb-false x k e (sym q)))
 
+-- One more number is looked at in finding a rank.
+
 pub rank_found : (fs : List ℕ) (k : ℕ) → 0 < k → list_any (λ x. eqb x k) fs ≡ true → rank fs k ≡ rank fs (k - 1) + 1
 rank_found fs zero h e = absurd (omega arith)
 rank_found fs (suc k) h e =
     let back : suc k - 1 ≡ k = omega arith in
-    rw (sym (tested (suc k) fs) ∙ e, back, add-one)
+    rw (sym (member-any (suc k) fs) ∙ e, back, add-one)
 
 pub rank_absent : (fs : List ℕ) (k : ℕ) → 0 < k → list_any (λ x. eqb x k) fs ≡ false → rank fs k ≡ rank fs (k - 1)
 rank_absent fs zero h e = absurd (omega arith)
 rank_absent fs (suc k) h e =
     let back : suc k - 1 ≡ k = omega arith in
-    rw (sym (tested (suc k) fs) ∙ e, back)
+    rw (sym (member-any (suc k) fs) ∙ e, back)
 
 -- The three cases of delay.
 

@@ -4,7 +4,7 @@ ghost use Rattle.clocks.specs.Cells.{fraction_of, rank, closed, restart, is_over
 ghost use Rattle.clocks.specs.Atoms.{below, at_most};
 ghost use Rattle.clocks.specs.Packed.{cell_of, clock_of};
 
-// The integer part that stands for over.
+// Stands for over in place of an integer part.
 pub const OVER: u8 = 16;
 
 #[derive(Clone, Copy, Debug, PartialEq, Eq)]
@@ -14,7 +14,7 @@ pub struct Clock {
     pub rank: u8,
 }
 
-// The rank of a fraction among four: how many of 1 to that fraction are among them.
+// Counts how many of 1 to a fraction are among four: its rank.
 fn rank_of(fraction: u8, fractions: [u8; 4]) -> u8
     ensures { (result ≡ rank fractions fraction) × (result ≤ fraction) }
 {
@@ -34,28 +34,28 @@ impl Clock {
         self.whole == OVER
     }
 
-    // It is not over and has rank 0.
+    // Tells whether the clock is not over and has rank 0.
     pub(crate) fn is_standing(self) -> bool
         ensures { result ≡ standing (cell_of self) }
     {
         !self.is_over() && self.rank == 0
     }
 
-    // It is not over, has rank 0, and is below its bound.
+    // Tells whether the clock is not over, has rank 0, and is below its bound.
     pub(crate) fn is_leaving(self) -> bool
         ensures { result ≡ leaving (cell_of self) }
     {
         self.is_standing() && self.whole < self.bound
     }
 
-    // Its rank, and 0 where it is over.
+    // Returns the clock's rank, and 0 where it is over.
     pub(crate) fn fraction(self) -> u8
         ensures { result ≡ fraction_of (cell_of self) }
     {
         if self.is_over() { 0 } else { self.rank }
     }
 
-    // The clock after a delay that begins where some clock has rank 0; `any` says that some clock gets rank 1.
+    // Returns the clock after a delay that begins where some clock has rank 0; `any` says that some clock gets rank 1.
     pub(crate) fn leave(self, any: bool) -> Clock
         ensures { result ≡ clock_of (leave any (cell_of self)) }
     {
@@ -78,7 +78,7 @@ impl Clock {
         }
     }
 
-    // The clock after a delay to where the clocks of highest rank come to whole numbers.
+    // Returns the clock after a delay to where the clocks of highest rank come to whole numbers.
     pub(crate) fn arrive(self, top: u8) -> Clock
         ensures { result ≡ clock_of (arrive top (cell_of self)) }
     {
@@ -95,7 +95,7 @@ impl Clock {
         }
     }
 
-    // The clock at 0 where it is reset, and else the clock itself.
+    // Returns the clock at 0 where it is reset, and else the clock itself.
     pub(crate) fn restart_if(self, reset: bool) -> Clock
         ensures { cell_of result ≡ cond reset (restart (cell_of self)) (cell_of self) }
     {
@@ -110,7 +110,7 @@ impl Clock {
         }
     }
 
-    // The clock with its rank closed up among four fractions.
+    // Returns the clock with its rank closed up among four fractions.
     pub(crate) fn close(self, fractions: [u8; 4]) -> Clock
         ensures { result ≡ clock_of (closed fractions (cell_of self)) }
     {
@@ -120,21 +120,21 @@ impl Clock {
         }
     }
 
-    // Is the clock below a constant?
+    // Tells whether the clock is below a constant.
     pub(crate) fn is_below(self, constant: u8) -> bool
         ensures { result ≡ below constant (cell_of self) }
     {
         !self.is_over() && self.whole < constant
     }
 
-    // Is the clock at most a constant?
+    // Tells whether the clock is at most a constant.
     pub(crate) fn is_at_most(self, constant: u8) -> bool
         ensures { result ≡ at_most constant (cell_of self) }
     {
         self.is_below(constant) || self.is_standing() && self.whole == constant
     }
 
-    // Is the clock a constant?
+    // Tells whether the clock is a constant.
     pub(crate) fn is_equal(self, constant: u8) -> bool
         ensures { result ≡ (at_most constant (cell_of self) && not (below constant (cell_of self))) }
     {

@@ -8,15 +8,15 @@ use crate::clock::{Clock, OVER};
 use std::array;
 use table::Comparison;
 
-// How many clocks a model has, and the bound of each.
+// Says how many clocks a model has, and the bound of each.
 #[derive(Clone, Copy, Debug, PartialEq, Eq)]
 pub struct Bounds {
     pub count: u8,
     pub bound: [u8; 4],
 }
 
-// A region: its location, and of each clock the integer part (16 for over) and the rank (0 for over). Clocks beyond the count
-// hold 0 in both.
+// Holds a region's location, and of each clock the integer part (16 for over) and the rank (0 for over). Clocks beyond the count hold 0
+// in both.
 #[derive(Clone, Copy, Debug, PartialEq, Eq)]
 pub struct Region {
     pub location: u8,
@@ -24,7 +24,7 @@ pub struct Region {
     pub rank: [u8; 4],
 }
 
-// All clocks at the beginning of a delay from where some clock has rank 0.
+// Lets a delay begin where some clock has rank 0.
 fn leave_all(clocks: [Clock; 4]) -> [Clock; 4]
     ensures { result ≡ four_of (map (leave (some leaving (cells_of clocks))) (cells_of clocks)) }
 {
@@ -32,7 +32,7 @@ fn leave_all(clocks: [Clock; 4]) -> [Clock; 4]
     clocks.map(|k| k.leave(any))
 }
 
-// All clocks where those of highest rank come to whole numbers.
+// Lets a delay end where the clocks of highest rank come to whole numbers.
 fn arrive_all(clocks: [Clock; 4]) -> [Clock; 4]
     ensures { result ≡ four_of (map (arrive (highest (cells_of clocks))) (cells_of clocks)) }
 {
@@ -40,14 +40,14 @@ fn arrive_all(clocks: [Clock; 4]) -> [Clock; 4]
     clocks.map(|k| k.arrive(top))
 }
 
-// All clocks, those of the mask at 0.
+// Puts the clocks of a mask at 0.
 fn restart_all(clocks: [Clock; 4], mask: u8) -> [Clock; 4]
     ensures { cells_of result ≡ restarted mask 0 (cells_of clocks) }
 {
     array::from_fn(|i| clocks[i].restart_if(table::resets(mask, i as u8)))
 }
 
-// All clocks with their ranks closed up.
+// Closes up the ranks.
 fn close_all(clocks: [Clock; 4]) -> [Clock; 4]
     ensures { result ≡ four_of (close (cells_of clocks)) }
 {
@@ -56,7 +56,7 @@ fn close_all(clocks: [Clock; 4]) -> [Clock; 4]
 }
 
 impl Region {
-    // Clock i of the region. A clock beyond the count takes no part: it counts as over.
+    // Returns clock i of the region. A clock beyond the count takes no part: it counts as over.
     #[tactic(auto, unfolding(crate::specs::Packed::clock_at))]
     pub fn clock_at(self, bounds: Bounds, i: usize) -> Clock
         ensures { result ≡ clock_at bounds self i }
@@ -82,7 +82,7 @@ impl Region {
         array::from_fn(|i| self.clock_at(bounds, i))
     }
 
-    // The region with these clocks at the same location.
+    // Returns the region with these clocks at the same location.
     fn with_clocks(self, bounds: Bounds, clocks: [Clock; 4]) -> Region
         ensures { result ≡ region_of bounds self.location clocks }
     {
@@ -94,7 +94,7 @@ impl Region {
         }
     }
 
-    // The region that follows by delay, if any does.
+    // Returns the region that follows by delay, if any does.
     pub fn delay(self, bounds: Bounds) -> Option<Region>
         ensures { result ≡ delayed bounds self }
     {
@@ -110,7 +110,7 @@ impl Region {
         Some(self.with_clocks(bounds, next))
     }
 
-    // The region after a reset of the clocks of a mask.
+    // Returns the region after a reset of the clocks of a mask.
     pub fn reset(self, bounds: Bounds, mask: u8) -> Region
         ensures { result ≡ after_reset bounds self mask }
     {
@@ -118,7 +118,7 @@ impl Region {
         self.with_clocks(bounds, close_all(restart_all(clocks, mask)))
     }
 
-    // What an atom says of the region: nothing where there is no such comparison, which no model that was read has.
+    // Returns what an atom says of the region: nothing where there is no such comparison, which no model that was read has.
     #[tactic(auto, unfolding(crate::specs::Atoms::atom))]
     pub fn test(self, bounds: Bounds, clock: u8, comparison: u8, constant: u8) -> Option<bool>
         ensures { result ≡ atom comparison constant (cell_of (clock_at bounds self clock)) }

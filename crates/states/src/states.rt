@@ -21,14 +21,14 @@ use table::{Reason, Refusal, Shape};
 
 const MOST_PARTS: u64 = 1_000_000;
 
-// A clock of a state: its whole part (16 for over), and its fraction, a numerator over the state's denominator (0 for over).
+// Holds a clock of a state: its whole part (16 for over), and its fraction, a numerator over the state's denominator (0 for over).
 #[derive(Clone, Copy)]
 pub(crate) struct Spot {
     pub whole: u8,
     pub fraction: u64,
 }
 
-// What a call asks for: a location, and the four values over a denominator.
+// Holds what a call asks for: a location, and the four values over a denominator.
 #[derive(Clone, Copy)]
 pub(crate) struct Asked {
     pub location: u64,
@@ -36,7 +36,7 @@ pub(crate) struct Asked {
     pub denominator: u64,
 }
 
-// The rank of a fraction among four: how many different ones there are from 1 to it.
+// Counts how many different fractions there are from 1 to a fraction, among four: its rank.
 fn rank_of(fraction: u64, fractions: [u64; 4]) -> u8
     ensures { result ≡ rank fractions fraction }
 {
@@ -50,14 +50,14 @@ fn rank_of(fraction: u64, fractions: [u64; 4]) -> u8
     rank
 }
 
-// The integer parts of four clocks, as bytes of a region: 0 beyond the count.
+// Returns the integer parts of four clocks, as bytes of a region: 0 beyond the count.
 fn wholes_of(count: usize, spots: [Spot; 4]) -> [u8; 4]
     ensures { result ≡ spot_wholes count spots }
 {
     array::from_fn(|i| if i < count { spots[i].whole } else { 0 })
 }
 
-// The ranks of four fractions among them, as bytes of a region: 0 beyond the count.
+// Returns the ranks of four fractions among themselves, as bytes of a region: 0 beyond the count.
 fn ranks_of(count: usize, fractions: [u64; 4]) -> [u8; 4]
     ensures { result ≡ fraction_ranks count fractions }
 {
@@ -69,14 +69,14 @@ fn ranks_of(count: usize, fractions: [u64; 4]) -> [u8; 4]
 }
 
 impl Asked {
-    // Is a clock beyond the first n not 0?
+    // Tells whether a clock beyond the first n is not 0.
     fn is_stray(self, n: u8) -> bool
         ensures { result ≡ strays n 0 self.values }
     {
         self.values.iter().skip(usize::from(n)).any(|v| *v != 0)
     }
 
-    // Is this what the call does not take?
+    // Tells whether this is what the call does not take.
     #[tactic(auto, unfolding(crate::specs::StateCall::is_not_taken))]
     fn is_not_taken(self, shape: Shape) -> bool
         ensures value { (m : Model) → shape.locations ≡ m.locations → shape.clocks ≡ m.clocks → result ≡ is_not_taken m (state_of self) }
@@ -88,7 +88,7 @@ impl Asked {
             || self.is_stray(shape.clocks)
     }
 
-    // Clock i of the state. A clock beyond the count takes no part: it counts as over.
+    // Returns clock i of the state. A clock beyond the count takes no part: it counts as over.
     fn spot_at(self, bounds: Bounds, i: usize) -> Spot
         requires { (0 < self.denominator) × (self.denominator ≤ most_denominator) }
         ensures { result ≡ spot_of (state_cell bounds (state_of self) i) }
@@ -115,7 +115,7 @@ impl Asked {
         array::from_fn(|i| self.spot_at(bounds, i))
     }
 
-    // The region of the state.
+    // Returns the region of the state.
     fn region(self, bounds: Bounds) -> Region
         requires { (self.location < 256) × (0 < self.denominator) × (self.denominator ≤ most_denominator) }
         ensures { result ≡ placed bounds (state_of self) }
@@ -130,7 +130,7 @@ impl Asked {
     }
 }
 
-// The number of a region among the first n entries.
+// Finds the number of a region among the first n entries.
 fn number_of(entries: &[u8], n: usize, region: Region) -> Result<usize, Refusal>
     ensures { n ≤ max_entries → result ≡ numbered n (number_in (listed entries.now n) region) }
 {
@@ -142,7 +142,7 @@ fn number_of(entries: &[u8], n: usize, region: Region) -> Result<usize, Refusal>
     Err(Reason::Unreached.at(0))
 }
 
-// Where a state lies in the graph, of n regions, that the entries hold.
+// Finds where a state lies in the graph, of n regions, that the entries hold.
 fn place_among(
     bytes: &[u8],
     shape: Shape,

@@ -51,7 +51,8 @@ module _ (table : List ℕ) (cap : ℕ) (found : List Region) (out : outcome_of 
   abbrev pub asked_region : Region
   asked_region = placed (bounds_of m) (own_state m s)
 
-  answer-is : place_of table cap s ≡ cond (is_not_taken m s) (Err (refusal_at BadState 0)) (numbered (length found) (number_in found asked_region))
+  answer-is : place_of table cap s
+      ≡ cond (is_not_taken m s) (Err (refusal_at BadState 0)) (numbered (length found) (number_in found asked_region))
   unfolding place_of outcome_of
   answer-is = ap (placed_from cap s) read ∙ ap (placed_among m s) (sym (ap (from_answer cap) read) ∙ out)
 
@@ -132,7 +133,8 @@ module _ (table : List ℕ) (cap : ℕ) (s : State) (reason : Reason) (place : �
   by-outcome m (cut found) out e = inl (omega (arith, ap number (same-reason TooManyRegions reason 0 place e)))
   by-outcome m (whole found) out e = go (is_not_taken m s) e
     where
-      go : (b : Bool) → cond b (Err (refusal_at BadState 0)) (numbered (length found) (number_in found (placed (bounds_of m) (own_state m s))))
+      go : (b : Bool)
+          → cond b (Err (refusal_at BadState 0)) (numbered (length found) (number_in found (placed (bounds_of m) (own_state m s))))
           ≡ Err (refusal_at reason place) → Allowed
       go true t = inr (inl (ap number (sym (same-reason BadState reason 0 place t))))
       go false t = by_number (length found) _ t

@@ -3,10 +3,10 @@ use Rattle.std.specs.Prelude.{ℕ, zero, suc, ◌+◌, ◌*◌, ◌/◌, ◌%◌
 use Rattle.std.specs.Prelude.{not, ◌&&◌, ◌||◌, List, [], ◌∷◌, map, eqb, leb, ltb, length, get_or, take, drop, ◌-◌}
 use Rattle.std.specs.List.{list_any}
 use Rattle.std.proofs.lemmas.List.{take_all}
-use Rattle.std.proofs.Common.{arith, add-one, drop-cons, drop_of_length-le, length-drop, mul-le-mul_right, div-lt_iff_lt-mul, sym, ◌∙◌, ap, ap₂, eq-eqb, ne_eqb}
-use Rattle.std.proofs.Common.{eqb-true, lt-ltb, le-ltb, le-leb, leb-true, leb-false}
+use Rattle.std.proofs.Common.{arith, add-one, drop-cons, drop_of_length-le, length-drop, mul-le-mul_right, div-lt_iff_lt-mul}
+use Rattle.std.proofs.Common.{sym, ◌∙◌, ap, ap₂, eq-eqb, ne_eqb, eqb-true, lt-ltb, le-ltb, le-leb, leb-true, leb-false}
 use Rattle.std.proofs.lemmas.Bool.{eqb-false, lt-leb}
-use Rattle.clocks.specs.Cells.{Cell, over, at, fraction_of, member, rank, closed, close}
+use Rattle.clocks.specs.Cells.{Cell, over, at, fraction_of, member, member-any, rank, closed, close}
 use Rattle.clocks.specs.Packed.{over_part, clock_of, byte_at, pack}
 use Rattle.states.specs.States.{State}
 use Rattle.states.specs.Placing.{state_cell, state_cells, placed}
@@ -119,14 +119,6 @@ rank-end f fs i h = ap (λ l. rank l f) (drop_of_length-le fs h) ∙ rank-none f
 pub rest-of : (fs : List ℕ) (i : ℕ) → length fs ≡ 4 → take (4 - (i + 1)) (drop (i + 1) fs) ≡ drop (i + 1) fs
 rest-of fs i four = take_all (4 - (i + 1)) (drop (i + 1) fs) (omega (arith, length-drop (i + 1) fs, four))
 
-member-any : (k : ℕ) (l : List ℕ) → list_any (λ x. eqb x k) l ≡ member k l
-member-any k [] = refl
-member-any k (x ∷ l) = ap₂ (λ a b. a || b) (turned (eqb x k) refl) (member-any k l)
-  where
-    turned : (b : Bool) → eqb x k ≡ b → b ≡ eqb k x
-    turned true e = sym (eq-eqb k x (sym (eqb-true x k e)))
-    turned false e = sym (ne_eqb k x (λ q. eqb-false x k e (sym q)))
-
 -- What a fraction adds, by the tests of the code.
 module _ (f x : ℕ) (l : List ℕ) where
   pub fresh-one : 0 < x → x ≤ f → list_any (λ y. eqb y x) l ≡ false → fresh_count f x l ≡ 1
@@ -191,7 +183,13 @@ region-is bounds s ss ws rs is ew er =
     whole-byte i c = ap (byte_at bounds.count i) (sym (closed-whole fs c))
 
     wholes : spot_wholes bounds.count (map spot_of cs) ≡ (pack bounds s.location (close cs)).whole
-    wholes = rw (whole-byte 0 (state_cell bounds s 0), whole-byte 1 (state_cell bounds s 1), whole-byte 2 (state_cell bounds s 2), whole-byte 3 (state_cell bounds s 3)) refl
+    wholes =
+        rw (
+          whole-byte 0 (state_cell bounds s 0),
+          whole-byte 1 (state_cell bounds s 1),
+          whole-byte 2 (state_cell bounds s 2),
+          whole-byte 3 (state_cell bounds s 3),
+        ) refl
 
     rank-byte : (i : ℕ) (c : Cell) → byte_at bounds.count i (rank fs (fraction_of c)) ≡ byte_at bounds.count i (clock_of (closed fs c)).rank
     rank-byte i c =
@@ -199,4 +197,10 @@ region-is bounds s ss ws rs is ew er =
         ap (byte_at bounds.count i) (small ∙ sym (closed-rank fs c))
 
     ranks : spot_ranks bounds.count (map spot_of cs) ≡ (pack bounds s.location (close cs)).rank
-    ranks = rw (rank-byte 0 (state_cell bounds s 0), rank-byte 1 (state_cell bounds s 1), rank-byte 2 (state_cell bounds s 2), rank-byte 3 (state_cell bounds s 3)) refl
+    ranks =
+        rw (
+          rank-byte 0 (state_cell bounds s 0),
+          rank-byte 1 (state_cell bounds s 1),
+          rank-byte 2 (state_cell bounds s 2),
+          rank-byte 3 (state_cell bounds s 3),
+        ) refl

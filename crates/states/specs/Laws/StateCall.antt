@@ -1,5 +1,6 @@
 -- Laws for the code of the state call: what its tests come to, and how its steps are put together.
-use Rattle.std.specs.Prelude.{ℕ, ◌≤◌, ◌<◌, ◌≡◌, Bool, true, false, cond, not, ◌&&◌, ◌||◌, List, [], ◌∷◌, eqb, leb, ltb, length, get_or, take, drop, ◌-◌, zero, suc, Result, Ok, Err}
+use Rattle.std.specs.Prelude.{ℕ, zero, suc, ◌-◌, ◌≤◌, ◌<◌, ◌≡◌, Bool, true, false, cond, not, ◌&&◌, ◌||◌, List, [], ◌∷◌}
+use Rattle.std.specs.Prelude.{eqb, leb, ltb, length, get_or, take, drop, Result, Ok, Err}
 use Rattle.std.specs.List.{list_any}
 use Rattle.std.proofs.Common.{arith, sym, ◌∙◌, ap, ap₂, get_or-take}
 use Rattle.std.proofs.Math.Path.{refl}
@@ -139,9 +140,9 @@ module _ (table es es' : List ℕ) (m : Model) (cap : ℕ) (read : read_table ta
       let found = f.0 in
       let list : listed es' n ≡ found =
       ap₂ (λ (x : List ℕ) (k : ℕ). listed x k) left (sym f.2) ∙ listed-whole table es cap found f.1 in
+      let if_taken : Result ℕ Refusal → Result ℕ Refusal = λ r. cond (is_not_taken m s) (Err (refusal_at BadState 0)) r in
       e
-      ∙ ap₂ (λ (k : List Region) (x : ℕ). cond (is_not_taken m s) (Err (refusal_at BadState 0)) (numbered x (number_in k (placed (bounds_of m) s))))
-      list (sym f.2)
-      ∙ ap (λ q. cond (is_not_taken m s) (Err (refusal_at BadState 0)) (numbered (length found) (number_in found q))) (sym (placed-own m s))
+      ∙ ap₂ (λ (k : List Region) (x : ℕ). if_taken (numbered x (number_in k (placed (bounds_of m) s)))) list (sym f.2)
+      ∙ ap (λ q. if_taken (numbered (length found) (number_in found q))) (sym (placed-own m s))
       ∙ sym (ap (placed_among m s) (sym (outcome-read table m cap read) ∙ f.1))
       ∙ sym (ap (placed_from cap s) read)

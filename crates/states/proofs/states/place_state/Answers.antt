@@ -24,10 +24,11 @@ returns-in_err-n c =
     let args = c.args in
     let explore = c.explore_table in
     let cap = room_for (length args.entries.now) in
+    let state = asked args.location args.v0 args.v1 args.v2 args.v3 args.denominator in
     let same : c.from_residual-in_err-n.result ≡ Err c.in_err-n.field-0.0 = search rules in
     let (m, reads) = reads_of args.bytes.now _ (sym c.in_ok-shape.was ∙ c.read.ensures) in
     record {
-      value = same ∙ place-refused args.bytes.now m (asked args.location args.v0 args.v1 args.v2 args.v3 args.denominator) cap reads.answer _ (sym c.in_err-n.was ∙ explore.ensures.value);
+      value = same ∙ place-refused args.bytes.now m state cap reads.answer _ (sym c.in_err-n.was ∙ explore.ensures.value);
       entries_after = explore.ensures.entries_after;
     }
 
@@ -39,7 +40,8 @@ returns c =
     let room : cap ≤ max_entries = omega arith in
     let (m, reads) = reads_of args.bytes.now _ (sym c.in_ok-shape.was ∙ c.read.ensures) in
     let answer = sym c.in_ok-n.was ∙ explore.ensures.value in
-    let few = place-few args.bytes.now args.entries.now explore.new.entries m cap reads.answer room _ answer explore.ensures.entries_after in
+    let left = explore.ensures.entries_after in
+    let few = place-few args.bytes.now args.entries.now explore.new.entries m cap reads.answer room _ answer left in
     record {
       value =
           place-regions args.bytes.now args.entries.now explore.new.entries m cap reads.answer room _ answer explore.ensures.entries_after

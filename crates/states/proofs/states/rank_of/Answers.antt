@@ -43,5 +43,7 @@ loop-i-preserved c =
 
 pub returns : goal.returns
 returns c =
-    let none : rank (drop c.loop-i.i c.args.fractions) c.args.fraction ≡ 0 = rank-end c.args.fraction c.args.fractions c.loop-i.i (omega arith) in
+    let f = c.args.fraction in
+    let fs = c.args.fractions in
+    let none : rank (drop c.loop-i.i fs) f ≡ 0 = rank-end f fs c.loop-i.i (omega arith) in
     omega (arith, c.loop-i.invariant.0, none)
