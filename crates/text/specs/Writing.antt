@@ -1,5 +1,6 @@
 -- How the code puts text together: bytes go one after the other to the front of a text, as many as it has room for.
 use Rattle.std.specs.Prelude.{ℕ, ◌≤◌, min, ◌≡◌, List, ◌++◌, length, take, drop}
+use Rattle.text.specs.declared.writing.Writer.{Writer}
 
 -- The first `at` bytes of a text are what was put there, as far as there is room.
 pub record Holds (text : List ℕ) (at : ℕ) (content : List ℕ) : Type 0 where
@@ -14,3 +15,12 @@ pub record Adds (text : List ℕ) (at : ℕ) (text' : List ℕ) (at' : ℕ) (byt
   pub onward : at ≤ at'
   pub rest : drop at' text' ≡ drop at' text
   pub full : length text ≤ at → (text' ≡ text) × (at' ≡ at)
+
+-- `Adds`, of a writer's text and its place.
+unfoldable pub Added : (old new : Writer) (bytes : List ℕ) → Type 0
+Added old new bytes = Adds old.text.now old.at new.text.now new.at bytes
+
+-- A writer put some bytes after the others, into the same slice.
+pub record Puts (old new : Writer) (bytes : List ℕ) : Type 0 where
+  pub same_reference : new.text.ghost_name ≡ old.text.ghost_name
+  pub added : Added old new bytes

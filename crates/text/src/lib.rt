@@ -3,4 +3,4 @@
 
 mod writing;
 
-pub use writing::{put, put_field, put_named, put_number, put_word};
+pub use writing::Writer;
