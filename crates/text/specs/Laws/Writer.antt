@@ -1,6 +1,6 @@
 -- Bytes that a writer puts one after the other, and what its text holds in the end.
 use Rattle.std.specs.Prelude.{ℕ, ◌+◌, ◌<◌, ◌≤◌, get_or, ◌≡◌, refl, List, [], ◌∷◌, ◌++◌, length, take}
-use Rattle.std.proofs.Common.{sym, ◌∙◌, subst}
+use Rattle.std.proofs.Common.{sym, ◌∙◌, subst, append_assoc}
 use Rattle.std.proofs.lemmas.List.{take_more}
 use Rattle.text.specs.declared.writing.Writer.{Writer}
 use Rattle.text.specs.Writing.{Adds, Added, Puts}
@@ -23,7 +23,7 @@ added_more a b c word i inside p q =
     subst (Added a c) (sym (take_more word i 0 inside)) (added_then a b c (take i word) (get_or word i 0 ∷ []) p q)
 
 -- The steps of code that puts text together.
-pub ruleset writing = (added_then, added_none, added_more)
+pub ruleset writing = (added_then, added_none, added_more, append_assoc)
 
 pub puts_then : {a b c : Writer} {one two : List ℕ} → Puts a b one → Puts b c two → Puts a c (one ++ two)
 puts_then {a} {b} {c} {one} {two} p q =

@@ -1,19 +1,17 @@
 -- For the code of the totals: counts one label at a time, lines one label at a time, and how long they are.
-use Rattle.std.specs.Prelude.{ℕ, suc, ◌+◌, ◌*◌, ◌≤◌, ◌<◌, ◌⊎◌, ◌≡◌, refl, Bool, true, false, cond, ◌||◌, eqb, length, get_or, take, set}
+use Rattle.std.specs.Prelude.{ℕ, zero, suc, ◌+◌, ◌*◌, ◌≤◌, ◌<◌, ◌⊎◌, ◌≡◌, refl, Bool, true, false, cond, ◌||◌, eqb, ltb, length, get_or, take, set}
 use Rattle.std.specs.Prelude.{replicate}
 use Rattle.std.proofs.Math.Decide.{ℕ_discrete}
 use Rattle.std.proofs.Common.{add-one, arith, inl, inr, sym, ◌∙◌, ap, ap₂, subst, length-append, length-set, take-suc, take_all}
-use Rattle.std.proofs.Common.{get_or-set_same, get_or-set_other, eq-eqb, ne_eqb}
+use Rattle.std.proofs.Common.{get_or-set_same, get_or-set_other, eq-eqb, ne_eqb, ltb-true, ltb-false, append-nil}
 use mathlib.Core.List.Memᴰ
 use mathlib.Core.List.{List, [], ◌∷◌, ◌++◌, map, Memᴰ}
 use Rattle.std.proofs.lemmas.List.{length-replicate, get_or-replicate}
 use Rattle.text.specs.Text.{line_feed, blank, rising, each, regions_word, blocks_word, label_word, all_word}
-use Rattle.text.specs.Writing.{Adds}
 use Rattle.text.specs.Laws.Texts.{each_append, each-one, each_map, each-upto-list, rising-hit, rising-miss, rising-skip}
-use Rattle.text.specs.Laws.Writing.{adds_then, adds_same}
 use Rattle.text.specs.Laws.Lengths.{Fits, fits_word, fits-then, fits-upto, half-field, byte-field}
 use Rattle.totals.specs.Totals.{count, has_label, largest, TotalRecord, total_of, totals_of, counts_text, label_line, all_line, total_lines}
-use Rattle.totals.specs.Counts.{LabelCounts, totals_below}
+use Rattle.totals.specs.Counts.{LabelCounts, totals_below, counted_lines}
 use Rattle.totals.specs.Laws.Totals.{has_some, largest-most, one}
 
 -- ---- Counts
@@ -108,44 +106,40 @@ count_none (x ∷ l) label h = go (eqb x label) (count_none l label) h
     go false later k = later k
 
 module _ (regions blocks : List ℕ) (label : ℕ) where
-  line-hit : has_label regions label ≡ true → each label_line (totals_below regions blocks (label + 1))
+  line-hit : has_label regions label ≡ true → each label_line (totals_below regions blocks (suc label))
       ≡ each label_line (totals_below regions blocks label) ++ label_line (total_of regions blocks label)
   line-hit e =
-      ap (λ (k : ℕ). each label_line (totals_below regions blocks k)) (add-one label)
-      ∙ each_map label_line (total_of regions blocks) (rising (has_label regions) (suc label))
+      each_map label_line (total_of regions blocks) (rising (has_label regions) (suc label))
       ∙ ap (λ (l : List ℕ). each (λ x. label_line (total_of regions blocks x)) l) (rising-hit (has_label regions) label e)
       ∙ each_append (λ x. label_line (total_of regions blocks x)) (rising (has_label regions) label) (label ∷ [])
       ∙ ap₂ (λ (l k : List ℕ). l ++ k) (sym (each_map label_line (total_of regions blocks) (rising (has_label regions) label)))
       (each-one (λ x. label_line (total_of regions blocks x)) label)
 
-  line-miss : has_label regions label ≡ false → each label_line (totals_below regions blocks (label + 1))
+  line-miss : has_label regions label ≡ false → each label_line (totals_below regions blocks (suc label))
       ≡ each label_line (totals_below regions blocks label)
-  line-miss e =
-      ap (λ (k : ℕ). each label_line (totals_below regions blocks k)) (add-one label)
-      ∙ ap (λ (l : List ℕ). each label_line (map (total_of regions blocks) l)) (rising-miss (has_label regions) label e)
+  line-miss e = ap (λ (l : List ℕ). each label_line (map (total_of regions blocks) l)) (rising-miss (has_label regions) label e)
 
-  module _ (of-regions of_blocks : List ℕ) (r : LabelCounts regions of-regions) (b : LabelCounts blocks of_blocks) (h : label < 256)
-      {text : List ℕ} {at : ℕ} {text₁ : List ℕ} {at₁ : ℕ} {text₂ : List ℕ} {at₂ : ℕ} where
-    -- The line of a label that some region bears is put,
-    pub label-put : {text₃ : List ℕ} {at₃ : ℕ} → text₃ ≡ text₂ → at₃ ≡ at₂ → 0 < get_or of-regions label 0
-        → Adds text at text₁ at₁ (each label_line (totals_below regions blocks label))
-        → Adds text₁ at₁ text₂ at₂
-        (label_line (record { label = label; regions = get_or of-regions label 0; blocks = get_or of_blocks label 0 }))
-        → Adds text at text₃ at₃ (each label_line (totals_below regions blocks (label + 1)))
-    label-put to from some a l =
-        let made : ℕ → ℕ → TotalRecord = λ x y. record { label = label; regions = x; blocks = y } in
-        let is : label_line (made (get_or of-regions label 0) (get_or of_blocks label 0)) ≡ label_line (total_of regions blocks label) =
-        ap₂ (λ (x y : ℕ). label_line (made x y)) (r.holds label h) (b.holds label h) in
-        rw (to, from)
-        (adds_same (sym (line-hit (count-some regions label (omega (arith, some, r.holds label h))))) (adds_then a (adds_same is l)))
+-- The lines that go by the counts are those of the labels that regions bear.
+module _ (regions blocks of_regions of_blocks : List ℕ) (r : LabelCounts regions of_regions) (b : LabelCounts blocks of_blocks) where
+  counted_below : (n : ℕ) → n ≤ 256 → counted_lines of_regions of_blocks n ≡ each label_line (totals_below regions blocks n)
+  counted_below zero h = refl
+  counted_below (suc n) h = go (counted_below n (omega (arith, h))) (ltb 0 (get_or of_regions n 0)) refl
+    where
+      made : ℕ → ℕ → TotalRecord
+      made x y = record { label = n; regions = x; blocks = y }
 
-    -- and for a label that none bears nothing is put.
-    pub label-left : text₂ ≡ text₁ → at₂ ≡ at₁ → get_or of-regions label 0 ≤ 0
-        → Adds text at text₁ at₁ (each label_line (totals_below regions blocks label))
-        → Adds text at text₂ at₂ (each label_line (totals_below regions blocks (label + 1)))
-    label-left to from none a =
-        rw (to, from)
-        (adds_same (sym (line-miss (count_none regions label (omega (arith, none, r.holds label h))))) a)
+      go : counted_lines of_regions of_blocks n ≡ each label_line (totals_below regions blocks n)
+          → (t : Bool) → ltb 0 (get_or of_regions n 0) ≡ t
+          → counted_lines of_regions of_blocks n ++ cond t (label_line (made (get_or of_regions n 0) (get_or of_blocks n 0))) []
+          ≡ each label_line (totals_below regions blocks (suc n))
+      go before true e =
+          ap₂ (λ (l k : List ℕ). l ++ k) before
+          (ap₂ (λ (x y : ℕ). label_line (made x y)) (r.holds n h) (b.holds n h))
+          ∙ sym (line-hit regions blocks n (count-some regions n (omega (arith, ltb-true 0 (get_or of_regions n 0) e, r.holds n h))))
+      go before false e =
+          append-nil (counted_lines of_regions of_blocks n)
+          ∙ before
+          ∙ sym (line-miss regions blocks n (count_none regions n (omega (arith, ltb-false 0 (get_or of_regions n 0) e, r.holds n h))))
 
 -- Labels are bytes, so that those below 256 are all.
 module _ (regions blocks : List ℕ) (small : (x : ℕ) → Memᴰ x regions → x < 256) where
@@ -177,13 +171,15 @@ bytes_small (y ∷ l) small x m = go (Memᴰ.cases_cons m) (bytes_small l (λ i.
     go (inl e) later = subst (λ (k : ℕ). k < 256) (sym e) (small 0)
     go (inr k) later = later k
 
--- The lines of all labels are put, and then the last.
-pub totals-put : (regions blocks : List ℕ) → ((i : ℕ) → get_or regions i 0 < 256)
-    → {text : List ℕ} {at : ℕ} {text₁ : List ℕ} {at₁ : ℕ} {text₂ : List ℕ} {at₂ : ℕ}
-    → Adds text at text₁ at₁ (each label_line (totals_below regions blocks 256))
-    → Adds text₁ at₁ text₂ at₂ (all_line (length regions) (length blocks)) → Adds text at text₂ at₂ (total_lines regions blocks)
-totals-put regions blocks small a b =
-    adds_then (adds_same (ap (each label_line) (below_all regions blocks (bytes_small regions small))) a) b
+-- The lines of all labels, and then the last.
+pub counted-lines : (regions blocks of_regions of_blocks : List ℕ) → ((i : ℕ) → get_or regions i 0 < 256)
+    → LabelCounts regions of_regions → LabelCounts blocks of_blocks
+    → counted_lines of_regions of_blocks (length of_regions) ++ all_line (length regions) (length blocks) ≡ total_lines regions blocks
+counted-lines regions blocks of_regions of_blocks small r b =
+    ap (λ (l : List ℕ). l ++ all_line (length regions) (length blocks))
+    (ap (λ (n : ℕ). counted_lines of_regions of_blocks n) r.long
+    ∙ counted_below regions blocks of_regions of_blocks r b 256 (omega arith)
+    ∙ ap (each label_line) (below_all regions blocks (bytes_small regions small)))
 
 -- ---- How long they are
 
