@@ -3,7 +3,9 @@
 -- the totals. What every cut has in common is said by `joined` of Laws.Joined. The parts are numbered from 0. Past the last there is no
 -- part; its text is then empty, which no part's text is.
 use Rattle.std.specs.Prelude.{ℕ, suc, ◌+◌, ◌-◌, ◌*◌, ◌≤◌, ◌≡◌, Bool, cond, ◌&&◌, List, [], ◌∷◌, ◌++◌, eqb, leb, ltb, length, take, drop}
+use Rattle.std.specs.Prelude.{Result, Ok, Err, IfOk}
 use Rattle.partition.specs.Passed.{Model, Region, Answer, refusal, accepted, read_table, entry_bytes, max_entries, listed}
+use Rattle.partition.specs.Passed.{Refusal, refusal_at}
 use Rattle.partition.specs.Instances.{graph}
 use Rattle.listing.specs.Printed.{first_line, region_line, block_lines, region_record, block_record}
 use Rattle.listing.specs.Printed.{region_records, block_records, totals_text}
@@ -44,7 +46,7 @@ is_borne regions blocks entries list =
 -- says. A table that reading refuses (1 to 13) has no parts: its listing is one line, which a call of its own makes. 14, 15 and 16 are
 -- not asked again: the counts are taken as they are (both are choices of ours).
 abbrev pub text_from : Answer → (entries list : List ℕ) → (regions blocks rounds part : ℕ) → List ℕ
-text_from (refusal number place) entries list regions blocks rounds part = []
+text_from (refusal reason place) entries list regions blocks rounds part = []
 text_from (accepted m) entries list regions blocks rounds part =
     cond (is_borne regions blocks (length entries) (length list))
     (part_text m (listed entries regions) (take regions list) blocks rounds part) []
@@ -62,26 +64,29 @@ fitted (c ∷ l) room = cond (leb (length (c ∷ l)) room) (P.Written (length (c
 
 -- How many bytes of the listing an answer says that the buffer holds: none, unless the part was written.
 abbrev pub bytes_in : Part → ℕ
-bytes_in (P.Refused number place) = 0
 bytes_in (P.Written bytes) = bytes
 bytes_in (P.Short bytes) = 0
 bytes_in P.End = 0
+
+-- The same of the part call's answer, which may be that the table is refused.
+abbrev pub bytes_told : Result Part Refusal → ℕ
+bytes_told (Err r) = 0
+bytes_told (Ok part) = bytes_in part
 
 -- What the buffer then holds: the text at its front, and after it what was there; all that was there where the text does not fit.
 abbrev pub buffer_after : List ℕ → List ℕ → List ℕ
 buffer_after text buffer = cond (leb (length text) (length buffer)) (text ++ drop (length text) buffer) buffer
 
-abbrev pub part_from : Answer → (text : List ℕ) → (room : ℕ) → Part
-part_from (refusal number place) text room = P.Refused number place
-part_from (accepted m) text room = fitted text room
+abbrev pub part_from : Answer → (text : List ℕ) → (room : ℕ) → Result Part Refusal
+part_from (refusal reason place) text room = Err (refusal_at reason place)
+part_from (accepted m) text room = Ok (fitted text room)
 
-unfoldable pub part_of : (table entries list : List ℕ) → (regions blocks rounds part room : ℕ) → Part
+unfoldable pub part_of : (table entries list : List ℕ) → (regions blocks rounds part room : ℕ) → Result Part Refusal
 part_of table entries list regions blocks rounds part room =
     part_from (read_table table) (text_of table entries list regions blocks rounds part) room
 
 -- The bytes that an answer says were written are within a buffer with so much room.
 abbrev pub Within : Part → (room : ℕ) → Type 0
-Within (P.Refused number place) room = Unit
 Within (P.Written k) room = k ≤ room
 Within (P.Short k) room = Unit
 Within P.End room = Unit
@@ -97,14 +102,12 @@ most_parts = 8194
 
 -- The answer is not that the buffer is too short.
 abbrev pub Fits : Part → Type 0
-Fits (P.Refused number place) = Unit
 Fits (P.Written k) = Unit
 Fits (P.Short k) = ⊥
 Fits P.End = Unit
 
 -- The answer is not that there is such a part.
 abbrev pub Past : Part → Type 0
-Past (P.Refused number place) = Unit
 Past (P.Written k) = ⊥
 Past (P.Short k) = ⊥
 Past P.End = Unit
@@ -119,9 +122,9 @@ pub record Gives (text buffer : List ℕ) (answer : Part) (buffer' : List ℕ) :
 -- caller that lends `most_bytes` and goes from part to part comes to the end within `most_parts` parts, and no buffer is too short on the
 -- way.
 pub record Parted (table entries list : List ℕ) (regions blocks rounds part : ℕ)
-    (buffer : List ℕ) (answer : Part) (buffer' : List ℕ) : Type 0 where
+    (buffer : List ℕ) (answer : Result Part Refusal) (buffer' : List ℕ) : Type 0 where
   pub answer-is : answer ≡ part_of table entries list regions blocks rounds part (length buffer)
   pub buffer-is : buffer' ≡ buffer_after (text_of table entries list regions blocks rounds part) buffer
   pub enough : length (text_of table entries list regions blocks rounds part) ≤ most_bytes
-  pub fits : most_bytes ≤ length buffer → Fits answer
-  pub past : most_parts ≤ part → Past answer
+  pub fits : most_bytes ≤ length buffer → IfOk answer Fits
+  pub past : most_parts ≤ part → IfOk answer Past

@@ -6,7 +6,10 @@
 -- in Example of the region layer.
 use Rattle.std.specs.Prelude.{ℕ, zero, suc, ◌-◌, ◌≡◌, refl, Bool, true, false, List, [], ◌∷◌, get_or}
 use Rattle.partition.specs.Passed as P
-use Rattle.partition.specs.Passed.{Model, read_table, refusal, accepted, All, none, also}
+use Rattle.partition.specs.Passed.{Model, read_table, refusal, accepted, Reason, number, All, none, also}
+use Rattle.table.specs.declared.refusals.Reason.TheVariants.{Missing, UnknownKind, CutShort, OutOfOrder, BadHeader, UnknownName}
+use Rattle.table.specs.declared.refusals.Reason.TheVariants.{UnknownComparison, LargeConstant, BadWeight, TooMany, UnequalWeights}
+use Rattle.table.specs.declared.refusals.Reason.TheVariants.{TrailingBytes}
 use Rattle.partition.specs.Passed.{Cell, over, at, reset, cells, delay, State, placed, Bounds, Region, Outcome, whole, cut, outcome_of}
 use Rattle.partition.specs.Passed.{Finite, alike, printed, printed_model}
 use Rattle.partition.specs.Instances.{delays_from}
@@ -16,8 +19,8 @@ use Rattle.totals.specs.Totals.{TotalRecord, label_line, all_line}
 use Rattle.listing.specs.Printed.{ShareRecord, share_field, listing}
 
 pub data Point : Type 0 where
-  -- The table is refused, with this number and place.
-  refused : (table : List ℕ) (number place : ℕ) → Point
+  -- The table is refused for this reason, which has this number, and with this place.
+  refused : (table : List ℕ) → Reason → (n place : ℕ) → Point
   -- The table is read, as this model.
   read : (table : List ℕ) → Model → Point
   -- After these clocks of a region come those by delay.
@@ -57,7 +60,7 @@ two_edges v d v' d' =
     }
 
 abbrev pub Met : Point → Type 0
-Met (refused table number place) = read_table table ≡ refusal number place
+Met (refused table reason n place) = (read_table table ≡ refusal reason place) × (number reason ≡ n)
 Met (read table m) = read_table table ≡ accepted m
 Met (delayed before after) = delay before ≡ cells after
 Met (after_reset mask before after) = reset mask before ≡ after
@@ -298,37 +301,37 @@ refused_text sign =
 abbrev pub points : List Point
 points =
     -- "Empty table: 2 at place 0."
-    refused [] 2 0
+    refused [] Missing 2 0
     -- "The one byte 07: 5 at 0."
-    ∷ refused (7 ∷ []) 5 0
+    ∷ refused (7 ∷ []) OutOfOrder 5 0
     -- "Header of 5 clocks: 6; of 4: read on": here to the place of the next record, and to the end.
-    ∷ refused (1 ∷ 5 ∷ 1 ∷ 0 ∷ []) 6 0
-    ∷ refused (1 ∷ 4 ∷ 1 ∷ 0 ∷ []) 2 4
+    ∷ refused (1 ∷ 5 ∷ 1 ∷ 0 ∷ []) BadHeader 6 0
+    ∷ refused (1 ∷ 4 ∷ 1 ∷ 0 ∷ []) Missing 2 4
     ∷ read (1 ∷ 4 ∷ 1 ∷ 0 ∷ 2 ∷ 0 ∷ 7 ∷ []) four_clocks
     -- The printed model.
     ∷ read printed printed_model
     -- 3: kind 8, and kind 0 where a location should stand.
-    ∷ refused (8 ∷ []) 3 0
-    ∷ refused (1 ∷ 1 ∷ 1 ∷ 0 ∷ 0 ∷ []) 3 4
+    ∷ refused (8 ∷ []) UnknownKind 3 0
+    ∷ refused (1 ∷ 1 ∷ 1 ∷ 0 ∷ 0 ∷ []) UnknownKind 3 4
     -- 4 and not 5: a guard atom with no edge, cut.
-    ∷ refused (5 ∷ []) 4 0
+    ∷ refused (5 ∷ []) CutShort 4 0
     -- 5: a location too many.
-    ∷ refused (small (2 ∷ 0 ∷ [])) 5 6
+    ∷ refused (small (2 ∷ 0 ∷ [])) OutOfOrder 5 6
     -- 7 and not 10: mask bit 1 with one clock, in a branch of weight 0.
-    ∷ refused (small_edge (6 ∷ 0 ∷ 0 ∷ 0 ∷ 2 ∷ [])) 7 11
+    ∷ refused (small_edge (6 ∷ 0 ∷ 0 ∷ 0 ∷ 2 ∷ [])) UnknownName 7 11
     -- 8 and not 9: comparison 5 with constant 16.
-    ∷ refused (small_edge (5 ∷ 0 ∷ 5 ∷ 16 ∷ [])) 8 11
+    ∷ refused (small_edge (5 ∷ 0 ∷ 5 ∷ 16 ∷ [])) UnknownComparison 8 11
     -- 9: constant 16 in an invariant atom.
-    ∷ refused (small (3 ∷ 0 ∷ 0 ∷ 1 ∷ 16 ∷ [])) 9 6
+    ∷ refused (small (3 ∷ 0 ∷ 0 ∷ 1 ∷ 16 ∷ [])) LargeConstant 9 6
     -- 10 and not 12: an edge with W = 0 after an edge whose weights do not sum to W.
-    ∷ refused (small_edge (4 ∷ 0 ∷ 0 ∷ 0 ∷ 0 ∷ [])) 10 11
+    ∷ refused (small_edge (4 ∷ 0 ∷ 0 ∷ 0 ∷ 0 ∷ [])) BadWeight 10 11
     -- 11: the ninth guard atom.
-    ∷ refused (small_edge (guard_times 9)) 11 43
+    ∷ refused (small_edge (guard_times 9)) TooMany 11 43
     -- 12 at the finished edge: by the next edge, and, not 13, by the end.
-    ∷ refused (small_edge (6 ∷ 1 ∷ 0 ∷ 0 ∷ 0 ∷ 4 ∷ 0 ∷ 0 ∷ 1 ∷ 0 ∷ [])) 12 6
-    ∷ refused (small_edge (6 ∷ 3 ∷ 0 ∷ 0 ∷ 0 ∷ 7 ∷ 0 ∷ [])) 12 6
+    ∷ refused (small_edge (6 ∷ 1 ∷ 0 ∷ 0 ∷ 0 ∷ 4 ∷ 0 ∷ 0 ∷ 1 ∷ 0 ∷ [])) UnequalWeights 12 6
+    ∷ refused (small_edge (6 ∷ 3 ∷ 0 ∷ 0 ∷ 0 ∷ 7 ∷ 0 ∷ [])) UnequalWeights 12 6
     -- 13 at the first byte after the end.
-    ∷ refused (small (7 ∷ 0 ∷ [])) 13 7
+    ∷ refused (small (7 ∷ 0 ∷ [])) TrailingBytes 13 7
     -- "M = 1: clock at 1 becomes over."
     ∷ delayed (at 1 1 0 ∷ []) (over 1 ∷ [])
     -- "M = 1, x between 0 and 1, y = 0: next y has rank 1, x rank 2."
@@ -398,9 +401,9 @@ unfolding P.body_length P.body_lengths P.record_of P.body_at P.record_at P.past 
     P.number_in P.label_of delays_from P.blocks P.rounds P.last_blocks P.block_count
     decimal ten_thousandths listing
 points-met =
-    also refl (also refl (also refl (also refl (also refl (also refl
-    (also refl (also refl (also refl (also refl (also refl (also refl
-    (also refl (also refl (also refl (also refl (also refl (also refl
+    also (refl, refl) (also (refl, refl) (also (refl, refl) (also (refl, refl) (also refl (also refl
+    (also (refl, refl) (also (refl, refl) (also (refl, refl) (also (refl, refl) (also (refl, refl) (also (refl, refl)
+    (also (refl, refl) (also (refl, refl) (also (refl, refl) (also (refl, refl) (also (refl, refl) (also (refl, refl)
     (also refl (also refl (also refl (also refl (also refl (also refl
     (also refl (also refl (also refl (also refl (also refl (also refl
     (also refl (also refl (also refl (also refl (also refl (also refl

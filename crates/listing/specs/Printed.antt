@@ -1,7 +1,7 @@
 -- The printed model (document 01, "The printed model"): records of the regions and blocks of a model, each line over them, and the
 -- listing of a table, which closes with the totals (document 02, Job 1).
 use Rattle.std.specs.Prelude.{ℕ, zero, suc, ◌+◌, Bool, false, cond, not, ◌&&◌, ◌||◌, List, [], ◌∷◌, ◌++◌, map, eqb, length, get_or}
-use Rattle.partition.specs.Passed.{Model, Region, Branch, Finite, read_table, rounds, last_blocks, block_count}
+use Rattle.partition.specs.Passed.{Model, Region, Branch, Finite, number, read_table, rounds, last_blocks, block_count}
 use Rattle.partition.specs.Instances.{region_of, graph}
 use Rattle.partition.specs.Calls.{after_graph}
 use Rattle.text.specs.Text.{line_feed, plus, colon, above, blank, decimal, field, up_to, rising, each}
@@ -149,15 +149,13 @@ block_record F list count b =
 abbrev pub clocks_at : (n : ℕ) → Region → List ClockRecord
 clocks_at n r = up_to (λ i. record { whole = get_or r.whole i 0; rank = get_or r.rank i 0 } ∷ []) n
 
+-- A region as a record.
+abbrev pub record_of : (number label block clocks : ℕ) → Region → RegionRecord
+record_of number label block clocks r =
+    record { number = number; location = r.location; label = label; block = block; clocks = clocks_at clocks r }
+
 abbrev pub region_record : Model → List Region → List ℕ → ℕ → RegionRecord
-region_record m found list x =
-    record {
-      number = x;
-      location = (region_of m found x).location;
-      label = (graph m found).label x;
-      block = get_or list x 0;
-      clocks = clocks_at m.clocks (region_of m found x);
-    }
+region_record m found list x = record_of x ((graph m found).label x) (get_or list x 0) m.clocks (region_of m found x)
 
 -- ---- The listing
 
@@ -189,7 +187,7 @@ printed_graph m found =
 
 -- Of a table, with room for so many regions (at most 4,096, as `room_for` has it): a refusal's line, or the printed model.
 unfoldable pub listing : (table : List ℕ) (cap : ℕ) → List ℕ
-listing table cap = after_graph refusal_line printed_graph cap (read_table table)
+listing table cap = after_graph (λ reason place. refusal_line (number reason) place) printed_graph cap (read_table table)
 
 -- "The program reads a table from standard input and lends 2,048 entries": what it prints.
 abbrev pub program_listing : List ℕ → List ℕ

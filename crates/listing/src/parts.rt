@@ -1,61 +1,50 @@
 // The parts of the listing, and the line of a refusal.
-ghost use Rattle.std.specs.Prelude.{ℕ, ◌*◌, ◌+◌, ◌≤◌, ◌<◌, ◌≡◌, [], ◌++◌, length, get_or, take, drop};
-ghost use Rattle.partition.specs.Passed.{Model, read_table, accepted, entry_bytes, max_entries, listed};
+ghost use Rattle.std.specs.Prelude.{ℕ, ◌*◌, ◌+◌, ◌≤◌, ◌<◌, ◌≡◌, [], ◌++◌, length, get_or};
+ghost use Rattle.partition.specs.Passed.{Model, read_table, accepted, listed};
 ghost use Rattle.partition.specs.Instances.{graph};
+ghost use Rattle.partition.specs.View.{entry_in};
 ghost use Rattle.text.specs.Text.{up_to};
+ghost use Rattle.totals.specs.Totals.{total_lines};
 ghost use Rattle.listing.specs.Printed.{first_line, region_line, block_line, delay_line_of, other_blocks, refusal_line};
-ghost use Rattle.listing.specs.Printed.{region_record, block_record, block_lines, size_below};
+ghost use Rattle.listing.specs.Printed.{record_of, region_record, block_record, block_lines, size_below};
 ghost use Rattle.listing.specs.Printed.{region_records, block_records, totals_text};
 ghost use Rattle.listing.specs.Labels.{block_labels};
-ghost use Rattle.totals.specs.Totals.{total_lines};
 ghost use Rattle.listing.specs.Slices.{step_text_at};
 ghost use Rattle.listing.specs.Parts.{line_part, part_text, is_borne, fitted, buffer_after, Gives, Parted};
 
-use crate::blocks::{block_at, lowest_of, size_of};
+use crate::blocks::Blocks;
 use crate::labels::{label_blocks, label_regions};
 use crate::lines::{put_block, put_first, put_refusal, put_region};
 use crate::steps::{put_delay, put_steps};
-use partition::{Checked, Showing};
+use partition::Refusal;
+use text::Writer;
 
 const MOST_REGIONS: u64 = 4096;
 
-const ENTRY_BYTES: usize = 9;
+const ENTRY_BYTES: u64 = 9;
 
-// The answer of a part call: the table is refused by reading; the part is written, so many bytes; the buffer is too short for it, and so
-// many bytes would do; or there is no such part, or the counts cannot be those of what is lent.
-#[derive(Clone, Copy)]
+// The answer of a part call: the part is written, so many bytes; the buffer is too short for it, and so many bytes would do; or there is no
+// such part, or the counts cannot be those of what is lent.
+#[derive(Clone, Copy, Debug, PartialEq, Eq)]
 pub enum Part {
-    Refused { number: u8, place: usize },
     Written(usize),
     Short(usize),
     End,
 }
 
-// Puts the first k bytes of a text at the front of a buffer.
-fn copy(text: &[u8], k: usize, buffer: &mut [u8])
-    requires { (k ≤ length text.now) × (k ≤ length buffer.old) }
-    ensures { buffer.new ≡ take k text.now ++ drop k buffer.old }
+// Puts a text into a buffer, where it fits, and says so.
+fn deliver(text: &[u8], buffer: &mut [u8]) -> Part
+    ensures value { result ≡ fitted text.now (length buffer.old) }
+    ensures buffer_after { buffer.new ≡ buffer_after text.now buffer.old }
 {
-    let mut i = 0;
-    while i < k {
-        buffer[i] = text[i];
-        i = i + 1;
-    }
-}
-
-// Puts the first k bytes of a text into a buffer, where they fit, and says so.
-pub(crate) fn deliver(text: &[u8], k: usize, buffer: &mut [u8]) -> Part
-    requires { k ≤ length text.now }
-    ensures value { result ≡ fitted (take k text.now) (length buffer.old) }
-    ensures buffer_after { buffer.new ≡ buffer_after (take k text.now) buffer.old }
-{
+    let k = text.len();
     if k == 0 {
         return Part::End;
     }
     if buffer.len() < k {
         return Part::Short(k);
     }
-    copy(text, k, buffer);
+    buffer[..k].copy_from_slice(text);
     Part::Written(k)
 }
 
@@ -65,274 +54,233 @@ pub fn refusal_line(number: u64, place: u64, buffer: &mut [u8]) -> Part
     ensures buffer_after { buffer.new ≡ buffer_after (refusal_line number place) buffer.old }
     ensures place_len_bound { length (refusal_line number place) ≤ 128 }
 {
-    let mut text = [0u8; 128];
-    let k = put_refusal(number, place, 0, &mut text);
-    deliver(&text, k, buffer)
+    let mut room = [0; 128];
+    let mut text = Writer::new(&mut room);
+    put_refusal(number, place, &mut text);
+    deliver(text.written(), buffer)
 }
 
-// The first line.
-fn first_part(regions: u64, blocks: u64, rounds: u64, buffer: &mut [u8]) -> Part
-    ensures { Gives (first_line regions blocks rounds) buffer.old result buffer.new }
+// The line of region x, of that block, at its entry, with so many clocks. (No label is printed there.)
+fn region_text(x: usize, block: u64, clocks: u8, entries: &[u8], buffer: &mut [u8]) -> Part
+    requires { clocks ≤ 4 }
+    ensures { Gives (region_line (record_of x 0 block clocks (entry_in entries.now x))) buffer.old result buffer.new }
 {
-    let mut text = [0u8; 128];
-    let k = put_first(regions, blocks, rounds, 0, &mut text);
-    deliver(&text, k, buffer)
-}
-
-// The line of region x, of a model with so many clocks; the list has the blocks of all regions.
-fn region_part(clocks: u8, entries: &[u8], list: &[u64], x: usize, buffer: &mut [u8]) -> Part
-    requires { (clocks ≤ 4) × (x < length list.now) × (length list.now ≤ max_entries) }
-    ensures { (m : Model) → clocks ≡ m.clocks
-        → Gives (region_line (region_record m (listed entries.now (length list.now)) list.now x))
-        buffer.old result buffer.new }
-{
-    let mut text = [0u8; 256];
-    let entry = partition::entry_at(entries, x);
-    let whole = entry.whole;
-    let rank = entry.rank;
-    let block = block_at(list, x);
-    let k = put_region(
+    let mut room = [0; 256];
+    let mut text = Writer::new(&mut room);
+    put_region(
         x as u64,
-        entry.location,
         block,
         clocks,
-        whole,
-        rank,
-        0,
+        &partition::entry_at(entries, x),
         &mut text,
     );
-    deliver(&text, k, buffer)
+    deliver(text.written(), buffer)
 }
 
-// The lines of block b, of `blocks`, whose lowest region has that label, reaches those regions by delay, and has its edges in the rows.
+// The lines of block b, whose lowest region has that label, reaches those regions by delay, and has its edges in the rows.
 fn block_text(
+    blocks: Blocks,
+    b: u64,
     label: u8,
-    list: &[u64],
-    regions: &[u16],
+    reached: &[u16],
     rows: &[u16],
     edges: usize,
-    blocks: u64,
-    b: u64,
     buffer: &mut [u8],
 ) -> Part
-    requires blocks_le_max_entries { (blocks ≤ max_entries) × (b < blocks) × (edges ≤ 128) }
-    requires by_index { (e : ℕ) → e < edges → get_or rows.now (32 * e) 0 ≡ 1 → get_or rows.now (32 * e + 3) 0 ≤ 8 }
-    ensures { Gives (block_line
-        (record { number = b; label = label; size = size_below list.now b (length list.now); delays = []; steps = [] })
-        ++ (delay_line_of b (other_blocks list.now blocks b regions.now)
-        ++ up_to (step_text_at list.now rows.now blocks b) edges))
+    requires in_blocks { b < blocks.count }
+    requires few { edges ≤ 128 }
+    requires few_branches { (e : ℕ) → e < edges → get_or rows.now (32 * e) 0 ≡ 1 → get_or rows.now (32 * e + 3) 0 ≤ 8 }
+    ensures { Gives (block_line (record {
+      number = b;
+      label = label;
+      size = size_below blocks.entry.list.now b (length blocks.entry.list.now);
+      delays = [];
+      steps = [];
+    })
+        ++ (delay_line_of b (other_blocks blocks.entry.list.now blocks.entry.count b reached.now)
+        ++ up_to (step_text_at blocks.entry.list.now rows.now blocks.entry.count b) edges))
         buffer.old result buffer.new }
 {
-    let mut text = [0u8; 65536];
-    let one = put_block(b, label, size_of(list, b), 0, &mut text);
-    let two = put_delay(list, regions, b, blocks, one, &mut text);
-    let three = put_steps(list, rows, edges, b, blocks, two, &mut text);
-    deliver(&text, three, buffer)
+    let mut room = [0; 65536];
+    let mut text = Writer::new(&mut room);
+    put_block(b, label, blocks.size_of(b), &mut text);
+    put_delay(blocks, b, reached, &mut text);
+    put_steps(blocks, b, rows, edges, &mut text);
+    deliver(text.written(), buffer)
 }
 
-// The lines of block b, of `blocks`; the list has the blocks of all regions.
-fn block_part(
-    bytes: &[u8],
-    entries: &[u8],
-    list: &[u64],
-    blocks: u64,
-    b: u64,
-    buffer: &mut [u8],
-) -> Part
-    requires { (b < blocks) × (blocks ≤ length list.now) × (length list.now ≤ max_entries)
-        × (entry_bytes * length list.now ≤ length entries.now) }
-    ensures { (m : Model) → read_table bytes.now ≡ accepted m
-        → Gives (block_lines (block_record (graph m (listed entries.now (length list.now)))
-        list.now blocks b))
+// Puts the totals into a buffer, from the labels of all regions.
+fn totals_text(labels: &[u8], blocks: Blocks, buffer: &mut [u8]) -> Part
+    requires { length labels.now ≡ length blocks.list.now }
+    ensures { Gives (total_lines labels.now (block_labels labels.now blocks.entry.list.now blocks.entry.count))
         buffer.old result buffer.new }
 {
-    let low = lowest_of(list, b);
-    let mut delays = [0u16; 4097];
-    let mut rows = [0u16; 4096];
-    let shown = partition::show_item(bytes, entries, list.len(), low, &mut delays, &mut rows);
-    match shown {
-        Showing::Refused { number, place } => Part::Refused {
-            number: number,
-            place: place,
-        },
-        Showing::Unseen => Part::End,
-        Showing::Item {
-            label,
-            reached,
-            edges,
-        } => block_text(
-            label,
-            list,
-            &delays[..reached],
-            &rows,
-            edges,
-            blocks,
-            b,
-            buffer,
-        ),
-    }
+    let mut room = [0; 4096];
+    let of_blocks = &mut room[..blocks.count as usize];
+    label_blocks(blocks.list, labels, of_blocks);
+    let mut room = [0; 9728];
+    let mut text = Writer::new(&mut room);
+    totals::put_totals(labels, of_blocks, &mut text);
+    deliver(text.written(), buffer)
 }
 
-// Puts the totals into a buffer, from the labels of all regions; the list has their blocks, of which there are `blocks`.
-fn totals_text(labels: &[u8], list: &[u64], blocks: u64, buffer: &mut [u8]) -> Part
-    requires { (length labels.now ≡ length list.now) × (0 < blocks) × (blocks ≤ length list.now)
-        × (length list.now ≤ max_entries) }
-    ensures { Gives (total_lines labels.now (block_labels labels.now list.now blocks))
-        buffer.old result buffer.new }
-{
-    let mut room = [0u8; 4096];
-    let count = blocks as usize;
-    let of_blocks = &mut room[..count];
-    label_blocks(list, labels, of_blocks);
-    let mut text = [0u8; 9728];
-    let k = totals::put_totals(labels, of_blocks, 0, &mut text);
-    deliver(&text, k, buffer)
-}
-
-// Puts the totals into a buffer; the list has the blocks of all regions, of which there are `blocks`.
-fn totals_part(bytes: &[u8], entries: &[u8], list: &[u64], blocks: u64, buffer: &mut [u8]) -> Part
-    requires { (0 < blocks) × (blocks ≤ length list.now) × (length list.now ≤ max_entries) }
-    ensures { (m : Model) → read_table bytes.now ≡ accepted m
-        → Gives (totals_text (region_records m (listed entries.now (length list.now)) list.now)
-        (block_records m (listed entries.now (length list.now)) list.now blocks))
-        buffer.old result buffer.new }
-{
-    let mut room = [0u8; 4096];
-    let n = list.len();
-    let labels = &mut room[..n];
-    label_regions(bytes, entries, labels);
-    totals_text(labels, list, blocks, buffer)
-}
-
-// Puts the line of region x into a buffer, past the regions the lines of a block, and past the blocks the totals.
-fn line_part(
-    bytes: &[u8],
+// What a listing is printed from: a table that was read, of a model with so many clocks; the entries of its regions, and their blocks; and
+// how many rounds there were.
+#[derive(Clone, Copy)]
+struct Listed<'a> {
+    table: &'a [u8],
     clocks: u8,
-    entries: &[u8],
-    list: &[u64],
-    blocks: u64,
-    x: u64,
-    buffer: &mut [u8],
-) -> Part
-    requires { (clocks ≤ 4) × (blocks ≤ length list.now) × (length list.now ≤ max_entries)
-        × (entry_bytes * length list.now ≤ length entries.now) × (0 < blocks) }
-    ensures { (m : Model) → read_table bytes.now ≡ accepted m → clocks ≡ m.clocks
-        → Gives (line_part m (listed entries.now (length list.now)) list.now blocks x)
-        buffer.old result buffer.new }
-{
-    let n = list.len() as u64;
-    if x < n {
-        return region_part(clocks, entries, list, x as usize, buffer);
-    }
-    let b = x - n;
-    if b < blocks {
-        return block_part(bytes, entries, list, blocks, b, buffer);
-    }
-    if b == blocks {
-        return totals_part(bytes, entries, list, blocks, buffer);
-    }
-    Part::End
-}
-
-// A part, where the list has the blocks of all regions and no more.
-fn part_of(
-    bytes: &[u8],
-    clocks: u8,
-    entries: &[u8],
-    list: &[u64],
-    blocks: u64,
+    entries: &'a [u8],
+    partition: Blocks<'a>,
     rounds: u64,
-    part: u64,
-    buffer: &mut [u8],
-) -> Part
-    requires { (clocks ≤ 4) × (blocks ≤ length list.now) × (length list.now ≤ max_entries)
-        × (entry_bytes * length list.now ≤ length entries.now) × (0 < blocks) }
-    ensures { (m : Model) → read_table bytes.now ≡ accepted m → clocks ≡ m.clocks
-        → Gives (part_text m (listed entries.now (length list.now)) list.now blocks rounds part)
-        buffer.old result buffer.new }
-{
-    if part == 0 {
-        return first_part(list.len() as u64, blocks, rounds, buffer);
+    ghost few_clocks: { clocks ≤ 4 },
+    ghost entries_of_all: { 9 * length partition.list.now ≤ length entries.now },
+}
+
+impl Listed<'_> {
+    // The first line.
+    fn first_part(self, buffer: &mut [u8]) -> Part
+        ensures { Gives (first_line (length self.entry.partition.list.now) self.entry.partition.count self.entry.rounds)
+            buffer.old result buffer.new }
+    {
+        let mut room = [0; 128];
+        let mut text = Writer::new(&mut room);
+        let regions = self.partition.list.len() as u64;
+        put_first(regions, self.partition.count, self.rounds, &mut text);
+        deliver(text.written(), buffer)
     }
-    line_part(bytes, clocks, entries, list, blocks, part - 1, buffer)
+
+    // The line of region x.
+    fn region_part(self, x: usize, buffer: &mut [u8]) -> Part
+        requires { x < length self.partition.list.now }
+        ensures { (m : Model) → self.entry.clocks ≡ m.clocks
+            → Gives (region_line (region_record m (listed self.entry.entries.now (length self.entry.partition.list.now))
+            self.entry.partition.list.now x)) buffer.old result buffer.new }
+    {
+        region_text(x, self.partition.of(x), self.clocks, self.entries, buffer)
+    }
+
+    // The lines of block b.
+    fn block_part(self, b: u64, buffer: &mut [u8]) -> Part
+        requires { b < self.partition.count }
+        ensures { (m : Model) → read_table self.entry.table.now ≡ accepted m
+            → Gives (block_lines (block_record (graph m (listed self.entry.entries.now (length self.entry.partition.list.now)))
+            self.entry.partition.list.now self.entry.partition.count b)) buffer.old result buffer.new }
+    {
+        let mut delays = [0; 4097];
+        let mut rows = [0; 4096];
+        let regions = self.partition.list.len();
+        let low = self.partition.lowest_of(b);
+        let shown = partition::show_item(
+            self.table,
+            self.entries,
+            regions,
+            low,
+            &mut delays,
+            &mut rows,
+        );
+        // The table was read and the region is one of its entries, so that it is seen.
+        let Ok(Some(seen)) = shown else {
+            return Part::End;
+        };
+        block_text(
+            self.partition,
+            b,
+            seen.label,
+            &delays[..seen.reached],
+            &rows,
+            seen.edges,
+            buffer,
+        )
+    }
+
+    // The totals.
+    fn totals_part(self, buffer: &mut [u8]) -> Part
+        ensures { (m : Model) → read_table self.entry.table.now ≡ accepted m
+            → Gives (totals_text
+            (region_records m (listed self.entry.entries.now (length self.entry.partition.list.now)) self.entry.partition.list.now)
+            (block_records m (listed self.entry.entries.now (length self.entry.partition.list.now)) self.entry.partition.list.now
+            self.entry.partition.count)) buffer.old result buffer.new }
+    {
+        let mut room = [0; 4096];
+        let labels = &mut room[..self.partition.list.len()];
+        label_regions(self.table, self.entries, labels);
+        totals_text(labels, self.partition, buffer)
+    }
+
+    // The line of region x, past the regions the lines of a block, and past the blocks the totals.
+    fn line_part(self, x: u64, buffer: &mut [u8]) -> Part
+        ensures { (m : Model) → read_table self.entry.table.now ≡ accepted m → self.entry.clocks ≡ m.clocks
+            → Gives (line_part m (listed self.entry.entries.now (length self.entry.partition.list.now)) self.entry.partition.list.now
+            self.entry.partition.count x) buffer.old result buffer.new }
+    {
+        let regions = self.partition.list.len() as u64;
+        if x < regions {
+            return self.region_part(x as usize, buffer);
+        }
+        let b = x - regions;
+        if b < self.partition.count {
+            return self.block_part(b, buffer);
+        }
+        if b == self.partition.count {
+            return self.totals_part(buffer);
+        }
+        Part::End
+    }
+
+    // A part.
+    fn part(self, part: u64, buffer: &mut [u8]) -> Part
+        ensures { (m : Model) → read_table self.entry.table.now ≡ accepted m → self.entry.clocks ≡ m.clocks
+            → Gives (part_text m (listed self.entry.entries.now (length self.entry.partition.list.now)) self.entry.partition.list.now
+            self.entry.partition.count self.entry.rounds part) buffer.old result buffer.new }
+    {
+        if part == 0 {
+            self.first_part(buffer)
+        } else {
+            self.line_part(part - 1, buffer)
+        }
+    }
 }
 
 // Can the counts be those of what is lent?
 fn is_borne(regions: u64, blocks: u64, entries: usize, list: usize) -> bool
     ensures { result ≡ is_borne regions blocks entries list }
 {
-    if MOST_REGIONS < regions {
-        return false;
-    }
-    let n = regions as usize;
-    if entries < ENTRY_BYTES * n {
-        return false;
-    }
-    if list < n {
-        return false;
-    }
-    if blocks < 1 {
-        return false;
-    }
-    blocks <= regions
-}
-
-// A part of the listing of a table that was read, of a model with so many clocks.
-fn part_read(
-    bytes: &[u8],
-    clocks: u8,
-    entries: &[u8],
-    list: &[u64],
-    regions: u64,
-    blocks: u64,
-    rounds: u64,
-    part: u64,
-    buffer: &mut [u8],
-) -> Part
-    requires { clocks ≤ 4 }
-    ensures { (m : Model) → read_table bytes.now ≡ accepted m → clocks ≡ m.clocks
-        → Parted bytes.now entries.now list.now regions blocks rounds part
-        buffer.old result buffer.new }
-{
-    if !is_borne(regions, blocks, entries.len(), list.len()) {
-        return Part::End;
-    }
-    let n = regions as usize;
-    part_of(
-        bytes,
-        clocks,
-        entries,
-        &list[..n],
-        blocks,
-        rounds,
-        part,
-        buffer,
-    )
+    regions <= MOST_REGIONS
+        && ENTRY_BYTES * regions <= entries as u64
+        && regions <= list as u64
+        && 0 < blocks
+        && blocks <= regions
 }
 
 // Puts a part of the listing of a table into a buffer. The entries, the list and the counts of regions, blocks and rounds are meant to be
 // those that a partition call left; any are taken.
-pub fn write_part(
-    bytes: &[u8],
-    entries: &[u8],
-    list: &[u64],
+pub fn write_part<'a>(
+    bytes: &'a [u8],
+    entries: &'a [u8],
+    list: &'a [u64],
     regions: u64,
     blocks: u64,
     rounds: u64,
     part: u64,
     buffer: &mut [u8],
-) -> Part
-    ensures { Parted bytes.now entries.now list.now regions blocks rounds part
-        buffer.old result buffer.new }
+) -> Result<Part, Refusal>
+    ensures { Parted bytes.now entries.now list.now regions blocks rounds part buffer.old result buffer.new }
 {
-    let checked = partition::check_table(bytes);
-    match checked {
-        Checked::Refused { number, place } => Part::Refused {
-            number: number,
-            place: place,
-        },
-        Checked::Read(clocks) => part_read(
-            bytes, clocks, entries, list, regions, blocks, rounds, part, buffer,
-        ),
+    let clocks = partition::check_table(bytes)?;
+    if !is_borne(regions, blocks, entries.len(), list.len()) {
+        return Ok(Part::End);
     }
+    let partition = Blocks {
+        list: &list[..regions as usize],
+        count: blocks,
+    };
+    let listed = Listed {
+        table: bytes,
+        clocks,
+        entries,
+        partition,
+        rounds,
+    };
+    Ok(listed.part(part, buffer))
 }

@@ -1,62 +1,45 @@
 // The delay line and the step lines of a block, from the slices of its lowest region.
+#![tactic(auto, using(text::specs::Laws::Writer::writing))]
+
 ghost use Rattle.std.specs.Prelude.{ℕ, ◌+◌, ◌*◌, ◌≤◌, ◌<◌, ◌≡◌, length, get_or};
 ghost use Rattle.text.specs.Text.{each, field, up_to};
+ghost use Rattle.text.specs.Writing.{Puts};
 ghost use Rattle.rounding.specs.Rounding.{ten_thousandths};
 ghost use Rattle.listing.specs.Printed.{other_blocks, delay_line_of, weight_into};
 ghost use Rattle.listing.specs.Printed.{share_field, shares_of, targets_of, step_line};
-ghost use Rattle.listing.specs.Slices.{branches_from, step_at, step_text_at};
-ghost use Rattle.text.specs.Writing.{Adds};
+ghost use Rattle.listing.specs.Slices.{branches_from, branches_at, step_at, step_text_at};
 
-use crate::blocks::{block_at, next_block, next_other, number_at};
-use text::{put, put_field, put_named, put_number};
+use crate::blocks::Blocks;
+use crate::lines::LINE_FEED;
+use std::cmp::Ordering;
+use text::Writer;
 
-const LINE_FEED: u8 = 10;
-
-const COLON: u8 = 58;
+const COLON: u8 = b':';
 
 const ROW: usize = 32;
 
 // The fields of the other blocks reached.
-fn put_others(
-    list: &[u64],
-    regions: &[u16],
-    own: u64,
-    count: u64,
-    at: usize,
-    text: &mut [u8],
-) -> usize
-    requires { own < count }
-    ensures { Adds text.old at text.new result
-        (each field (other_blocks list.now count own regions.now)) }
+fn put_others(blocks: Blocks, own: u64, reached: &[u16], text: &mut Writer)
+    requires { own < blocks.count }
+    ensures { Puts text.old text.new (each field (other_blocks blocks.entry.list.now blocks.entry.count own reached.now)) }
 {
-    let mut now = at;
-    let mut c = next_other(list, regions, own, 0, count);
-    while c < count {
-        now = put_field(c, now, text);
-        c = next_other(list, regions, own, c + 1, count);
+    let mut next = blocks.next_other(reached, own, 0);
+    while let Some(c) = next {
+        text.put_field(c);
+        next = blocks.next_other(reached, own, c + 1);
     }
-    now
 }
 
 // The delay line of a block, where its lowest region reaches others.
-pub(crate) fn put_delay(
-    list: &[u64],
-    regions: &[u16],
-    own: u64,
-    count: u64,
-    at: usize,
-    text: &mut [u8],
-) -> usize
-    requires { own < count }
-    ensures { Adds text.old at text.new result
-        (delay_line_of own (other_blocks list.now count own regions.now)) }
+pub(crate) fn put_delay(blocks: Blocks, own: u64, reached: &[u16], text: &mut Writer)
+    requires { own < blocks.count }
+    ensures { Puts text.old text.new (delay_line_of own (other_blocks blocks.entry.list.now blocks.entry.count own reached.now)) }
 {
-    if count <= next_other(list, regions, own, 0, count) {
-        return at;
+    if blocks.next_other(reached, own, 0).is_some() {
+        text.put_named(b"delay", own);
+        put_others(blocks, own, reached, text);
+        text.put(LINE_FEED);
     }
-    let one = put_named(b"delay", own, at, text);
-    let two = put_others(list, regions, own, count, one, text);
-    put(LINE_FEED, two, text)
 }
 
 // A share in ten-thousandths: the nearest, an exact half to the even one; 0 where the denominator is.
@@ -69,144 +52,140 @@ fn ten_thousandths(weight: u64, denominator: u64) -> u64
     }
     let down = 10000 * weight / denominator;
     let remainder = 10000 * weight % denominator;
-    if 2 * remainder < denominator {
-        return down;
+    match (2 * remainder).cmp(&denominator) {
+        Ordering::Less => down,
+        Ordering::Equal => down + down % 2,
+        Ordering::Greater => down + 1,
     }
-    if denominator < 2 * remainder {
-        return down + 1;
-    }
-    down + down % 2
 }
 
-// The weight of k branches, from a place of the rows on, that land in a block.
-fn weigh_into(list: &[u64], rows: &[u16], from: usize, k: usize, c: u64) -> u64
-    requires { (from < 65536) × (k < 65536) }
-    ensures { (result ≡ weight_into list.now c (branches_from rows.now from k)) × (result < 4294967296) }
-{
-    let mut total = 0u64;
-    let mut i = k;
-    while 0 < i {
-        i = i - 1;
-        if block_at(list, number_at(rows, from + 2 * i + 1)) == c {
-            total = total + (number_at(rows, from + 2 * i) as u64);
+// An available edge in its row: its action, its denominator, how many branches it has, and of each its weight and its target.
+#[derive(Clone, Copy)]
+struct Edge<'a> {
+    rows: &'a [u16],
+    number: usize,
+    ghost in_rows: { number < 128 },
+    ghost few_branches: { get_or rows.now (32 * number + 3) 0 ≤ 8 },
+}
+
+impl Edge<'_> {
+    fn get(self, i: usize) -> u16
+        requires { i < 32 }
+        ensures { result ≡ get_or self.entry.rows.now (32 * self.entry.number + i) 0 }
+    {
+        slices::at(self.rows, ROW * self.number + i, 0)
+    }
+
+    fn action(self) -> u16
+        ensures { result ≡ get_or self.entry.rows.now (32 * self.entry.number + 1) 0 }
+    {
+        self.get(1)
+    }
+
+    fn denominator(self) -> u16
+        ensures { result ≡ get_or self.entry.rows.now (32 * self.entry.number + 2) 0 }
+    {
+        self.get(2)
+    }
+
+    // How many branches there are.
+    fn branches(self) -> usize
+        ensures value { result ≡ get_or self.entry.rows.now (32 * self.entry.number + 3) 0 }
+        ensures few { result ≤ 8 }
+    {
+        usize::from(self.get(3))
+    }
+
+    fn weight(self, i: usize) -> u16
+        requires { i < 8 }
+        ensures { result ≡ get_or self.entry.rows.now (32 * self.entry.number + 4 + 2 * i) 0 }
+    {
+        self.get(4 + 2 * i)
+    }
+
+    fn target(self, i: usize) -> u16
+        requires { i < 8 }
+        ensures { result ≡ get_or self.entry.rows.now (32 * self.entry.number + 4 + 2 * i + 1) 0 }
+    {
+        self.get(4 + 2 * i + 1)
+    }
+
+    // Stores the targets of as many branches as the slice is long.
+    fn list_targets(self, targets: &mut [u16])
+        requires { length targets.old ≤ 8 }
+        ensures { targets.new ≡ targets_of (branches_from self.entry.rows.now (32 * self.entry.number + 4) (length targets.old)) }
+    {
+        for (i, target) in targets.iter_mut().enumerate() {
+            *target = self.target(i);
         }
     }
-    total
+
+    // The weight of the branches that land in a block.
+    fn weight_into(self, blocks: Blocks, c: u64) -> u64
+        ensures value { result ≡ weight_into blocks.entry.list.now c (branches_at self.entry.rows.now self.entry.number) }
+        ensures most { result < 4294967296 }
+    {
+        let mut total = 0;
+        for i in 0..self.branches() {
+            if blocks.of(usize::from(self.target(i))) == c {
+                total += u64::from(self.weight(i));
+            }
+        }
+        total
+    }
 }
 
 // A block landed in, and its share.
-fn put_share(c: u64, weight: u64, denominator: u64, at: usize, text: &mut [u8]) -> usize
+fn put_share(c: u64, weight: u64, denominator: u64, text: &mut Writer)
     requires { (weight < 4294967296) × (denominator < 65536) }
-    ensures { Adds text.old at text.new result
-        (share_field (record { block = c; weight = weight; denominator = denominator })) }
+    ensures { Puts text.old text.new (share_field (record { block = c; weight = weight; denominator = denominator })) }
 {
-    let one = put_field(c, at, text);
-    let two = put(COLON, one, text);
-    put_number(ten_thousandths(weight, denominator), two, text)
+    text.put_field(c);
+    text.put(COLON);
+    text.put_number(ten_thousandths(weight, denominator));
 }
 
-// The targets of as many branches as a slice is long, from a place of the rows on.
-fn list_targets(rows: &[u16], from: usize, targets: &mut [u16])
-    requires { (from < 65536) × (length targets.old < 65536) }
-    ensures { targets.new ≡ targets_of (branches_from rows.now from (length targets.old)) }
+// The fields of the blocks landed in; the slice has the targets of all branches.
+fn put_shares(blocks: Blocks, edge: Edge, targets: &[u16], text: &mut Writer)
+    requires { targets.now ≡ targets_of (branches_at edge.rows.now edge.number) }
+    ensures { Puts text.old text.new (each share_field (shares_of blocks.entry.list.now blocks.entry.count
+        (get_or edge.entry.rows.now (32 * edge.entry.number + 2) 0) (branches_at edge.entry.rows.now edge.entry.number))) }
 {
-    let mut i = 0;
-    while i < targets.len() {
-        targets[i] = number_at(rows, from + 2 * i + 1) as u16;
-        i = i + 1;
-    }
-}
-
-// The fields of the blocks landed in.
-fn put_shares(
-    list: &[u64],
-    rows: &[u16],
-    targets: &[u16],
-    from: usize,
-    denominator: u64,
-    count: u64,
-    at: usize,
-    text: &mut [u8],
-) -> usize
-    requires from_bound { (from < 65536) × (length targets.now < 65536) × (denominator < 65536) }
-    requires targets_value { targets.now ≡ targets_of (branches_from rows.now from (length targets.now)) }
-    ensures { Adds text.old at text.new result
-        (each share_field (shares_of list.now count denominator
-        (branches_from rows.now from (length targets.now)))) }
-{
-    let k = targets.len();
-    let mut now = at;
-    let mut c = next_block(list, targets, 0, count);
-    while c < count {
-        now = put_share(
+    let mut next = blocks.next_of(targets, 0);
+    while let Some(c) = next {
+        put_share(
             c,
-            weigh_into(list, rows, from, k, c),
-            denominator,
-            now,
+            edge.weight_into(blocks, c),
+            u64::from(edge.denominator()),
             text,
         );
-        c = next_block(list, targets, c + 1, count);
+        next = blocks.next_of(targets, c + 1);
     }
-    now
 }
 
-// The line of a step, of edge e.
-fn put_step(
-    list: &[u64],
-    rows: &[u16],
-    e: usize,
-    own: u64,
-    count: u64,
-    at: usize,
-    text: &mut [u8],
-) -> usize
-    requires e_bound { e < 128 }
-    requires e_bound_2 { get_or rows.now (32 * e + 3) 0 ≤ 8 }
-    ensures { Adds text.old at text.new result
-        (step_line own (step_at list.now rows.now count e)) }
+// The line of a step.
+fn put_step(blocks: Blocks, own: u64, edge: Edge, text: &mut Writer)
+    ensures { Puts text.old text.new
+        (step_line own (step_at blocks.entry.list.now edge.entry.rows.now blocks.entry.count edge.entry.number)) }
 {
-    let base = ROW * e;
-    let k = number_at(rows, base + 3);
-    let mut room = [0u16; 8];
-    let targets = &mut room[..k];
-    list_targets(rows, base + 4, targets);
-    let one = put_named(b"step", own, at, text);
-    let two = put_field(number_at(rows, base + 1) as u64, one, text);
-    let three = put_shares(
-        list,
-        rows,
-        targets,
-        base + 4,
-        number_at(rows, base + 2) as u64,
-        count,
-        two,
-        text,
-    );
-    put(LINE_FEED, three, text)
+    let mut room = [0; 8];
+    let targets = &mut room[..edge.branches()];
+    edge.list_targets(targets);
+    text.put_named(b"step", own);
+    text.put_field(u64::from(edge.action()));
+    put_shares(blocks, edge, targets, text);
+    text.put(LINE_FEED);
 }
 
 // The step lines of all edges that are available.
-pub(crate) fn put_steps(
-    list: &[u64],
-    rows: &[u16],
-    edges: usize,
-    own: u64,
-    count: u64,
-    at: usize,
-    text: &mut [u8],
-) -> usize
-    requires edges_bound { edges ≤ 128 }
-    requires by_index { (e : ℕ) → e < edges → get_or rows.now (32 * e) 0 ≡ 1 → get_or rows.now (32 * e + 3) 0 ≤ 8 }
-    ensures { Adds text.old at text.new result
-        (up_to (step_text_at list.now rows.now count own) edges) }
+pub(crate) fn put_steps(blocks: Blocks, own: u64, rows: &[u16], edges: usize, text: &mut Writer)
+    requires few { edges ≤ 128 }
+    requires few_branches { (e : ℕ) → e < edges → get_or rows.now (32 * e) 0 ≡ 1 → get_or rows.now (32 * e + 3) 0 ≤ 8 }
+    ensures { Puts text.old text.new (up_to (step_text_at blocks.entry.list.now rows.now blocks.entry.count own) edges) }
 {
-    let mut now = at;
-    let mut e = 0;
-    while e < edges {
-        if number_at(rows, ROW * e) == 1 {
-            now = put_step(list, rows, e, own, count, now, text);
+    for number in 0..edges {
+        if slices::at(rows, ROW * number, 0) == 1 {
+            put_step(blocks, own, Edge { rows, number }, text);
         }
-        e = e + 1;
     }
-    now
 }

@@ -3,7 +3,6 @@
 
 ghost use Rattle.std.specs.Prelude.{◌≡◌, ◌≤◌, [], ◌∷◌, ◌++◌, length, take};
 ghost use Rattle.text.specs.Text.{decimal, field};
-ghost use Rattle.text.specs.Writing.{Puts};
 
 const BLANK: u8 = b' ';
 
@@ -12,9 +11,12 @@ const BLANK: u8 = b' ';
 pub struct Writer<'a> {
     pub text: &'a mut [u8],
     pub at: usize,
+    ghost within: { at ≤ length text.now },
 }
 
 impl<'a> Writer<'a> {
+    ghost use Rattle.text.specs.Writing.{Puts};
+
     // Starts at the front of a text.
     pub fn new(text: &'a mut [u8]) -> Writer<'a>
         ensures same_reference { result.text.ghost_name ≡ text.entry.ghost_name }
@@ -26,7 +28,6 @@ impl<'a> Writer<'a> {
 
     // Returns what was put so far.
     pub fn written(&self) -> &[u8]
-        requires { self.now.at ≤ length self.now.text.now }
         ensures { result.now ≡ take self.now.at self.now.text.now }
     {
         &self.text[..self.at]

@@ -16,5 +16,5 @@ totals_below regions blocks end = map (total_of regions blocks) (rising (has_lab
 abbrev pub counted_lines : (regions blocks : List ℕ) (end : ℕ) → List ℕ
 counted_lines regions blocks end =
     up_to (λ label.
-        cond (ltb 0 (get_or regions label 0))
-        (label_line (record { label = label; regions = get_or regions label 0; blocks = get_or blocks label 0 })) []) end
+    cond (ltb 0 (get_or regions label 0))
+    (label_line (record { label = label; regions = get_or regions label 0; blocks = get_or blocks label 0 })) []) end

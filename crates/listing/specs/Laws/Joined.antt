@@ -3,25 +3,26 @@
 -- answer (`call-written`, `call-end`). After one that refused, but not with 16, the listing is the refusal's line (`refused-listing`,
 -- `refused-joined`), and there is no part (`refused-parts`). The program lends what it takes (`program-room`, `program-sixteen`).
 use Rattle.std.specs.Prelude.{ℕ, zero, suc, ◌+◌, ◌-◌, ◌*◌, ◌≤◌, ◌<◌, ◌⊎◌, ◌≡◌, refl, Bool, true, false, ltb, length, take, drop}
+use Rattle.std.specs.Prelude.{Result, Ok, Err}
 use Rattle.std.proofs.Common.{arith, inl, inr, sym, ◌∙◌, subst, eq-eqb, ne_eqb, lt-ltb, le-ltb, le-leb, ltb-true, ltb-false}
 use Rattle.std.proofs.Math.Path.{ap, ap₂}
 use mathlib.Core.List.{List, [], ◌∷◌, ◌++◌, map}
 use Rattle.std.proofs.Math.Seq.{take-append_seam}
-use Rattle.partition.specs.Passed.{Model, Region, Answer, refusal, accepted, read_table}
+use Rattle.partition.specs.Passed.{Model, Region, Answer, Refusal, number, refusal, accepted, read_table}
 use Rattle.partition.specs.Passed.{last_blocks, room_for, max_entries, entry_bytes}
 use Rattle.partition.specs.Instances.{graph}
-use Rattle.partition.specs.Calls.{reduce_of}
+use Rattle.partition.specs.Calls.{reduce_of, counts}
 use Rattle.partition.specs.Promises.{Reduced}
 use Rattle.partition.specs.Laws.Calls.{on-accepted}
 use Rattle.partition.specs.Laws.Left.{reduced-first, reduced-second, reduced-refused, no-sixteen}
 use Rattle.partition.specs.Left.{Left}
-use Rattle.partition.specs.declared.calls.Reduction.TheVariants as B
+use Rattle.table.specs.declared.refusals.Reason.TheVariants.{ShortList}
 use Rattle.text.specs.Text.{up_to}
 use Rattle.listing.specs.Printed.{first_line, region_line, block_lines, region_record, block_record, printed, printed_graph, refusal_line}
 use Rattle.listing.specs.Printed.{listing}
 use Rattle.listing.specs.Printed.{region_records, block_records, totals_text}
-use Rattle.listing.specs.Parts.{part_count, block_part, line_part, part_text, is_borne, text_from, text_of, fitted, bytes_in, buffer_after}
-use Rattle.listing.specs.Parts.{part_from, part_of, most_bytes, Parted}
+use Rattle.listing.specs.Parts.{part_count, block_part, line_part, part_text, is_borne, text_from, text_of, fitted, bytes_in}
+use Rattle.listing.specs.Parts.{bytes_told, buffer_after, part_from, part_of, most_bytes, Parted}
 use Rattle.text.specs.Laws.Texts.{upto-same, upto_add, each-upto}
 use Rattle.totals.specs.Laws.Counts.{totals-some}
 use Rattle.listing.specs.Laws.Buffers.{fitted-written}
@@ -143,7 +144,7 @@ module _ (table : List ℕ) (cap n b k : ℕ) (entries list : List ℕ) (left : 
   listing-is : listing table cap ≡ printed model found numbers b k
   unfolding listing
   listing-is =
-      on-accepted refusal_line printed_graph table cap left.from
+      on-accepted (λ reason place. refusal_line (number reason) place) printed_graph table cap left.from
       ∙ ap₂ (λ (x y : ℕ). printed model found numbers x y) (sym left.blocks-are) (sym left.rounds-are)
 
   left-joined : up_to (text_of table entries list n b k) (part_count n b) ≡ listing table cap
@@ -163,7 +164,7 @@ module _ (table : List ℕ) (cap n b k : ℕ) (entries list : List ℕ) (left : 
 
   -- The answer of a part call.
   left-answer : (part room : ℕ)
-      → part_of table entries list n b k part room ≡ fitted (text_of table entries list n b k part) room
+      → part_of table entries list n b k part room ≡ Ok (fitted (text_of table entries list n b k part) room)
   unfolding part_of
   left-answer part room =
       ap (λ (a : Answer). part_from a (text_of table entries list n b k part) room) left.from.read
@@ -183,7 +184,7 @@ fitted-front text buffer fits =
 
 -- A partition call succeeded: it answered n regions, b blocks and k rounds. `list` is either of the two block lists that it left.
 module _ (table entries first second : List ℕ) (n b k : ℕ) (entries' first' second' : List ℕ)
-    (reduced : Reduced table entries first second (B.Blocks n b k) entries' first' second')
+    (reduced : Reduced table entries first second (Ok (counts n b k)) entries' first' second')
     (list : List ℕ) (either : (list ≡ first') ⊎ (list ≡ second')) where
   left-either : Left table (room_for (length entries)) n b k entries' list
   left-either = go either
@@ -209,76 +210,79 @@ module _ (table entries first second : List ℕ) (n b k : ℕ) (entries' first' 
   parts-some = left-some table (room_for (length entries)) n b k entries' list left-either
 
   -- What a part call answers for a text.
-  pub parts-answer : (part room : ℕ) → part_of table entries' list n b k part room ≡ fitted (text_of table entries' list n b k part) room
+  pub parts-answer : (part room : ℕ)
+      → part_of table entries' list n b k part room ≡ Ok (fitted (text_of table entries' list n b k part) room)
   parts-answer = left-answer table (room_for (length entries)) n b k entries' list left-either
 
   -- One part call with what the partition call left.
-  module _ (part : ℕ) (buffer : List ℕ) (answer : Part) (buffer' : List ℕ)
+  module _ (part : ℕ) (buffer : List ℕ) (answer : Result Part Refusal) (buffer' : List ℕ)
       (call : Parted table entries' list n b k part buffer answer buffer') where
-    answer-fits : answer ≡ fitted (text_of table entries' list n b k part) (length buffer)
+    answer-fits : answer ≡ Ok (fitted (text_of table entries' list n b k part) (length buffer))
     answer-fits =
         call.answer-is ∙ parts-answer part (length buffer)
 
     -- Past the last part it says that there is none.
-    pub call-end : part_count n b ≤ part → answer ≡ P.End
-    call-end past = answer-fits ∙ ap (λ (t : List ℕ). fitted t (length buffer)) (parts-end part past)
+    pub call-end : part_count n b ≤ part → answer ≡ Ok P.End
+    call-end past = answer-fits ∙ ap (λ (t : List ℕ). Ok (fitted t (length buffer))) (parts-end part past)
 
     module _ (below : part < part_count n b) (room : length (text_of table entries' list n b k part) ≤ length buffer) where
       -- Else it writes, where the buffer has room for the part,
-      pub call-written : answer ≡ P.Written (length (text_of table entries' list n b k part))
+      pub call-written : answer ≡ Ok (P.Written (length (text_of table entries' list n b k part)))
       call-written =
-          answer-fits ∙ fitted-written (text_of table entries' list n b k part) (length buffer) (parts-some part below) room
+          answer-fits ∙ ap Ok (fitted-written (text_of table entries' list n b k part) (length buffer) (parts-some part below) room)
 
       -- and as many bytes of the buffer as it says are the part.
-      pub call-wrote : take (bytes_in answer) buffer' ≡ text_of table entries' list n b k part
+      pub call-wrote : take (bytes_told answer) buffer' ≡ text_of table entries' list n b k part
       call-wrote =
-          ap₂ (λ (a : Part) (l : List ℕ). take (bytes_in a) l) call-written call.buffer-is
+          ap₂ (λ (a : Result Part Refusal) (l : List ℕ). take (bytes_told a) l) call-written call.buffer-is
           ∙ fitted-front (text_of table entries' list n b k part) buffer room
 
   -- "Joined they are the listing." Part calls are made with what the partition call left, for each part below `part_count n b`, where call
   -- `part` is lent `buffers part`, which has room for the part, and leaves `buffers' part`. Of each buffer take the bytes at its
   -- front, as many as the answer says: these, joined in the order of the parts, are the listing of the table with as much room as
   -- was lent to the partition call. (Buffers may be one and the same, lent again and again.)
-  pub joined : (buffers : ℕ → List ℕ) (answers : ℕ → Part) (buffers' : ℕ → List ℕ)
+  pub joined : (buffers : ℕ → List ℕ) (answers : ℕ → Result Part Refusal) (buffers' : ℕ → List ℕ)
       → (calls : (part : ℕ) → part < part_count n b
       → Parted table entries' list n b k part (buffers part) (answers part) (buffers' part))
       → (room : (part : ℕ) → part < part_count n b → length (text_of table entries' list n b k part) ≤ length (buffers part))
-      → up_to (λ part. take (bytes_in (answers part)) (buffers' part)) (part_count n b) ≡ listing table (room_for (length entries))
+      → up_to (λ part. take (bytes_told (answers part)) (buffers' part)) (part_count n b) ≡ listing table (room_for (length entries))
   joined buffers answers buffers' calls room =
-      upto-same (λ part. take (bytes_in (answers part)) (buffers' part)) (text_of table entries' list n b k) (part_count n b)
+      upto-same (λ part. take (bytes_told (answers part)) (buffers' part)) (text_of table entries' list n b k) (part_count n b)
       (λ part h. call-wrote part (buffers part) (answers part) (buffers' part) (calls part h) h (room part h))
       ∙ parts-joined
 
   -- A buffer of 65,536 bytes is enough for each call.
-  pub joined-most : (buffers : ℕ → List ℕ) (answers : ℕ → Part) (buffers' : ℕ → List ℕ)
+  pub joined-most : (buffers : ℕ → List ℕ) (answers : ℕ → Result Part Refusal) (buffers' : ℕ → List ℕ)
       → (calls : (part : ℕ) → part < part_count n b
       → Parted table entries' list n b k part (buffers part) (answers part) (buffers' part))
       → (room : (part : ℕ) → part < part_count n b → most_bytes ≤ length (buffers part))
-      → up_to (λ part. take (bytes_in (answers part)) (buffers' part)) (part_count n b) ≡ listing table (room_for (length entries))
+      → up_to (λ part. take (bytes_told (answers part)) (buffers' part)) (part_count n b) ≡ listing table (room_for (length entries))
   joined-most buffers answers buffers' calls room =
       joined buffers answers buffers' calls (λ part h. omega (arith, (calls part h).enough, room part h))
 
 -- ---- A table that is refused
 
 -- Where the partition call refused, and not since a lent block list is too short (16), the listing is the refusal's line.
-pub refused-listing : (table entries first second : List ℕ) (number place : ℕ) (entries' first' second' : List ℕ)
-    → Reduced table entries first second (B.Refused number place) entries' first' second' → (number ≡ 16 → ⊥)
-    → listing table (room_for (length entries)) ≡ refusal_line number place
+pub refused-listing : (table entries first second : List ℕ) (r : Refusal) (entries' first' second' : List ℕ)
+    → Reduced table entries first second (Err r) entries' first' second' → (r.reason ≡ ShortList → ⊥)
+    → listing table (room_for (length entries)) ≡ refusal_line (number r.reason) r.place
 unfolding listing
-refused-listing table entries first second number place entries' first' second' reduced other =
-    reduced-refused refusal_line printed_graph table (room_for (length entries)) first second number place reduced.answer-is other
+refused-listing table entries first second r entries' first' second' reduced other =
+    reduced-refused (λ reason place. refusal_line (number reason) place) printed_graph table (room_for (length entries)) first second r
+    reduced.answer-is other
 
 -- Where that line was given to a buffer that has room for it, as many bytes of the buffer as the answer says are the listing.
-pub refused-joined : (table entries first second : List ℕ) (number place : ℕ) (entries' first' second' : List ℕ)
-    → Reduced table entries first second (B.Refused number place) entries' first' second' → (number ≡ 16 → ⊥)
-    → (buffer : List ℕ) (answer : Part) (buffer' : List ℕ) → answer ≡ fitted (refusal_line number place) (length buffer)
-    → buffer' ≡ buffer_after (refusal_line number place) buffer → length (refusal_line number place) ≤ length buffer
+pub refused-joined : (table entries first second : List ℕ) (r : Refusal) (entries' first' second' : List ℕ)
+    → Reduced table entries first second (Err r) entries' first' second' → (r.reason ≡ ShortList → ⊥)
+    → (buffer : List ℕ) (answer : Part) (buffer' : List ℕ) → answer ≡ fitted (refusal_line (number r.reason) r.place) (length buffer)
+    → buffer' ≡ buffer_after (refusal_line (number r.reason) r.place) buffer
+    → length (refusal_line (number r.reason) r.place) ≤ length buffer
     → take (bytes_in answer) buffer' ≡ listing table (room_for (length entries))
-refused-joined table entries first second number place entries' first' second' reduced other buffer answer buffer' e f room =
-    let line : List ℕ = refusal_line number place in
+refused-joined table entries first second r entries' first' second' reduced other buffer answer buffer' e f room =
+    let line : List ℕ = refusal_line (number r.reason) r.place in
     ap₂ (λ (a : Part) (l : List ℕ). take (bytes_in a) l) (e ∙ fitted-written line (length buffer) (some line _ _ refl) room) f
     ∙ fitted-front line buffer room
-    ∙ sym (refused-listing table entries first second number place entries' first' second' reduced other)
+    ∙ sym (refused-listing table entries first second r entries' first' second' reduced other)
 
 -- A host that goes on with the zeros of an answer that refuses gets no part: nothing comes after the refusal's line.
 pub refused-parts : (table entries list : List ℕ) (part : ℕ) → text_of table entries list 0 0 0 part ≡ []
@@ -289,7 +293,7 @@ refused-parts table entries list part = by_answer (read_table table)
     none = sym (borne-none 0 0 (length entries) (length list) (omega arith) (omega arith) (omega arith) (omega arith))
 
     by_answer : (a : Answer) → text_from a entries list 0 0 0 part ≡ []
-    by_answer (refusal number place) = refl
+    by_answer (refusal reason place) = refl
     by_answer (accepted m) = rw none refl
 
 -- ---- What the program lends
@@ -299,8 +303,7 @@ pub program-room : room_for 18432 ≡ 2048
 program-room = refl
 
 -- With lists of 2,048 numbers the partition call then does not refuse with 16.
-pub program-sixteen : (table first second : List ℕ) (number place : ℕ)
-    → B.Refused number place ≡ reduce_of table (room_for 18432) first second → length first ≡ 2048 → length second ≡ 2048
-    → number ≡ 16 → ⊥
-program-sixteen table first second number place e one two =
-    no-sixteen table (room_for 18432) first second number place e (omega (arith, program-room, one)) (omega (arith, program-room, two))
+pub program-sixteen : (table first second : List ℕ) (r : Refusal)
+    → Err r ≡ reduce_of table (room_for 18432) first second → length first ≡ 2048 → length second ≡ 2048 → r.reason ≡ ShortList → ⊥
+program-sixteen table first second r e one two =
+    no-sixteen table (room_for 18432) first second r e (omega (arith, program-room, one)) (omega (arith, program-room, two))

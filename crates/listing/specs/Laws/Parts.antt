@@ -1,50 +1,50 @@
 -- For the code of the parts: a text that was put together and given to a buffer, the lines of a region and of a block from what the
 -- layer beneath says of them, and which part a number is.
-use Rattle.std.specs.Prelude.{ℕ, zero, suc, ◌+◌, ◌-◌, ◌*◌, ◌≤◌, ◌<◌, ◌≡◌, refl, Bool, true, false, cond, ◌&&◌, leb, ltb, get_or, take, drop}
+use Rattle.std.specs.Prelude.{ℕ, zero, suc, ◌+◌, ◌-◌, ◌*◌, ◌≤◌, ◌<◌, ◌≡◌, refl, Bool, true, false, cond, ◌&&◌, leb, ltb}
+use Rattle.std.specs.Prelude.{get_or, take, drop, replicate, Option, Some, None, Result, Ok, Err, IfOk}
 use Rattle.std.proofs.Common.{arith, ◌∙◌, ap₂, length-append, take_at, eq-eqb, ne_eqb, lt-ltb, le-ltb, le-leb, leb-true, ltb-true}
 use Rattle.std.proofs.Math.Path.{sym, ap, subst}
 use Rattle.std.proofs.lemmas.Bool.{false≢true, lt-leb}
 use mathlib.Core.List.{List, [], ◌∷◌, ◌++◌, append-nil}
-use Rattle.std.proofs.Math.ListN.{length}
+use Rattle.std.proofs.Math.ListN.{length, length-replicate}
 use Rattle.partition.specs.Passed.{Model, Region, Finite, Answer, refusal, accepted, read_table, entry_bytes, max_entries, listed}
+use Rattle.partition.specs.Passed.{Refusal, Seen}
 use Rattle.partition.specs.Instances.{region_of, graph}
-use Rattle.partition.specs.View.{entry_of, Alone, is_seen, showing_of}
+use Rattle.partition.specs.View.{entry_in, Alone, is_seen, item_of, showing_of}
 use Rattle.partition.specs.Laws.View.{listed-length, entry_listed, entry-small, item-shown, item-model, item-seen, seen_here}
-use Rattle.partition.specs.declared.view.Showing.{Showing}
-use Rattle.partition.specs.declared.view.Showing.TheVariants as S
-use Rattle.partition.specs.declared.view.Entry.{Entry}
 use Rattle.text.specs.Text.{up_to, each}
-use Rattle.listing.specs.Printed.{ClockRecord, RegionRecord, StepRecord, step_of, step_line}
+use Rattle.listing.specs.Printed.{StepRecord, record_of, step_of, step_line}
 use Rattle.listing.specs.Printed.{first_line, region_line, block_line, delay_line_of}
 use Rattle.listing.specs.Printed.{other_blocks, lowest_of, size_below, region_record, block_record, block_lines}
 use Rattle.listing.specs.Printed.{region_records, block_records, totals_text}
 use Rattle.listing.specs.Slices.{step_at, step_text_at, row_room}
-use Rattle.text.specs.Writing.{Adds}
+use Rattle.text.specs.declared.writing.Writer.{Writer}
+use Rattle.text.specs.Writing.{Puts}
 use Rattle.listing.specs.Parts.{line_part, part_text, is_borne, text_from, text_of, part_from}
 use Rattle.listing.specs.Parts.{part_of, fitted, buffer_after, Within, most_bytes}
 use Rattle.listing.specs.Parts.{most_parts, Fits, Past, Gives, Parted}
 use Rattle.listing.specs.Laws.Lengths.{region-fits}
 use Rattle.text.specs.Laws.Texts.{each_append}
-use Rattle.text.specs.Laws.Writing.{adds-all}
+use Rattle.text.specs.Laws.Writer.{puts-all}
 use Rattle.listing.specs.declared.parts.Part.{Part}
 use Rattle.listing.specs.declared.parts.Part.TheVariants as P
 
 -- ---- A text that was put together
 
-pub adds-within : {text text' : List ℕ} {k : ℕ} {bytes : List ℕ} → Adds text 0 text' k bytes → length bytes ≤ length text
-    → k ≤ length text'
-adds-within a room = omega (arith, (adds-all a room).0, room, a.as_long)
+-- In a room of n bytes, from its front on.
+module _ {a b : Writer} {bytes : List ℕ} (n : ℕ) (front : a.at ≡ 0) (room : a.text.now ≡ replicate n 0) (p : Puts a b bytes)
+    (fits : length bytes ≤ n) (text : List ℕ) (written : text ≡ take b.at b.text.now) where
+  pub put-written : text ≡ bytes
+  put-written = written ∙ (puts-all p front (omega (arith, fits, ap length room, length-replicate {A = ℕ} n 0))).1
 
-pub gives-text : {text text' : List ℕ} {k : ℕ} {bytes : List ℕ} → Adds text 0 text' k bytes → length bytes ≤ length text
-    → length bytes ≤ most_bytes → (buffer : List ℕ) (answer : Part) (buffer' : List ℕ) → answer ≡ fitted (take k text') (length buffer)
-    → buffer' ≡ buffer_after (take k text') buffer → Gives bytes buffer answer buffer'
-gives-text a room most buffer answer buffer' e f =
-    let is = (adds-all a room).1 in
-    record {
-      answer-is = e ∙ ap (λ (l : List ℕ). fitted l (length buffer)) is;
-      buffer-is = f ∙ ap (λ (l : List ℕ). buffer_after l buffer) is;
-      enough = most;
-    }
+  pub gives-put : n ≤ most_bytes → (buffer : List ℕ) (answer : Part) (buffer' : List ℕ)
+      → answer ≡ fitted text (length buffer) → buffer' ≡ buffer_after text buffer → Gives bytes buffer answer buffer'
+  gives-put most buffer answer buffer' e f =
+      record {
+        answer-is = e ∙ ap (λ (l : List ℕ). fitted l (length buffer)) put-written;
+        buffer-is = f ∙ ap (λ (l : List ℕ). buffer_after l buffer) put-written;
+        enough = omega (arith, fits, most);
+      }
 
 pub gives_same : {text text' : List ℕ} (buffer : List ℕ) (answer : Part) (buffer' : List ℕ) → text ≡ text'
     → Gives text buffer answer buffer' → Gives text' buffer answer buffer'
@@ -60,44 +60,19 @@ gives-end buffer = record { answer-is = refl; buffer-is = sym (whole (leb 0 (len
 
 -- ---- The line of a region
 
--- As the code makes it, of an entry. The label is any, since the line does not print it.
-abbrev pub entry_record : (x label block clocks : ℕ) → Entry → RegionRecord
-entry_record x label block clocks entry =
-    record {
-      number = x;
-      location = entry.location;
-      label = label;
-      block = block;
-      clocks = up_to (λ i. record { whole = get_or entry.whole i 0; rank = get_or entry.rank i 0 } ∷ []) clocks;
-    }
-
-pub region-room : (es : List ℕ) → ((k : ℕ) → get_or es k 0 < 256) → (x label block clocks : ℕ) (entry : Entry) → entry ≡ entry_of es x
+pub region-room : (es : List ℕ) → ((k : ℕ) → get_or es k 0 < 256) → (x block clocks : ℕ)
     → x < 18446744073709551616 → block < 18446744073709551616 → clocks ≤ 4
-    → length (region_line (entry_record x label block clocks entry)) ≤ 256
-region-room es small x label block clocks entry e hx hb few =
+    → length (region_line (record_of x 0 block clocks (entry_in es x))) ≤ 256
+region-room es small x block clocks hx hb few =
     let bytes = entry-small es small x in
-    subst (λ (q : Entry). length (region_line (entry_record x label block clocks q)) ≤ 256) (sym e)
-    (region-fits x (entry_of es x).location block clocks (entry_of es x).whole (entry_of es x).rank hx (omega (arith, bytes.0)) hb few
-    (λ i h. bytes.1 i) (λ i h. bytes.2 i) label)
+    region-fits x (entry_in es x).location block clocks (entry_in es x).whole (entry_in es x).rank hx (omega (arith, bytes.0)) hb few
+    (λ i h. bytes.1 i) (λ i h. bytes.2 i) 0
 
-pub region-text : (m : Model) (es list : List ℕ) (n x label block clocks : ℕ) (entry : Entry) → entry ≡ entry_of es x → x < n
-    → n ≤ max_entries → clocks ≡ m.clocks → block ≡ get_or list x 0
-    → region_line (entry_record x label block clocks entry) ≡ region_line (region_record m (listed es n) list x)
-region-text m es list n x label block clocks entry from h few same is =
-    let q : Region = region_of m (listed es n) x in
-    let parts = entry_listed m es n x h few q refl in
-    let clocks_of : List ℕ → List ℕ → ℕ → List ClockRecord =
-    λ w r k. up_to (λ i. record { whole = get_or w i 0; rank = get_or r i 0 } ∷ []) k in
-    let made : ℕ → ℕ → List ClockRecord → RegionRecord =
-    λ l b k. record { number = x; location = l; label = label; block = b; clocks = k } in
-    ap (λ (entry : Entry). region_line (entry_record x label block clocks entry)) from
-    ∙ ap region_line
-    (ap (λ (l : ℕ). made l block (clocks_of (entry_of es x).whole (entry_of es x).rank clocks)) parts.0
-    ∙ ap (λ (b : ℕ). made q.location b (clocks_of (entry_of es x).whole (entry_of es x).rank clocks)) is
-    ∙ ap (made q.location (get_or list x 0))
-    (ap (λ (w : List ℕ). clocks_of w (entry_of es x).rank clocks) parts.1
-    ∙ ap (λ (r : List ℕ). clocks_of q.whole r clocks) parts.2
-    ∙ ap (clocks_of q.whole q.rank) same))
+pub region-text : (m : Model) (es list : List ℕ) (n x : ℕ) → x < n → n ≤ max_entries
+    → region_line (record_of x 0 (get_or list x 0) m.clocks (entry_in es x)) ≡ region_line (region_record m (listed es n) list x)
+region-text m es list n x h few =
+    ap (λ (r : Region). region_line (record_of x 0 (get_or list x 0) m.clocks r))
+    (entry_listed m es n x h few (region_of m (listed es n) x) refl)
 
 -- ---- The lines of a block
 
@@ -165,57 +140,11 @@ module _ (F : Finite) (list : List ℕ) (count b : ℕ) (delays delays' rows : L
   few-rows edges ee e h is =
       alone.few e (omega (arith, h, ee)) (alone.available e (omega (arith, h, ee)) ∙ eq-eqb (get_or rows (32 * e) 0) 1 is)
 
--- The same from what the layer beneath says of the lowest region.
-module _ (table es list : List ℕ) (n count b low wide rowed : ℕ) (lowest : low ≡ lowest_of list b) (delays delays' rows : List ℕ)
-    (long : length delays' ≡ length delays) (seen : is_seen n low (length es) wide rowed ≡ true)
-    (told : (m : Model) → read_table table ≡ accepted m → is_seen n low (length es) wide rowed ≡ true
-    → Alone (graph m (listed es n)) low delays delays' rows)
-    (label reached edges : ℕ)
-    (shown : S.Item label reached edges ≡ showing_of (is_seen n low (length es) wide rowed) es n low (read_table table)) where
-  is-alone : (m : Model) → read_table table ≡ accepted m → Alone (graph m (listed es n)) (lowest_of list b) delays delays' rows
-  is-alone m read = subst (λ (x : ℕ). Alone (graph m (listed es n)) x delays delays' rows) lowest (told m read seen)
-
-  is-item : (m : Model) → read_table table ≡ accepted m → (label ≡ (graph m (listed es n)).label low)
-      × (reached ≡ length ((graph m (listed es n)).delays low)) × (edges ≡ (graph m (listed es n)).edges)
-  is-item m read =
-      item-shown m es n low (is_seen n low (length es) wide rowed) seen label reached edges
-      (shown ∙ ap (showing_of (is_seen n low (length es) wide rowed) es n low) read)
-
-  some-model : (m : Model) × (read_table table ≡ accepted m)
-  some-model = item-model table es n low (is_seen n low (length es) wide rowed) label reached edges shown
-
-  reached-is : (m : Model) → read_table table ≡ accepted m → reached ≡ length ((graph m (listed es n)).delays (lowest_of list b))
-  reached-is m read = (is-item m read).1 ∙ ap (λ (x : ℕ). length ((graph m (listed es n)).delays x)) lowest
-
-  pub item-reached : reached ≤ length delays'
-  item-reached =
-      let (m, read) = some-model in
-      reached-few (graph m (listed es n)) list count b delays delays' rows (is-alone m read) reached (reached-is m read) long
-
-  pub item-edges : edges ≤ 128
-  item-edges =
-      let (m, read) = some-model in
-      omega (arith, (is-item m read).2, (is-alone m read).few-edges)
-
-  pub item-rows : (e : ℕ) → e < edges → get_or rows (32 * e) 0 ≡ 1 → get_or rows (32 * e + 3) 0 ≤ 8
-  item-rows =
-      let (m, read) = some-model in
-      few-rows (graph m (listed es n)) list count b delays delays' rows (is-alone m read) edges (is-item m read).2
-
-  pub item-text : (m : Model) → read_table table ≡ accepted m
-      → block_line (record { number = b; label = label; size = size_below list b (length list); delays = []; steps = [] })
-      ++ (delay_line_of b (other_blocks list count b (take reached delays')) ++ up_to (step_text_at list rows count b) edges)
-      ≡ block_lines (block_record (graph m (listed es n)) list count b)
-  item-text m read =
-      block-text (graph m (listed es n)) list count b delays delays' rows (is-alone m read) label edges (take reached delays')
-      ((is-item m read).0 ∙ ap (graph m (listed es n)).label lowest) (is-item m read).2
-      (reached-front (graph m (listed es n)) list count b delays delays' rows (is-alone m read) reached (reached-is m read) long)
-
--- The same where there are so many blocks in the list and the slices lent have room: the lowest region is seen.
-module _ (table es list : List ℕ) (count b low : ℕ) (delays rowed : List ℕ) (answer : Showing)
-    (counts : (b < count) × (count ≤ length list) × (length list ≤ max_entries) × (entry_bytes * length list ≤ length es))
-    (lowest : (low ≡ lowest_of list b) × (low ≤ length list) × (0 < length list → low < length list))
-    (wide : length delays ≡ 4097) (long : length rowed ≡ 4096)
+-- The same from what the layer beneath says of the lowest region, where the slices lent have room: it is seen.
+module _ (table es list : List ℕ) (count b low : ℕ) (delays rowed : List ℕ) (answer : Result (Option Seen) Refusal)
+    (below : b < count) (fewer : count ≤ length list) (few : length list ≤ max_entries) (long : entry_bytes * length list ≤ length es)
+    (lowest : low ≡ lowest_of list b) (within : 0 < length list → low < length list)
+    (wide : length delays ≡ 4097) (roomy : length rowed ≡ 4096)
     (shown : answer
     ≡ showing_of (is_seen (length list) low (length es) (length delays) (length rowed)) es (length list) low (read_table table)) where
   abbrev sees : Bool
@@ -223,49 +152,64 @@ module _ (table es list : List ℕ) (count b low : ℕ) (delays rowed : List ℕ
 
   lowest-seen : sees ≡ true
   lowest-seen =
-      seen_here (length list) low (length es) (length delays) (length rowed) counts.2 (lowest.2 (omega (arith, counts.0, counts.1)))
-      counts.3 (omega (arith, counts.2, wide)) (omega (arith, long))
+      seen_here (length list) low (length es) (length delays) (length rowed) few (within (omega (arith, below, fewer)))
+      long (omega (arith, few, wide)) (omega (arith, roomy))
 
   -- No other answer is given of a table that was read.
-  pub never-refused : (m : Model) → read_table table ≡ accepted m → (number place : ℕ) → answer ≡ S.Refused number place → ⊥
-  never-refused m read number place is =
-      (item-seen m es (length list) low sees lowest-seen).0 number place
+  pub never-refused : (m : Model) → read_table table ≡ accepted m → (r : Refusal) → answer ≡ Err r → ⊥
+  never-refused m read r is =
+      (item-seen m es (length list) low sees lowest-seen).0 r
       (sym is ∙ shown ∙ ap (λ (a : Answer). showing_of sees es (length list) low a) read)
 
-  pub never-unseen : (m : Model) → read_table table ≡ accepted m → answer ≡ S.Unseen → ⊥
+  pub never-unseen : (m : Model) → read_table table ≡ accepted m → answer ≡ Ok None → ⊥
   never-unseen m read is =
       (item-seen m es (length list) low sees lowest-seen).1
       (sym is ∙ shown ∙ ap (λ (a : Answer). showing_of sees es (length list) low a) read)
 
   module _ (delays' rows : List ℕ) (kept : length delays' ≡ length delays)
-      (told : (m : Model) → read_table table ≡ accepted m
-      → is_seen (length list) low (length es) (length delays) (length rowed) ≡ true
+      (told : (m : Model) → read_table table ≡ accepted m → sees ≡ true
       → Alone (graph m (listed es (length list))) low delays delays' rows)
-      (label reached edges : ℕ) (is : answer ≡ S.Item label reached edges) where
-    pub lowest-reached : reached ≤ length delays'
+      (seen : Seen) (is : answer ≡ Ok (Some seen)) where
+    is-alone : (m : Model) → read_table table ≡ accepted m
+        → Alone (graph m (listed es (length list))) (lowest_of list b) delays delays' rows
+    is-alone m read =
+        subst (λ (x : ℕ). Alone (graph m (listed es (length list))) x delays delays' rows) lowest (told m read lowest-seen)
+
+    is-item : (m : Model) → read_table table ≡ accepted m → seen ≡ item_of (graph m (listed es (length list))) (lowest_of list b)
+    is-item m read =
+        item-shown m es (length list) low sees lowest-seen seen (sym is ∙ shown ∙ ap (showing_of sees es (length list) low) read)
+        ∙ ap (item_of (graph m (listed es (length list)))) lowest
+
+    some-model : (m : Model) × (read_table table ≡ accepted m)
+    some-model = item-model table es (length list) low sees seen (sym is ∙ shown)
+
+    pub lowest-reached : seen.reached ≤ length delays'
     lowest-reached =
-        item-reached table es list (length list) count b low (length delays) (length rowed) lowest.0 delays delays' rows kept
-        lowest-seen told label reached edges (sym is ∙ shown)
+        let (m, read) = some-model in
+        reached-few (graph m (listed es (length list))) list count b delays delays' rows (is-alone m read) seen.reached
+        (ap (λ (s : Seen). s.reached) (is-item m read)) kept
 
-    pub lowest-edges : edges ≤ 128
+    pub lowest-edges : seen.edges ≤ 128
     lowest-edges =
-        item-edges table es list (length list) count b low (length delays) (length rowed) lowest.0 delays delays' rows kept
-        lowest-seen told label reached edges (sym is ∙ shown)
+        let (m, read) = some-model in
+        omega (arith, ap (λ (s : Seen). s.edges) (is-item m read), (is-alone m read).few-edges)
 
-    pub lowest-rows : (e : ℕ) → e < edges → get_or rows (32 * e) 0 ≡ 1 → get_or rows (32 * e + 3) 0 ≤ 8
+    pub lowest-rows : (e : ℕ) → e < seen.edges → get_or rows (32 * e) 0 ≡ 1 → get_or rows (32 * e + 3) 0 ≤ 8
     lowest-rows =
-        item-rows table es list (length list) count b low (length delays) (length rowed) lowest.0 delays delays' rows kept
-        lowest-seen told label reached edges (sym is ∙ shown)
+        let (m, read) = some-model in
+        few-rows (graph m (listed es (length list))) list count b delays delays' rows (is-alone m read) seen.edges
+        (ap (λ (s : Seen). s.edges) (is-item m read))
 
-    pub lowest-gives : (m : Model) → read_table table ≡ accepted m → (buffer : List ℕ) (part : Part) (buffer' : List ℕ)
-        → Gives (block_line (record { number = b; label = label; size = size_below list b (length list); delays = []; steps = [] })
-        ++ (delay_line_of b (other_blocks list count b (take reached delays')) ++ up_to (step_text_at list rows count b) edges))
-        buffer part buffer'
-        → Gives (block_lines (block_record (graph m (listed es (length list))) list count b)) buffer part buffer'
-    lowest-gives m read buffer part buffer' =
-        gives_same buffer part buffer'
-        (item-text table es list (length list) count b low (length delays) (length rowed) lowest.0 delays delays' rows kept
-        lowest-seen told label reached edges (sym is ∙ shown) m read)
+    pub lowest-text : (m : Model) → read_table table ≡ accepted m
+        → block_line (record { number = b; label = seen.label; size = size_below list b (length list); delays = []; steps = [] })
+        ++ (delay_line_of b (other_blocks list count b (take seen.reached delays')) ++ up_to (step_text_at list rows count b) seen.edges)
+        ≡ block_lines (block_record (graph m (listed es (length list))) list count b)
+    lowest-text m read =
+        let F : Finite = graph m (listed es (length list)) in
+        let item = is-item m read in
+        block-text F list count b delays delays' rows (is-alone m read) seen.label seen.edges (take seen.reached delays')
+        (ap (λ (s : Seen). s.label) item) (ap (λ (s : Seen). s.edges) item)
+        (reached-front F list count b delays delays' rows (is-alone m read) seen.reached (ap (λ (s : Seen). s.reached) item) kept)
 
 -- ---- Which part
 
@@ -385,20 +329,21 @@ past-text m entries list regions blocks rounds part h = go (is_borne regions blo
 
 -- ---- The part call
 
-from-fits : (a : Answer) (text : List ℕ) (room : ℕ) → length text ≤ room → Fits (part_from a text room)
-from-fits (refusal number place) text room h = tt
+from-fits : (a : Answer) (text : List ℕ) (room : ℕ) → length text ≤ room → IfOk (part_from a text room) Fits
+from-fits (refusal reason place) text room h = tt
 from-fits (accepted m) text room h = fitted-fits text room h
 
 from_past : (a : Answer) (entries list : List ℕ) (regions blocks rounds part room : ℕ) → most_parts ≤ part
-    → Past (part_from a (text_from a entries list regions blocks rounds part) room)
-from_past (refusal number place) entries list regions blocks rounds part room h = tt
+    → IfOk (part_from a (text_from a entries list regions blocks rounds part) room) Past
+from_past (refusal reason place) entries list regions blocks rounds part room h = tt
 from_past (accepted m) entries list regions blocks rounds part room h =
     fitted-past (text_from (accepted m) entries list regions blocks rounds part) room
     (past-text m entries list regions blocks rounds part h)
 
 module _ (table entries list : List ℕ) (regions blocks rounds part : ℕ) (buffer : List ℕ) where
   -- Room and number of the parts follow from the answer and the length.
-  pub parted : (answer : Part) (buffer' : List ℕ) → answer ≡ part_of table entries list regions blocks rounds part (length buffer)
+  pub parted : (answer : Result Part Refusal) (buffer' : List ℕ)
+      → answer ≡ part_of table entries list regions blocks rounds part (length buffer)
       → buffer' ≡ buffer_after (text_of table entries list regions blocks rounds part) buffer
       → length (text_of table entries list regions blocks rounds part) ≤ most_bytes
       → Parted table entries list regions blocks rounds part buffer answer buffer'
@@ -409,23 +354,23 @@ module _ (table entries list : List ℕ) (regions blocks rounds part : ℕ) (buf
         buffer-is = f;
         enough = few;
         fits = λ h.
-            subst Fits (sym e)
+            subst (λ (a : Result Part Refusal). IfOk a Fits) (sym e)
             (from-fits (read_table table) (text_of table entries list regions blocks rounds part) (length buffer) (omega (arith, few, h)));
         past = λ h.
-            subst Past (sym e) (from_past (read_table table) entries list regions blocks rounds part (length buffer) h);
+            subst (λ (a : Result Part Refusal). IfOk a Past) (sym e)
+            (from_past (read_table table) entries list regions blocks rounds part (length buffer) h);
       }
 
   -- A text that is that of the part, of a table that was read.
   parted-from : (m : Model) → read_table table ≡ accepted m → (text : List ℕ)
       → text ≡ text_from (accepted m) entries list regions blocks rounds part → (answer : Part) (buffer' : List ℕ)
-      → Gives text buffer answer buffer' → Parted table entries list regions blocks rounds part buffer answer buffer'
+      → Gives text buffer answer buffer' → Parted table entries list regions blocks rounds part buffer (Ok answer) buffer'
   unfolding text_of part_of
   parted-from m read text e answer buffer' g =
       let is : text ≡ text_of table entries list regions blocks rounds part =
       e ∙ sym (ap (λ (a : Answer). text_from a entries list regions blocks rounds part) read) in
-      parted answer buffer'
-      (g.answer-is
-      ∙ ap (λ (l : List ℕ). fitted l (length buffer)) is
+      parted (Ok answer) buffer'
+      (ap Ok (g.answer-is ∙ ap (λ (l : List ℕ). fitted l (length buffer)) is)
       ∙ sym (ap (λ (a : Answer). part_from a (text_from (read_table table) entries list regions blocks rounds part) (length buffer)) read))
       (g.buffer-is ∙ ap (λ (l : List ℕ). buffer_after l buffer) is)
       (subst (λ (l : List ℕ). length l ≤ most_bytes) is g.enough)
@@ -433,18 +378,18 @@ module _ (table entries list : List ℕ) (regions blocks rounds part : ℕ) (buf
   pub parted-read : (m : Model) → read_table table ≡ accepted m → is_borne regions blocks (length entries) (length list) ≡ true
       → (answer : Part) (buffer' : List ℕ)
       → Gives (part_text m (listed entries regions) (take regions list) blocks rounds part) buffer answer buffer'
-      → Parted table entries list regions blocks rounds part buffer answer buffer'
+      → Parted table entries list regions blocks rounds part buffer (Ok answer) buffer'
   parted-read m read borne answer buffer' g = parted-from m read _ (rw borne refl) answer buffer' g
 
   pub parted-not : (m : Model) → read_table table ≡ accepted m → is_borne regions blocks (length entries) (length list) ≡ false
-      → Parted table entries list regions blocks rounds part buffer P.End buffer
+      → Parted table entries list regions blocks rounds part buffer (Ok P.End) buffer
   parted-not m read out = parted-from m read [] (rw out refl) P.End buffer (gives-end buffer)
 
-  pub parted-refused : (number place : ℕ) → read_table table ≡ refusal number place
-      → Parted table entries list regions blocks rounds part buffer (P.Refused number place) buffer
+  pub parted-refused : (r : Refusal) → read_table table ≡ refusal r.reason r.place
+      → Parted table entries list regions blocks rounds part buffer (Err r) buffer
   unfolding text_of part_of
-  parted-refused number place read =
-      parted (P.Refused number place) buffer
+  parted-refused r read =
+      parted (Err r) buffer
       (sym (ap (λ (a : Answer). part_from a (text_from (read_table table) entries list regions blocks rounds part) (length buffer)) read))
       ((gives-end buffer).buffer-is
       ∙ sym (ap (λ (a : Answer). buffer_after (text_from a entries list regions blocks rounds part) buffer) read))
@@ -461,13 +406,14 @@ fitted-within (c ∷ l) room = go (leb (length (c ∷ l)) room) refl
     go true e = leb-true (length (c ∷ l)) room e
     go false e = tt
 
-from-within : (a : Answer) (text : List ℕ) (room : ℕ) → Within (part_from a text room) room
-from-within (refusal number place) text room = tt
+from-within : (a : Answer) (text : List ℕ) (room : ℕ) → IfOk (part_from a text room) (λ part. Within part room)
+from-within (refusal reason place) text room = tt
 from-within (accepted m) text room = fitted-within text room
 
-pub parted-within : (table entries list : List ℕ) (regions blocks rounds part : ℕ) (buffer : List ℕ) (answer : Part) (buffer' : List ℕ)
-    → Parted table entries list regions blocks rounds part buffer answer buffer' → Within answer (length buffer)
+pub parted-within : (table entries list : List ℕ) (regions blocks rounds part : ℕ) (buffer : List ℕ) (answer : Result Part Refusal)
+    (buffer' : List ℕ) → Parted table entries list regions blocks rounds part buffer answer buffer'
+    → IfOk answer (λ part. Within part (length buffer))
 unfolding part_of
 parted-within table entries list regions blocks rounds part buffer answer buffer' p =
-    subst (λ (a : Part). Within a (length buffer)) (sym p.answer-is)
+    subst (λ (a : Result Part Refusal). IfOk a (λ part. Within part (length buffer))) (sym p.answer-is)
     (from-within (read_table table) (text_of table entries list regions blocks rounds part) (length buffer))

@@ -10,11 +10,9 @@ abbrev pub clocks_to : (whole rank : List ℕ) → ℕ → List ClockRecord
 clocks_to whole rank n = up_to (λ i. record { whole = get_or whole i 0; rank = get_or rank i 0 } ∷ []) n
 
 -- The text of one clock more.
-pub clocks-on : (whole rank : List ℕ) (i w r : ℕ) → w ≡ get_or whole i 0 → r ≡ get_or rank i 0
-    → each clock_field (clocks_to whole rank i) ++ clock_field (record { whole = w; rank = r })
+pub clocks-on : (whole rank : List ℕ) (i : ℕ)
+    → each clock_field (clocks_to whole rank i) ++ clock_field (record { whole = get_or whole i 0; rank = get_or rank i 0 })
     ≡ each clock_field (clocks_to whole rank (i + 1))
-clocks-on whole rank i w r p q =
-    ap (λ (k : ℕ). each clock_field (clocks_to whole rank i) ++ clock_field (record { whole = k; rank = r })) p
-    ∙ ap (λ (k : ℕ). each clock_field (clocks_to whole rank i) ++ clock_field (record { whole = get_or whole i 0; rank = k })) q
-    ∙ sym (each-up clock_field (λ j. record { whole = get_or whole j 0; rank = get_or rank j 0 }) i)
+clocks-on whole rank i =
+    sym (each-up clock_field (λ j. record { whole = get_or whole j 0; rank = get_or rank j 0 }) i)
     ∙ ap (λ (k : ℕ). each clock_field (clocks_to whole rank k)) (sym (add-one i))

@@ -4,7 +4,7 @@ use Rattle.std.proofs.Common.{sym, ◌∙◌, subst, append_assoc}
 use Rattle.std.proofs.lemmas.List.{take_more}
 use Rattle.text.specs.declared.writing.Writer.{Writer}
 use Rattle.text.specs.Writing.{Adds, Added, Puts}
-use Rattle.text.specs.Laws.Writing.{adds_none, adds_then, adds_same, adds-all}
+use Rattle.text.specs.Laws.Writing.{adds_none, adds_then, adds-all}
 
 -- Some bytes are put, and then others.
 pub added_then : (a b c : Writer) (one two : List ℕ) → Added a b one → Added b c two → Added a c (one ++ two)

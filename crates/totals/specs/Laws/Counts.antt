@@ -1,6 +1,6 @@
 -- For the code of the totals: counts one label at a time, lines one label at a time, and how long they are.
-use Rattle.std.specs.Prelude.{ℕ, zero, suc, ◌+◌, ◌*◌, ◌≤◌, ◌<◌, ◌⊎◌, ◌≡◌, refl, Bool, true, false, cond, ◌||◌, eqb, ltb, length, get_or, take, set}
-use Rattle.std.specs.Prelude.{replicate}
+use Rattle.std.specs.Prelude.{ℕ, zero, suc, ◌+◌, ◌*◌, ◌≤◌, ◌<◌, ◌⊎◌, ◌≡◌, refl, Bool, true, false, cond, ◌||◌}
+use Rattle.std.specs.Prelude.{eqb, ltb, length, get_or, take, set, replicate}
 use Rattle.std.proofs.Math.Decide.{ℕ_discrete}
 use Rattle.std.proofs.Common.{add-one, arith, inl, inr, sym, ◌∙◌, ap, ap₂, subst, length-append, length-set, take-suc, take_all}
 use Rattle.std.proofs.Common.{get_or-set_same, get_or-set_other, eq-eqb, ne_eqb, ltb-true, ltb-false, append-nil}

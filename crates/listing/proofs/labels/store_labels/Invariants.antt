@@ -1,7 +1,5 @@
--- The first x numbers of the slice are the labels of the first x regions. Measure: the numbers that are left.
-use Prim.Native.Nat.{◌-◌, ◌≤◌}
-use mathlib.Core.Path.{◌≡◌}
-use lib.ListN.{length, take}
+-- The labels of the regions that were met are stored.
+use Rattle.std.proofs.Common.{◌≡◌, length, take}
 use Rattle.partition.specs.Passed.{Model, listed}
 use Rattle.partition.specs.Instances.{graph}
 use Rattle.partition.specs.View.{location_labels}
@@ -10,9 +8,5 @@ use Rattle.listing.proofs.labels.store_labels.Given as goal
 
 abbrev pub invariant-loop-x : goal.invariant-loop-x
 invariant-loop-x l =
-    ((m : Model) → l.locations ≡ location_labels m 256 → take l.x l.labels ≡ labels_to
-    (graph m (listed l.entries (length l.initial.labels))) l.x)
-    × (length l.labels ≡ length l.initial.labels) × (l.x ≤ length l.initial.labels)
-
-abbrev pub decreases-loop-x : goal.decreases-loop-x
-decreases-loop-x l = length l.initial.labels - l.x
+    (m : Model) → l.locations ≡ location_labels m 256
+    → take l.x l.labels ≡ labels_to (graph m (listed l.entries (length l.initial.labels))) l.x

@@ -1,14 +1,8 @@
--- `put_clocks` meets its contract. Assumes nothing.
+-- The clocks that were met are put.
 use Rattle.text.specs.Text.{each}
-use Rattle.listing.specs.Printed.{clock_field}
-use Rattle.text.specs.Writing.{Adds}
-use Rattle.listing.specs.Laws.Texts.{clocks_to}
-use Prim.Native.Nat.{◌-◌, ◌≤◌}
+use Rattle.text.specs.Writing.{Puts}
+use Rattle.listing.specs.Printed.{clock_field, clocks_at}
 use Rattle.listing.proofs.lines.put_clocks.Given as goal
 
 abbrev pub invariant-loop-i : goal.invariant-loop-i
-invariant-loop-i l =
-    (l.i ≤ l.n) × Adds l.initial.text l.at l.text l.now (each clock_field (clocks_to l.whole l.rank l.i))
-
-abbrev pub decreases-loop-i : goal.decreases-loop-i
-decreases-loop-i l = l.count - l.i
+invariant-loop-i l = Puts l.initial.text l.text (each clock_field (clocks_at l.i l.region))

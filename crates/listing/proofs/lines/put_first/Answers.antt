@@ -1,11 +1,6 @@
--- `put_first` meets its contract. Assumes nothing.
-use Rattle.text.specs.Laws.Writing.{adds_then}
+-- Three words with their counts are put, and then the line feed.
+use Rattle.text.specs.Laws.Writer.{puts_then}
 use Rattle.listing.proofs.lines.put_first.Goals as goal
 
 pub returns : goal.returns
-returns c =
-    let put-named = c.put_named-one in
-    let put-named2 = c.put_named-two in
-    let put-named3 = c.put_named-three in
-    let put = c.put in
-    adds_then put-named.ensures (adds_then put-named2.ensures (adds_then put-named3.ensures put.ensures))
+returns c = puts_then c.put_named.ensures (puts_then c.put_named-2.ensures (puts_then c.put_named-3.ensures c.put.ensures))

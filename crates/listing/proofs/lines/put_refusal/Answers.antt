@@ -1,10 +1,6 @@
--- `put_refusal` meets its contract. Assumes nothing.
-use Rattle.text.specs.Laws.Writing.{adds_then}
+-- Two words with their numbers are put, and then the line feed.
+use Rattle.text.specs.Laws.Writer.{puts_then}
 use Rattle.listing.proofs.lines.put_refusal.Goals as goal
 
 pub returns : goal.returns
-returns c =
-    let put-named = c.put_named-one in
-    let put-named2 = c.put_named-two in
-    let put = c.put in
-    adds_then put-named.ensures (adds_then put-named2.ensures put.ensures)
+returns c = puts_then c.put_named.ensures (puts_then c.put_named-2.ensures c.put.ensures)

@@ -1,13 +1,9 @@
--- `put_region` meets its contract. Assumes nothing.
-use Rattle.text.specs.Laws.Writing.{adds_then}
+-- The word, three fields and the clocks are put, and then the line feed.
+use Rattle.text.specs.Laws.Writer.{puts_then}
 use Rattle.listing.proofs.lines.put_region.Goals as goal
 
 pub returns : goal.returns
 returns c =
-    let put-named = c.put_named-one in
-    let put-field = c.put_field-two in
-    let put-field2 = c.put_field-three in
-    let put-clocks = c.put_clocks-four in
-    let put = c.put in
-    λ label. adds_then put-named.ensures (adds_then put-field.ensures (adds_then put-field2.ensures (adds_then put-clocks.ensures
-    put.ensures)))
+    rw (← c.from.ensures)
+    (puts_then c.put_named.ensures (puts_then c.put_field.ensures
+    (puts_then c.put_field-2.ensures (puts_then c.put_clocks.ensures c.put.ensures))))

@@ -1,28 +1,46 @@
--- `write_part` meets its contract. Assumes nothing.
-use native.Mathlib.Omega.{arith}
-use mathlib.Core.Path.{sym, ◌∙◌}
+-- Counts that can be those of what is lent are; a table that was read has at most four clocks.
+use Rattle.std.proofs.Common.{ℕ, ◌≡◌, sym, ◌∙◌, ap, arith, rules, Err, length, take, length-take-le}
+use Rattle.partition.specs.Passed.{listed}
 use Rattle.partition.specs.Laws.View.{few-clocks, read-model, read-refused}
-use Rattle.listing.specs.Laws.Parts.{parted-refused}
+use Rattle.listing.specs.Parts.{part_text}
+use Rattle.listing.specs.Laws.Parts.{gives_same, borne-parts, parted-read, parted-not, parted-refused}
 use Rattle.listing.proofs.parts.write_part.Goals as goal
 
-pub part_read-requires : goal.part_read-requires
-part_read-requires c =
+pub returns-in_err-clocks : goal.returns-in_err-clocks
+returns-in_err-clocks c =
     let args = c.args in
-    let check-table = c.check_table-checked in
-    let (m, read, clocks) = read-model args.bytes.now _ (sym c.in-Read.is ∙ check-table.ensures) in
-    omega (arith, few-clocks args.bytes.now m read, clocks)
+    let r = c.in_err-clocks.field-0.0 in
+    let same : c.from_residual.result ≡ Err r = search rules in
+    rw same
+    (parted-refused args.bytes.now args.entries.now args.list.now args.regions args.blocks args.rounds args.part args.buffer.now r
+    (read-refused args.bytes.now r c.in_err-clocks.ensures))
 
-pub returns-in-Refused : goal.returns-in-Refused
-returns-in-Refused c =
+pub returns-then-not-is_borne : goal.returns-then-not-is_borne
+returns-then-not-is_borne c =
     let args = c.args in
-    let check-table = c.check_table-checked in
-    parted-refused args.bytes.now args.entries.now args.list.now args.regions args.blocks args.rounds
-    args.part args.buffer.now _ _ (read-refused args.bytes.now _ _ (sym c.in-Refused.is ∙ check-table.ensures))
+    let (m, read, _) = read-model args.bytes.now c.in_ok-clocks.clocks c.in_ok-clocks.ensures in
+    parted-not args.bytes.now args.entries.now args.list.now args.regions args.blocks args.rounds args.part args.buffer.now m read
+    (sym c.is_borne.ensures ∙ c.if-not-is_borne.true)
 
-pub returns-in-Read : goal.returns-in-Read
-returns-in-Read c =
+pub invariant_of-listed : goal.invariant_of-listed
+invariant_of-listed c =
     let args = c.args in
-    let check-table = c.check_table-checked in
-    let part-read = c.part_read in
-    let (m, read, clocks) = read-model args.bytes.now _ (sym c.in-Read.is ∙ check-table.ensures) in
-    part-read.ensures m read clocks
+    let borne = sym c.is_borne.ensures ∙ c.if-not-is_borne.false in
+    let parts = borne-parts args.regions args.blocks (length args.entries.now) (length args.list.now) borne in
+    let (m, read, clocks) = read-model args.bytes.now c.in_ok-clocks.clocks c.in_ok-clocks.ensures in
+    record {
+      few_clocks = omega (arith, few-clocks args.bytes.now m read, clocks);
+      entries_of_all = omega (arith, parts.1, length-take-le args.regions args.list.now parts.2);
+    }
+
+pub returns : goal.returns
+returns c =
+    let args = c.args in
+    let borne = sym c.is_borne.ensures ∙ c.if-not-is_borne.false in
+    let parts = borne-parts args.regions args.blocks (length args.entries.now) (length args.list.now) borne in
+    let long : length (take args.regions args.list.now) ≡ args.regions = length-take-le args.regions args.list.now parts.2 in
+    let (m, read, clocks) = read-model args.bytes.now c.in_ok-clocks.clocks c.in_ok-clocks.ensures in
+    parted-read args.bytes.now args.entries.now args.list.now args.regions args.blocks args.rounds args.part args.buffer.now m read borne
+    _ _ (gives_same args.buffer.now _ _
+    (ap (λ (n : ℕ). part_text m (listed args.entries.now n) (take args.regions args.list.now) args.blocks args.rounds args.part) long)
+    (c.part.ensures m read clocks))

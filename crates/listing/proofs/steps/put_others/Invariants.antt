@@ -1,18 +1,15 @@
--- `put_others` meets its contract. Assumes nothing.
-use Prim.Native.Nat.{◌-◌, ◌≤◌, ◌<◌}
-use mathlib.Core.Path.{◌≡◌}
-use mathlib.Core.Bool.{true, not, ◌&&◌}
-use lib.Dec.{eqb}
+-- The other blocks below the next one are put.
+use Rattle.std.proofs.Common.{◌≡◌, true, ◌<◌, ◌-◌, eqb}
+use Rattle.std.specs.Prelude.{IfSome, unwrap_or, not, ◌&&◌}
 use Rattle.text.specs.Text.{field, each}
+use Rattle.text.specs.Writing.{Puts}
 use Rattle.listing.specs.Printed.{is_among, other_blocks}
-use Rattle.text.specs.Writing.{Adds}
 use Rattle.listing.proofs.steps.put_others.Given as goal
 
-abbrev pub invariant-loop-c : goal.invariant-loop-c
-invariant-loop-c l =
-    Adds l.initial.text l.at l.text l.now (each field (other_blocks l.list l.c l.own l.regions))
-    × (l.c ≤ l.count)
-    × (l.c < l.count → (not (eqb l.c l.own) && is_among l.list l.c l.regions) ≡ true)
+abbrev pub invariant-loop-next : goal.invariant-loop-next
+invariant-loop-next l =
+    Puts l.initial.text l.text (each field (other_blocks l.blocks.list.now (unwrap_or l.next l.blocks.count) l.own l.reached))
+    × IfSome l.next (λ c. (c < l.blocks.count) × ((not (eqb c l.own) && is_among l.blocks.list.now c l.reached) ≡ true))
 
-abbrev pub decreases-loop-c : goal.decreases-loop-c
-decreases-loop-c l = l.count - l.c
+abbrev pub decreases-loop-next : goal.decreases-loop-next
+decreases-loop-next l = l.blocks.count - unwrap_or l.next l.blocks.count

@@ -1,72 +1,42 @@
--- `put_shares` meets its contract. Assumes nothing.
-use native.Mathlib.Omega.{arith}
-use lib.ListN.{length}
+-- The share of the next block is put, and up to the one after it there is no other.
+use Rattle.std.proofs.Common.{◌+◌, ◌*◌, get_or, List}
+use Rattle.std.specs.Prelude.{ℕ, Bool}
+use Rattle.text.specs.Laws.Writer.{puts_then, puts_none, puts_same}
 use Rattle.listing.specs.Printed.{is_among}
-use Rattle.listing.specs.Slices.{branches_from}
-use Rattle.listing.specs.Laws.Rising.{next_past, found_none, found-one, found_all, share_text, share-one, share-all}
+use Rattle.listing.specs.Slices.{branches_at}
+use Rattle.listing.specs.Laws.Rising.{next-passes, found_none, found-one, share_text, share-all}
 use Rattle.listing.proofs.steps.put_shares.Goals as goal
 
-pub loop-c-init : goal.loop-c-init
-loop-c-init c =
-    let args = c.args in (
-      found_none (λ b. is_among args.list.now b args.targets.now)
-          (share_text args.list.now args.denominator (branches_from args.rows.now args.from (length args.targets.now)))
-          args.count
-          c.next_block-c.result c.next_block-c.ensures,
-      c.next_block-c.ensures.most,
-      λ h. (c.next_block-c.ensures.passes h).1,
+pub loop-next-init : goal.loop-next-init
+loop-next-init c =
+    let list = c.args.blocks.list.now in
+    let edge = c.args.edge in
+    let p : ℕ → Bool = λ b. is_among list b c.args.targets.now in
+    let f : ℕ → List ℕ = share_text list (get_or edge.rows.now (32 * edge.number + 2) 0) (branches_at edge.rows.now edge.number) in
+    let next = c.next_of-next in (
+      puts_same (found_none p f c.args.blocks.count next.result next.ensures) (puts_none c.args.text.now),
+      next-passes p 0 c.args.blocks.count next.result next.ensures,
     )
 
-pub weigh_into-requires : goal.weigh_into-requires
-weigh_into-requires c =
-    let pre = c.requires in
-    (pre.from_bound.0, pre.from_bound.1)
-
-pub put_share-now-requires : goal.put_share-now-requires
-put_share-now-requires c =
-    let weigh-into = c.weigh_into in
-    let pre = c.requires in
-    (weigh-into.ensures.1, pre.from_bound.2)
-
-pub loop-c-smaller : goal.loop-c-smaller
-loop-c-smaller c =
-    let loop-test = c.loop-c-test in
-    let args = c.args in
-    let loop = c.loop-c in
-    omega (
-      arith,
-      loop-test.true,
-      next_past (λ b. is_among args.list.now b args.targets.now) args.count loop.c
-          c.next_block-c-in-loop-c.result loop-test.true c.next_block-c-in-loop-c.ensures,
+pub loop-next-preserved : goal.loop-next-preserved
+loop-next-preserved c =
+    let list = c.args.blocks.list.now in
+    let edge = c.args.edge in
+    let p : ℕ → Bool = λ b. is_among list b c.args.targets.now in
+    let f : ℕ → List ℕ = share_text list (get_or edge.rows.now (32 * edge.number + 2) 0) (branches_at edge.rows.now edge.number) in
+    let next = c.next_of-next-in-Some in
+    let before = rw c.in-Some.is at c.loop-next.invariant in
+    let share = rw (c.weight_into.ensures.value, c.from.ensures, c.denominator.ensures) at c.put_share.ensures in (
+      puts_same (found-one p f c.args.blocks.count c.in-Some.c next.result before.1.0 before.1.1 next.ensures) (puts_then before.0 share),
+      next-passes p (c.in-Some.c + 1) c.args.blocks.count next.result next.ensures,
     )
-
-pub loop-c-preserved : goal.loop-c-preserved
-loop-c-preserved c =
-    let args = c.args in
-    let loop = c.loop-c in
-    let loop-test = c.loop-c-test in
-    let weigh-into = c.weigh_into in
-    let put-share = c.put_share-now in
-    let branches = branches_from args.rows.now args.from (length args.targets.now) in (
-      found-one (λ b. is_among args.list.now b args.targets.now) (share_text args.list.now args.denominator branches) args.count
-          loop.c c.next_block-c-in-loop-c.result loop-test.true (loop.invariant.2 loop-test.true) c.next_block-c-in-loop-c.ensures
-          loop.invariant.0
-          (share-one args.list.now args.denominator branches loop.c weigh-into.result weigh-into.ensures.0 put-share.ensures),
-      c.next_block-c-in-loop-c.ensures.most,
-      λ h. (c.next_block-c-in-loop-c.ensures.passes h).1,
-    )
-
-pub shape_of-text : goal.shape_of-text
-shape_of-text c =
-    let loop = c.loop-c in
-    loop.invariant.0.as_long
 
 pub returns : goal.returns
 returns c =
-    let args = c.args in
-    let pre = c.requires in
-    let loop = c.loop-c in
-    let branches = branches_from args.rows.now args.from (length args.targets.now) in
-    share-all args.list.now args.denominator branches args.targets.now args.count pre.targets_value
-    (found_all (λ b. is_among args.list.now b args.targets.now) (share_text args.list.now args.denominator branches) args.count
-    loop.c loop.invariant.1 c.loop-c-test.false loop.invariant.0)
+    let list = c.args.blocks.list.now in
+    let edge = c.args.edge in
+    let before = rw c.in_default.is at c.loop-next.invariant in
+    puts_same
+    (share-all list (get_or edge.rows.now (32 * edge.number + 2) 0) (branches_at edge.rows.now edge.number) c.args.targets.now
+    c.args.blocks.count c.requires)
+    before.0

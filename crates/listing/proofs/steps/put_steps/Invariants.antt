@@ -1,14 +1,8 @@
--- `put_steps` meets its contract. Assumes nothing.
-use Prim.Native.Nat.{◌-◌, ◌≤◌}
+-- The step lines of the edges that were met are put.
 use Rattle.text.specs.Text.{up_to}
+use Rattle.text.specs.Writing.{Puts}
 use Rattle.listing.specs.Slices.{step_text_at}
-use Rattle.text.specs.Writing.{Adds}
 use Rattle.listing.proofs.steps.put_steps.Given as goal
 
-abbrev pub invariant-loop-e : goal.invariant-loop-e
-invariant-loop-e l =
-    Adds l.initial.text l.at l.text l.now (up_to (step_text_at l.list l.rows l.count l.own) l.e)
-    × (l.e ≤ l.edges)
-
-abbrev pub decreases-loop-e : goal.decreases-loop-e
-decreases-loop-e l = l.edges - l.e
+abbrev pub invariant-loop-number : goal.invariant-loop-number
+invariant-loop-number l = Puts l.initial.text l.text (up_to (step_text_at l.blocks.list.now l.rows l.blocks.count l.own) l.number)
