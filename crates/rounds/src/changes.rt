@@ -12,7 +12,7 @@ use crate::MOST_ITEMS;
 use comparison::Graph;
 use slices::{at, put};
 
-// As many masks as there may be: each tells which of four clocks are reset.
+// Counts the masks: each tells which of four clocks are reset.
 const MASKS: usize = 16;
 
 // ---- An order in which what follows by delay comes first. Only speed depends on it: what is found by it is verified.
@@ -77,6 +77,7 @@ fn rests_by_delay(
     !at(changed, x, false) && (graph.n <= next || at(still, next, false))
 }
 
+// Marks still items along the order.
 fn mark_still(
     graph: Graph,
     changed: &[bool; MOST_ITEMS],
@@ -107,19 +108,21 @@ fn is_still(graph: Graph, changed: &[bool; MOST_ITEMS], still: &[bool; MOST_ITEM
 
 // ---- Are targets as their clocks say?
 
+// Does a branch lead to an item with the clocks that those of x become under its mask, and is there a mark for those?
 fn is_branch_classed(graph: Graph, x: usize, e: usize, i: usize) -> bool
     requires { (graph.n ≤ most_items) × (x < most_items) × (e < most_edges) × (i < 65536) }
     ensures { result ≡ true → BranchClassed graph.entry x e i }
 {
     let target = graph.target_of(x, e, i);
     let mask = usize::from(at(graph.rows, 32 * e + 4 + 3 * i, 0));
-    let class = at(graph.resets, 16 * x + mask, 0);
+    let class = at(graph.resets, MASKS * x + mask, 0);
     target < graph.n
         && mask < MASKS
         && usize::from(class) < MOST_ITEMS
-        && at(graph.resets, 16 * target, 0) == class
+        && at(graph.resets, MASKS * target, 0) == class
 }
 
+// Are all branches of an edge so at item x?
 fn is_edge_classed(graph: Graph, x: usize, e: usize) -> bool
     requires { (graph.n ≤ most_items) × (x < most_items) × (e < most_edges) }
     ensures { result ≡ true → EdgeClassed graph.entry x e }
@@ -133,7 +136,7 @@ fn is_edge_classed(graph: Graph, x: usize, e: usize) -> bool
     true
 }
 
-// Are the branches of all edges that are available at x of that kind?
+// Are those of all edges that are available at item x?
 fn is_item_classed(graph: Graph, x: usize) -> bool
     requires { (graph.n ≤ most_items) × (graph.k ≤ most_edges) × (x < most_items) }
     ensures { result ≡ true → Opened graph.entry.n graph.entry.k graph.entry.flags.now
@@ -149,6 +152,7 @@ fn is_item_classed(graph: Graph, x: usize) -> bool
     true
 }
 
+// Are those of all items?
 pub(crate) fn is_classed(graph: Graph) -> bool
     requires { (graph.n ≤ most_items) × (graph.k ≤ most_edges) }
     ensures { result ≡ true → Opened graph.entry.n graph.entry.k graph.entry.flags.now
@@ -162,8 +166,9 @@ pub(crate) fn is_classed(graph: Graph) -> bool
     true
 }
 
-// ---- Marks: the clocks of items that changed, and the masks in use
+// ---- Marks
 
+// Marks the clocks of the items that changed.
 fn mark_classes(graph: Graph, changed: &[bool; MOST_ITEMS]) -> [bool; MOST_ITEMS]
     requires { graph.n ≤ most_items }
     ensures { Marked graph.entry changed.now result }
@@ -171,12 +176,17 @@ fn mark_classes(graph: Graph, changed: &[bool; MOST_ITEMS]) -> [bool; MOST_ITEMS
     let mut marks = [false; MOST_ITEMS];
     for x in 0..graph.n {
         if changed[x] {
-            put(&mut marks, usize::from(at(graph.resets, 16 * x, 0)), true);
+            put(
+                &mut marks,
+                usize::from(at(graph.resets, MASKS * x, 0)),
+                true,
+            );
         }
     }
     marks
 }
 
+// Flags the masks of the branches of an edge.
 fn mark_edge_masks(graph: Graph, e: usize, used: &mut [bool; MASKS])
     requires { e < most_edges }
     ensures { Kept used.old used.new × UsedBy graph.entry used.new e }
@@ -191,6 +201,7 @@ fn mark_edge_masks(graph: Graph, e: usize, used: &mut [bool; MASKS])
     }
 }
 
+// Flags the masks in use.
 fn mark_masks(graph: Graph) -> [bool; MASKS]
     requires { graph.k ≤ most_edges }
     ensures { Used graph.entry result }
@@ -213,7 +224,7 @@ fn is_touched(graph: Graph, x: usize, used: &[bool; MASKS], marks: &[bool; MOST_
         if used[mask]
             && at(
                 marks,
-                usize::from(at(graph.resets, 16 * x + mask, 0)),
+                usize::from(at(graph.resets, MASKS * x + mask, 0)),
                 false,
             )
         {

@@ -8,13 +8,13 @@ ghost use Rattle.rounds.specs.Changes.{Settled};
 ghost use Rattle.rounds.specs.Rounds.{Anchored, joined_by, join_mark, MarkedTo, Step, KinsBelow};
 ghost use Rattle.rounds.specs.Rounds.{KeyedIn, EquippedIn};
 
-use crate::MOST_ITEMS;
 use crate::kins::{KinIndex, sign_of};
 use crate::links::{link, linked};
+use crate::{MOST_ITEMS, SHELF};
 use comparison::Graph;
 use slices::at;
 
-// What a round goes by: the rep map of the round before, which items are stirred, the anchors of blocks, and the names.
+// Holds what a round goes by: the rep map of the round before, which items are stirred, the anchors of blocks, and the names.
 #[derive(Clone, Copy)]
 pub(crate) struct Before<'a> {
     pub old: &'a [u64],
@@ -51,7 +51,7 @@ fn is_joined(
     x: usize,
     marks: &[u16; MOST_ITEMS],
     keys: &mut [u64; MOST_ITEMS],
-    shelf: &mut [u64; 129],
+    shelf: &mut [u64; SHELF],
     kins: &mut KinIndex,
 ) -> bool
     requires { x < most_items }
@@ -91,18 +91,18 @@ fn is_joined(
     joins
 }
 
-// The mark of an item. Blocks have the numbers of items; for any other number there is no mark to tell.
+// Makes the mark of an item. Blocks have the numbers of items; for any other number there is no mark to tell.
 fn mark_of(block: u64, joins: bool) -> u16
     ensures { block < most_items → result ≡ join_mark block joins }
 {
-    if block < 4096 {
+    if block < MOST_ITEMS as u64 {
         2 * block as u16 + u16::from(joins)
     } else {
         0
     }
 }
 
-// The marks of all items.
+// Makes the marks of all items.
 pub(crate) fn fill_marks(
     graph: Graph,
     before: Before,
@@ -119,8 +119,8 @@ pub(crate) fn fill_marks(
         × KeyedIn F graph.entry before.entry.names.now keys.new }
 {
     let mut marks = [0u16; MOST_ITEMS];
-    // For the codes of an anchor that items are compared with; empty at first.
-    let mut shelf = [0u64; 129];
+    // Keeps the codes of an anchor that items are compared with; empty at first.
+    let mut shelf = [0u64; SHELF];
     let mut kins = KinIndex::new();
     let old = before.old;
     for x in 0..graph.n {

@@ -15,11 +15,10 @@ use slices::at;
 
 // ---- Each item's lead in the proposal: the first item with its number
 
-// The largest prime that is no more than 4,096, since remainders by it spread well.
+// Counts the buckets: the largest prime that is no more than 4,096, since remainders by it spread well.
 const BUCKETS: usize = 4093;
 
-// An index over the first items with each number of a proposal: from each bucket a link to the last one in it, and from each of them to
-// the one before it.
+// Links each bucket to the last of the first items with each number of a proposal that is in it, and each of these to the one before it.
 #[derive(Drop)]
 struct FirstIndex {
     heads: [u16; MOST_ITEMS],
@@ -60,6 +59,7 @@ impl FirstIndex {
     }
 }
 
+// Makes the list of each item's lead in the proposal.
 fn list_firsts(n: usize, proposal: &[u64]) -> [u64; MOST_ITEMS]
     requires { n ≤ most_items }
     ensures { Reps (related proposal.now) n result }
@@ -84,7 +84,7 @@ fn list_firsts(n: usize, proposal: &[u64]) -> [u64; MOST_ITEMS]
 
 // ---- Judging by leads
 
-// Equal labels, and both conditions both ways, of two items with the same number.
+// Have two items with the same number equal labels, and meet both conditions both ways?
 fn is_alike(graph: Graph, x: usize, y: usize, list: &[u64]) -> bool
     ensures { (F : Finite) → HeldIn F graph.entry → Closed (structure F)
         → Below graph.entry.n list.now → x < graph.entry.n → y < graph.entry.n

@@ -7,19 +7,19 @@ ghost use Rattle.bisimulation.specs.Finite.{Finite, structure, next};
 ghost use Rattle.comparison.specs.Held.{most_items, most_edges};
 ghost use Rattle.rounds.specs.Rounds.{HeldIn, KinsBelow, KinOf};
 
-use crate::MOST_ITEMS;
 use crate::links::linked;
+use crate::{MOST_EDGES, MOST_ITEMS};
 use comparison::Graph;
 use slices::at;
 
-// How many kins of one sign are tried for an item. Only the speed depends on it.
+// Counts the kins of one sign that are tried for an item. Only the speed depends on it.
 const KIN_COUNT: usize = 3;
 
 const SIGN_PRIME: usize = 4093;
 
 const SIGN_BASE: usize = 37;
 
-// How far apart in the table the edges are that count in a sign by where they lead. All count by their numbers.
+// Tells how far apart in the table the edges are that count in a sign by where they lead. All count by their numbers.
 const SIGN_STEP: usize = 8;
 
 // Takes an edge of item x into a sign: its action, and the weight and the block of each of its branches. Each branch counts by its place,
@@ -41,15 +41,15 @@ fn sign_edge(graph: Graph, x: usize, e: usize, names: &[u64; MOST_ITEMS], sign: 
     sum % SIGN_PRIME
 }
 
-// The sign of item x: a number of its available edges, from the last down, under which its kins are found. Each edge counts by its number,
-// and one whose number is a multiple of eight also by its action, its weights and where it leads: to take every edge so would take nearly
+// Makes the sign of item x: a number of its available edges, from the last down, under which its kins are found. Each edge counts by its
+// number, and one whose number is a multiple of eight also by its action, its weights and where it leads: to take every edge so would take nearly
 // as long as comparing them. Items that are plainly alike by the same edges have the same sign, while those that are alike by edges of
 // other numbers have others as a rule and are not found. Others seldom have the same, but for items that differ in their delays, or in
 // where edges lead whose numbers alone count. Nothing but its bound is promised, and only the speed depends on it.
 pub(crate) fn sign_of(graph: Graph, x: usize, names: &[u64; MOST_ITEMS]) -> usize
     ensures { result < most_items }
 {
-    if 128 < graph.k {
+    if graph.k > MOST_EDGES {
         return 0;
     }
     let mut sign = 0;
@@ -64,7 +64,7 @@ pub(crate) fn sign_of(graph: Graph, x: usize, names: &[u64; MOST_ITEMS]) -> usiz
     sign
 }
 
-// The kins of each sign: links to the newest, and from each kin to the one before it.
+// Links to the newest kin of each sign, and from each kin to the one before it.
 #[derive(Drop)]
 pub(crate) struct KinIndex {
     newest: [u16; MOST_ITEMS],
@@ -81,7 +81,7 @@ impl KinIndex {
         }
     }
 
-    // The newest kin of a sign.
+    // Returns the newest kin of a sign.
     pub(crate) fn newest(&self, sign: usize) -> Option<usize>
         ensures { (x : ℕ) → KinsBelow x self.now → IfSome result (λ z. z < x) }
     {

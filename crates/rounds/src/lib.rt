@@ -13,5 +13,11 @@ mod rounds;
 pub use judging::judge;
 pub use rounds::{Counted, number_lists};
 
-// As many items as there may be.
+// Bounds the items of a graph.
 const MOST_ITEMS: usize = 4096;
+
+// Bounds the edges of a graph.
+const MOST_EDGES: usize = 128;
+
+// Counts what the shelf of a comparison has: a code for each edge, and the item that they are of.
+const SHELF: usize = 129;

@@ -11,22 +11,25 @@ ghost use Rattle.rounds.specs.Changes.{Classed, Settled};
 ghost use Rattle.rounds.specs.Rounds.{Led, Step, Sorted, Chains, Rested, NoRoom};
 ghost use Rattle.rounds.specs.Rounds.{HeldIn, KeyedIn, EquippedIn, KinsBelow, LedByKin, ForgottenAt, Prepared};
 
-use crate::MOST_ITEMS;
 use crate::changes::{is_classed, list_order, stir};
 use crate::joins::{Before, fill_marks, find_anchors};
 use crate::kins::{KinIndex, sign_of};
 use crate::links::{link, linked};
 use crate::names::{first_names, name_round};
 use crate::numbering::number_blocks;
+use crate::{MOST_EDGES, MOST_ITEMS, SHELF};
 use comparison::Graph;
 use slices::{at, put};
 
-// The counts of a partition: its blocks, and the rounds that it took.
+// Counts the blocks of a partition, and the rounds that it took.
 #[derive(Clone, Copy)]
 pub struct Counted {
     pub blocks: u64,
     pub rounds: u64,
 }
+
+// Counts the numbers that a label, or a mark, may be.
+const LABELS: usize = 65536;
 
 // ---- Round 0: equal labels
 
@@ -37,7 +40,7 @@ pub(crate) fn first_round(n: usize, labels: &[u16], list: &mut [u64]) -> usize
     ensures led { Led (related labels.now) list.new n result }
 {
     // Links each label to the first item with it.
-    let mut seen = [0u16; 65536];
+    let mut seen = [0u16; LABELS];
     let mut count = 0;
     for i in 0..n {
         let label = usize::from(at(labels, i, 0));
@@ -56,7 +59,7 @@ pub(crate) fn first_round(n: usize, labels: &[u16], list: &mut [u64]) -> usize
 
 // ---- A round from the one before
 
-// What the search of a round goes by: marks, the rep map of equal marks, and the names.
+// Holds what the search of a round goes by: marks, the rep map of equal marks, and the names.
 #[derive(Clone, Copy)]
 struct Sorting<'a> {
     marks: &'a [u16; MOST_ITEMS],
@@ -64,7 +67,7 @@ struct Sorting<'a> {
     names: &'a [u64; MOST_ITEMS],
 }
 
-// The lead of item x by a kin: that of the kin.
+// Returns the lead of a kin of item x, which is that of x too.
 fn kin_lead(
     graph: Graph,
     x: usize,
@@ -82,15 +85,15 @@ fn kin_lead(
     Some(at(new, kin, 0) as usize)
 }
 
-// The lead of item x by a search among the leaders split off from its block of `mid`, from the lead there on along the links. A new leader
-// is linked after the last one.
+// Searches for the lead of item x among the leaders split off from its block of `mid`, from the lead there on along the links. A new
+// leader is linked after the last one.
 fn search_lead(
     graph: Graph,
     x: usize,
     start: usize,
     names: &[u64; MOST_ITEMS],
     keys: &mut [u64; MOST_ITEMS],
-    shelf: &mut [u64; 129],
+    shelf: &mut [u64; SHELF],
     links: &mut [u16; MOST_ITEMS],
 ) -> usize
     requires { x < most_items }
@@ -113,8 +116,8 @@ fn search_lead(
     y
 }
 
-// The lead of item x in the next round: that of `mid` where x joins an anchor; that of the lead in `mid`, or of a kin, where x is plainly
-// alike to it; and else what a search finds.
+// Returns the lead of item x in the next round: that of `mid` where x joins an anchor; that of the lead in `mid`, or of a kin, where x is
+// plainly alike to it; and else what a search finds.
 fn next_lead(
     graph: Graph,
     sorting: Sorting,
@@ -122,7 +125,7 @@ fn next_lead(
     new: &[u64],
     kins: &mut KinIndex,
     keys: &mut [u64; MOST_ITEMS],
-    shelf: &mut [u64; 129],
+    shelf: &mut [u64; SHELF],
     links: &mut [u16; MOST_ITEMS],
 ) -> usize
     requires { x < most_items }
@@ -171,8 +174,8 @@ fn next_round(
         → Led d new.new graph.entry.n result
         × KeyedIn F graph.entry sorting.entry.names.now keys.new }
 {
-    // For the codes of a leader that items are compared with; empty at first.
-    let mut shelf = [0u64; 129];
+    // Keeps the codes of a leader that items are compared with; empty at first.
+    let mut shelf = [0u64; SHELF];
     let mut links = [0u16; MOST_ITEMS];
     let mut kins = KinIndex::new();
     let mut count = 0;
@@ -224,8 +227,8 @@ fn make_round(
 
 // ---- All rounds
 
-// What is handed on from round to round beside the rep map: tags of leaders and names for blocks, which items are stirred, and the keys of
-// items under these names, as far as they are known.
+// Holds what is handed on from round to round beside the rep map: tags of leaders and names for blocks, which items are stirred, and the
+// keys of items under these names, as far as they are known.
 #[derive(Drop)]
 pub(crate) struct Carried {
     tags: [u16; MOST_ITEMS],
@@ -247,7 +250,7 @@ fn forget_keys(n: usize, stirred: &[bool; MOST_ITEMS], keys: &mut [u64; MOST_ITE
 }
 
 impl Carried {
-    // What round 0 hands on: every item is stirred, and no key is known.
+    // Makes what round 0 hands on: every item is stirred, and no key is known.
     fn first(reps: &[u64]) -> Self
         requires { length reps.now ≤ most_items }
         ensures { (F : Finite) (g : Graph) → length reps.now ≡ g.n
@@ -333,7 +336,7 @@ fn run_rounds(graph: Graph, first: &mut [u64], second: &mut [u64]) -> Counted
     counted
 }
 
-// The blocks of the last round, in the first n numbers of both lists. Where the slices hold no closed structure these numbers and the
+// Puts the blocks of the last round into the first n numbers of both lists. Where the slices hold no closed structure these numbers and the
 // counts are a choice of the code.
 pub fn number_lists(graph: Graph, first: &mut [u64], second: &mut [u64]) -> Counted
     ensures first_after { (F : Finite) → Held F graph.entry.n graph.entry.k graph.entry.labels.now graph.entry.nexts.now
@@ -348,7 +351,7 @@ pub fn number_lists(graph: Graph, first: &mut [u64], second: &mut [u64]) -> Coun
         × (second.new ≡ second.old) × (result.blocks ≡ 0) × (result.rounds ≡ 0)) }
 {
     let n = graph.n;
-    if MOST_ITEMS < n || 128 < graph.k || first.len() < n || second.len() < n {
+    if n > MOST_ITEMS || graph.k > MOST_EDGES || first.len() < n || second.len() < n {
         return Counted {
             blocks: 0,
             rounds: 0,
