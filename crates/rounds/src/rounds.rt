@@ -250,23 +250,6 @@ fn forget_keys(n: usize, stirred: &[bool; MOST_ITEMS], keys: &mut [u64; MOST_ITE
 }
 
 impl Carried {
-    // Makes what round 0 hands on: every item is stirred, and no key is known.
-    fn first(reps: &[u64]) -> Self
-        requires { length reps.now ≤ most_items }
-        ensures { (F : Finite) (g : Graph) → length reps.now ≡ g.n
-            → ((x : ℕ) → x < g.n → get_or reps.now x 0 < g.n) → Prepared F g reps.now result }
-    {
-        let mut tags = [0u16; MOST_ITEMS];
-        let mut names = [0u64; MOST_ITEMS];
-        first_names(reps, &mut tags, &mut names);
-        Carried {
-            tags,
-            names,
-            stirred: [true; MOST_ITEMS],
-            keys: [0; MOST_ITEMS],
-        }
-    }
-
     // Renames the blocks after a round, stirs the items that the change of names reaches, and forgets their keys.
     fn follow_round(
         &mut self,
@@ -298,7 +281,14 @@ fn refine(graph: Graph, first: &mut [u64], second: &mut [u64]) -> Counted
     let order = list_order(graph);
     let classed = is_classed(graph);
     let mut count = first_round(graph.n, graph.labels, second);
-    let mut carried = Carried::first(second);
+    // At first every item is stirred, and no key is known.
+    let mut carried = Carried {
+        tags: [0; MOST_ITEMS],
+        names: [0; MOST_ITEMS],
+        stirred: [true; MOST_ITEMS],
+        keys: [0; MOST_ITEMS],
+    };
+    first_names(second, &mut carried.tags, &mut carried.names);
     let mut made = 0;
     loop {
         let more = make_round(

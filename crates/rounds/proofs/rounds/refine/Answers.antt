@@ -1,9 +1,11 @@
 -- A round is made from the one before, and the last one adds no block.
-use Rattle.std.proofs.Common.{◌≡◌, arith, ◌∙◌}
+use Rattle.std.proofs.Common.{◌≡◌, Bool, true, false, arith, ◌∙◌}
 use Rattle.bisimulation.specs.Finite.{related}
 use Rattle.rounds.specs.Laws.Names.{reps-below}
 use Rattle.rounds.specs.Laws.Rounds.{turned-first, turned-step, turned_on, turned-over}
-use Rattle.rounds.specs.Laws.Prepared.{prepared-step, prepared-settled, prepared-keyed, prepared-compared, prepared-led}
+use Rattle.comparison.specs.Laws.Steps.{zeros-at}
+use Rattle.std.proofs.lemmas.List.{get_or-replicate}
+use Rattle.rounds.specs.Laws.Prepared.{prepared-first, prepared-step, prepared-settled, prepared-keyed, prepared-compared, prepared-led}
 use Rattle.rounds.proofs.rounds.refine.Goals as goal
 
 pub loop-count-init : goal.loop-count-init
@@ -17,7 +19,9 @@ loop-count-init c =
       omega arith,
       λ F held closed. (
         turned-first F closed args.graph.labels.now list n round.result held.size held.label led,
-        c.first-carried.ensures F args.graph (round.auto.list ∙ c.requires.1) (reps-below (related args.graph.labels.now) n list led.reps),
+        prepared-first F args.graph list _
+            (c.first_names.ensures n (round.auto.list ∙ c.requires.1) (reps-below (related args.graph.labels.now) n list led.reps))
+            (λ x h. zeros-at 4096 x) (λ x h. get_or-replicate {A = Bool} 4096 x true false (omega (arith, h, c.requires.2))),
       ),
     )
 
