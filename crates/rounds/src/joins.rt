@@ -26,19 +26,22 @@ pub(crate) struct Before<'a> {
 // ---- Anchors
 
 // Finds the anchors of all blocks, each told at the number of its leader: the first item of the block that is not stirred.
-pub(crate) fn find_anchors(old: &[u64], stirred: &[bool; MOST_ITEMS]) -> [u16; MOST_ITEMS]
+pub(crate) fn find_anchors(
+    old: &[u64],
+    stirred: &[bool; MOST_ITEMS],
+    anchors: &mut [u16; MOST_ITEMS],
+)
     requires { length old.now ≤ most_items }
     ensures { (n : ℕ) → length old.now ≡ n → Reps (related old.now) n old.now
-        → Anchored n old.now stirred.now result }
+        → Anchored n old.now stirred.now anchors.new }
 {
-    let mut anchors = [0u16; MOST_ITEMS];
+    anchors.fill(0);
     for x in 0..old.len() {
         let block = old[x] as usize;
-        if !stirred[x] && linked(&anchors, block).is_none() {
-            link(&mut anchors, block, x);
+        if !stirred[x] && linked(anchors, block).is_none() {
+            link(anchors, block, x);
         }
     }
-    anchors
 }
 
 // ---- Marks
@@ -107,7 +110,8 @@ pub(crate) fn fill_marks(
     graph: Graph,
     before: Before,
     keys: &mut [u64; MOST_ITEMS],
-) -> [u16; MOST_ITEMS]
+    marks: &mut [u16; MOST_ITEMS],
+)
     requires { graph.n ≤ most_items }
     ensures { (F : Finite) → let d = next F before.entry.names.now in
         let old = before.entry.old.now in
@@ -115,17 +119,15 @@ pub(crate) fn fill_marks(
         → Settled d (related old) graph.entry.n before.entry.stirred.now
         → Anchored graph.entry.n old before.entry.stirred.now before.entry.anchors.now
         → Step d graph.entry.n old
-        → MarkedTo graph.entry.n d before.entry.anchors.now old result
+        → MarkedTo graph.entry.n d before.entry.anchors.now old marks.new
         × KeyedIn F graph.entry before.entry.names.now keys.new }
 {
-    let mut marks = [0u16; MOST_ITEMS];
     // Keeps the codes of an anchor that items are compared with; empty at first.
     let mut shelf = [0u64; SHELF];
     let mut kins = KinIndex::new();
     let old = before.old;
     for x in 0..graph.n {
-        let joins = is_joined(graph, before, x, &marks, keys, &mut shelf, &mut kins);
+        let joins = is_joined(graph, before, x, marks, keys, &mut shelf, &mut kins);
         marks[x] = mark_of(at(old, x, 0), joins);
     }
-    marks
 }

@@ -207,14 +207,16 @@ fn make_round(
         → Step d graph.entry.n old.now → Settled d (related old.now) graph.entry.n stirred.now
         → Led d new.new graph.entry.n result × KeyedIn F graph.entry names.now keys.new }
 {
-    let anchors = find_anchors(old, stirred);
+    let mut anchors = [0u16; MOST_ITEMS];
+    find_anchors(old, stirred, &mut anchors);
     let before = Before {
         old,
         stirred,
         anchors: &anchors,
         names,
     };
-    let marks = fill_marks(graph, before, keys);
+    let mut marks = [0u16; MOST_ITEMS];
+    fill_marks(graph, before, keys, &mut marks);
     let mut mid = [0u64; MOST_ITEMS];
     first_round(graph.n, &marks, &mut mid);
     let sorting = Sorting {

@@ -9,10 +9,10 @@ returns-clause-led c =
     let n = args.graph.n in
     λ F keyed step settled.
     let d = next F args.names.now in
-    let anchors = c.find_anchors-anchors.result in
-    let marks = c.fill_marks-marks.result in
+    let anchors = c.find_anchors.new.anchors in
+    let marks = c.fill_marks.new.marks in
     let mid = c.first_round.new.list in
-    let anchored = c.find_anchors-anchors.ensures n c.requires.0 step.reps in
-    let (marked, keyed') = c.fill_marks-marks.ensures F keyed settled anchored step in
+    let anchored = c.find_anchors.ensures n c.requires.0 step.reps in
+    let (marked, keyed') = c.fill_marks.ensures F keyed settled anchored step in
     c.next_round.ensures.led F keyed'
     (marks-sort d n args.old.now args.stirred.now anchors anchored step.classes step.finer marks marked mid c.first_round.ensures.led.reps)
