@@ -42,9 +42,9 @@ fn sign_edge(graph: Graph, x: usize, e: usize, names: &[u64; MOST_ITEMS], sign: 
 }
 
 // Makes the sign of item x: a number of its available edges, from the last down, under which its kins are found. Each edge counts by its
-// number, and one whose number is a multiple of eight also by its action, its weights and where it leads: to take every edge so would take nearly
-// as long as comparing them. Items that are plainly alike by the same edges have the same sign, while those that are alike by edges of
-// other numbers have others as a rule and are not found. Others seldom have the same, but for items that differ in their delays, or in
+// number, and one whose number is a multiple of eight also by its action, its weights and where it leads: to take every edge so would take
+// nearly as long as comparing them. Items that are plainly alike by the same edges have the same sign, while those that are alike by edges
+// of other numbers have others as a rule and are not found. Others seldom have the same, but for items that differ in their delays, or in
 // where edges lead whose numbers alone count. Nothing but its bound is promised, and only the speed depends on it.
 pub(crate) fn sign_of(graph: Graph, x: usize, names: &[u64; MOST_ITEMS]) -> usize
     ensures { result < most_items }

@@ -229,7 +229,8 @@ swapped-length tags x y = length-set (set tags x (get_or tags y 0)) y (get_or ta
 pub tagged-swap : (n : ℕ) (these : ℕ → Type 0) (tags : List ℕ) (x y : ℕ) → x < n → y < n → these x → these y → n ≤ length tags
     → TaggedIn n these tags → TaggedIn n these (swapped tags x y)
 tagged-swap n these tags x y hx hy sx sy long tagged =
-    subst (TaggedIn n these) (sym (swapped-is tags x y (omega arith) (omega arith))) (N.tagged-swap n these tags x y hx hy sx sy long tagged)
+    subst (TaggedIn n these) (sym (swapped-is tags x y (omega arith) (omega arith)))
+    (N.tagged-swap n these tags x y hx hy sx sy long tagged)
 
 -- After a round: some flags mark what changed its name, and what these reach is stirred.
 abbrev pub Followed : Graph → (names names' : List ℕ) → (stirred : List Bool) → Type 0

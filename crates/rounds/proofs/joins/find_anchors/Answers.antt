@@ -1,6 +1,5 @@
 -- The first item of its block that is not stirred becomes the anchor.
-use Rattle.std.proofs.Common.{◌≡◌, List, ap, ℕ, ◌<◌, ◌+◌, get_or, length, length-set, arith, refl, ◌∙◌, replicate}
-use Rattle.std.proofs.lemmas.List.{length-replicate}
+use Rattle.std.proofs.Common.{◌≡◌, List, ap, ℕ, ◌<◌, ◌+◌, get_or, length, length-set, arith, refl, ◌∙◌}
 use Rattle.bisimulation.specs.Finite.{related}
 use Rattle.bisimulation.proofs.Laws.Leads.{lead_low}
 use Rattle.comparison.specs.Laws.Steps.{zeros-at}
@@ -13,7 +12,8 @@ use Rattle.rounds.proofs.joins.find_anchors.Goals as goal
 
 pub loop-x-init : goal.loop-x-init
 loop-x-init c =
-    let cleared : (b : ℕ) → get_or c.fill.new.self b 0 ≡ 0 = λ b. ap (λ (l : List ℕ). get_or l b 0) (c.fill.ensures.after (λ y e. e)) ∙ zeros-at _ b in
+    let cleared : (b : ℕ) → get_or c.fill.new.self b 0 ≡ 0 =
+    λ b. ap (λ (l : List ℕ). get_or l b 0) (c.fill.ensures.after (λ y e. e)) ∙ zeros-at _ b in
     (c.fill.ensures.len ∙ c.told-anchors, λ n size reps. anchored-none c.args.old.now c.args.stirred.now c.fill.new.self cleared)
 
 pub loop-x-preserved : goal.loop-x-preserved
