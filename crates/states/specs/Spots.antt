@@ -2,13 +2,7 @@
 use Rattle.std.specs.Prelude.{ℕ, Bool, cond, not, ◌&&◌, List, [], ◌∷◌, map, eqb, leb, get_or}
 use Rattle.clocks.specs.Cells.{Cell, fraction_of, member, rank}
 use Rattle.clocks.specs.Packed.{over_part, clock_of, byte_at}
-use Rattle.states.specs.States.{State}
-use Rattle.states.specs.declared.states.Asked.{Asked}
-use Rattle.states.specs.declared.states.Spot.{Spot}
-
--- The state that is asked for.
-abbrev pub state_of : Asked → State
-state_of a = record { location = a.location; values = a.values; denominator = a.denominator }
+use Rattle.states.specs.declared.state.Spot.{Spot}
 
 -- What the code holds of a cell.
 abbrev pub spot_of : Cell → Spot

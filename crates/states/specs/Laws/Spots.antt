@@ -11,7 +11,7 @@ use Rattle.clocks.specs.Packed.{over_part, clock_of, byte_at, pack}
 use Rattle.states.specs.States.{State}
 use Rattle.states.specs.Placing.{state_cell, state_cells, placed}
 use Rattle.clocks.specs.declared.region.Bounds.{Bounds}
-use Rattle.states.specs.declared.states.Spot.{Spot}
+use Rattle.states.specs.declared.state.Spot.{Spot}
 use Rattle.states.specs.Spots.{spot_of, spot_wholes, spot_ranks, is_fresh, fresh_count}
 
 -- ---- One clock

@@ -1,7 +1,7 @@
 -- What follows of one clock, of four fractions, of one value, and of an answer from the definitions: laws that stand for a reader of the
 -- definitions; the code needs none of them.
-use Rattle.std.specs.Prelude.{ℕ, ◌+◌, ◌*◌, ◌/◌, ◌%◌, ◌≤◌, ◌<◌, ◌≡◌, refl, Bool, true, false, cond, not, ◌&&◌, ◌||◌, List, [], ◌∷◌, map, get_or}
-use Rattle.std.specs.Prelude.{eqb, leb, ltb, Result, Ok, Err}
+use Rattle.std.specs.Prelude.{ℕ, ◌+◌, ◌*◌, ◌/◌, ◌%◌, ◌≤◌, ◌<◌, ◌≡◌, refl, Bool, true, false, cond, not, ◌&&◌, ◌||◌}
+use Rattle.std.specs.Prelude.{List, [], ◌∷◌, map, get_or, eqb, leb, ltb, Result, Ok, Err}
 use Rattle.std.proofs.Common.{arith, sym, ◌∙◌, ap, ap₂, eq-eqb, ne_eqb, le-leb, le-ltb, lt-ltb}
 use Rattle.std.proofs.lemmas.Bool.{eqb-false, lt-leb}
 use Rattle.table.specs.Model.{Model}
@@ -20,7 +20,7 @@ use Rattle.states.specs.Spots.{spot_of, spot_wholes, spot_ranks, is_fresh, fresh
 use Rattle.states.specs.StateCall.{asked, numbered, placed_among}
 use Rattle.states.specs.Laws.Spots as S
 use Rattle.states.specs.Laws.Spots.{rank-more, rank-none}
-use Rattle.states.specs.declared.states.Spot.{Spot}
+use Rattle.states.specs.declared.state.Spot.{Spot}
 
 -- ---- One clock, at v/d
 

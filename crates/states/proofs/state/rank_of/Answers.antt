@@ -5,10 +5,10 @@ use Rattle.std.specs.List.{list_any}
 use Rattle.clocks.specs.Cells.{rank}
 use Rattle.states.specs.Spots.{fresh_count}
 use Rattle.states.specs.Laws.Spots.{rank-rest, rank-end, rest-of, fresh-one, fresh-zero, fresh-above, fresh-met, fresh-most}
-use Rattle.states.proofs.states.rank_of.Goals as goal
-use Rattle.states.proofs.states.rank_of.Goals.{then-other-gt0+then-other-fraction+then-not-contains, else-other-gt0}
-use Rattle.states.proofs.states.rank_of.Goals.{else-other-gt0-via-then-other-gt0+then-other-fraction+else-not-contains}
-use Rattle.states.proofs.states.rank_of.Goals.{else-other-gt0-via-then-other-gt0+else-other-fraction, else-other-gt0-via-else-other-gt0}
+use Rattle.states.proofs.state.rank_of.Goals as goal
+use Rattle.states.proofs.state.rank_of.Goals.{then-other-gt0+then-other-fraction+then-not-contains, else-other-gt0}
+use Rattle.states.proofs.state.rank_of.Goals.{else-other-gt0-via-then-other-gt0+then-other-fraction+else-not-contains}
+use Rattle.states.proofs.state.rank_of.Goals.{else-other-gt0-via-then-other-gt0+else-other-fraction, else-other-gt0-via-else-other-gt0}
 
 pub loop-i-preserved : goal.loop-i-preserved
 loop-i-preserved c =

@@ -1,9 +1,10 @@
 -- The bytes of the four clocks are those of the state's region.
 use Rattle.std.proofs.Common.{◌≡◌, ◌∙◌, ap, ap₂, arith, ℕ}
 use Rattle.std.proofs.lemmas.Grind.{common_steps}
-use Rattle.states.specs.Spots.{state_of, spot_fractions, spot_wholes, fraction_ranks}
+use Rattle.states.specs.Spots.{spot_fractions, spot_wholes, fraction_ranks}
+use Rattle.states.specs.Taken.{state_of}
 use Rattle.states.specs.Laws.Spots.{region-is}
-use Rattle.states.proofs.states.Asked.region.Goals as goal
+use Rattle.states.proofs.state.State.region.Goals as goal
 
 pub returns : goal.returns
 returns c =
