@@ -1,6 +1,7 @@
 -- The reasons and places of refusals: whatever table is refused, the reason's number is from 1 to 13 (`refusal-numbers`), and the
 -- place is within the table or at its end (`refusal-place`).
-use Rattle.std.specs.Prelude.{Ok, Err, Some, None, ℕ, zero, suc, ◌≤◌, ◌<◌, ◌⊎◌, ◌≡◌, refl, Bool, true, false, cond, List, [], ◌∷◌, ltb, length}
+use Rattle.std.specs.Prelude.{Ok, Err, Some, None}
+use Rattle.std.specs.Prelude.{ℕ, zero, suc, ◌≤◌, ◌<◌, ◌⊎◌, ◌≡◌, refl, Bool, true, false, cond, List, [], ◌∷◌, ltb, length}
 use Rattle.std.proofs.Common.{arith, inl, inr, subst}
 use Rattle.table.specs.Format.{max_bytes}
 use Rattle.table.specs.Records.{Record, header, location, invariant, edge, guard, branch, end, record_at, past}

@@ -26,7 +26,8 @@ module _ (table : List ℕ) (first kind i at : ℕ) (here : at ≡ walk_to kind 
 
 -- The loops that list edges and places begin at the first edge, and the loop that reads a table before its first record.
 
-pub comes-start : (table : List ℕ) (count first : ℕ) {A : Type 0} (part : ℕ → A) (old : List A) → Comes table count first part old first 0 old
+pub comes-start : (table : List ℕ) (count first : ℕ) {A : Type 0} (part : ℕ → A) (old : List A)
+    → Comes table count first part old first 0 old
 comes-start table count first part old = rw sub-zero
 
 pub underway-start : (table : List ℕ) → length table ≤ max_bytes → Underway table start 0
