@@ -36,8 +36,8 @@ pub(crate) fn find_anchors(
         → Anchored n old.now stirred.now anchors.new }
 {
     anchors.fill(0);
-    for x in 0..old.len() {
-        let block = old[x] as usize;
+    for (x, lead) in old.iter().enumerate() {
+        let block = *lead as usize;
         if !stirred[x] && linked(anchors, block).is_none() {
             link(anchors, block, x);
         }

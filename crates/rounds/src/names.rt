@@ -15,9 +15,9 @@ pub(crate) fn first_names(reps: &[u64], tags: &mut [u16; MOST_ITEMS], names: &mu
     ensures { (n : ℕ) → length reps.now ≡ n → ((x : ℕ) → x < n → get_or reps.now x 0 < n)
         → Named n reps.now tags.new names.new }
 {
-    for x in 0..reps.len() {
+    for (x, rep) in reps.iter().enumerate() {
         tags[x] = x as u16;
-        names[x] = reps[x];
+        names[x] = *rep;
     }
 }
 
@@ -91,8 +91,8 @@ fn rename(
     ensures changed { Changed (length new.now) names.old names.new result }
 {
     let mut changed = [false; MOST_ITEMS];
-    for x in 0..new.len() {
-        let name = u64::from(at(tags, new[x] as usize, 0));
+    for (x, lead) in new.iter().enumerate() {
+        let name = u64::from(at(tags, *lead as usize, 0));
         changed[x] = name != names[x];
         names[x] = name;
     }

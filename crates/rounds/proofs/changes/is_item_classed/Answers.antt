@@ -17,10 +17,6 @@ loop-e-init c =
           (c.open_edge-e.ensures ∙ edge-open args.graph.n k flags args.x k opened pre.2 pre.1 inside (omega arith)),
     )
 
-pub loop-e-smaller : goal.loop-e-smaller
-loop-e-smaller c =
-    omega (arith, c.open_edge-e-in-loop-e.ensures, edge-most c.args.graph.flags.now c.args.x (c.loop-e.e - 1), c.loop-e-test.true)
-
 pub loop-e-preserved : goal.loop-e-preserved
 loop-e-preserved c =
     let args = c.args in

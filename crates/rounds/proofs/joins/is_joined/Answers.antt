@@ -2,8 +2,18 @@
 use Rattle.std.proofs.Common.{ℕ, suc, ◌≡◌, get_or, sym, ap, ◌∙◌}
 use Rattle.bisimulation.specs.Finite.{next}
 use Rattle.comparison.specs.Laws.Keyed.{twins-meet}
-use Rattle.rounds.specs.Laws.Joins.{anchor-of, joined-some, kin-joined}
+use Rattle.rounds.specs.Laws.Joins.{anchor-of, joined-some, joined-calm, kin-joined}
 use Rattle.rounds.proofs.joins.is_joined.Goals as goal
+
+pub returns-then-not-stirred-x-clause-value : goal.returns-then-not-stirred-x-clause-value
+returns-then-not-stirred-x-clause-value c =
+    let args = c.args in
+    let b = args.before in
+    λ F equipped settled anchored step marked known hx. (
+      sym (joined-calm (next F b.names.now) args.graph.n b.old.now b.stirred.now b.anchors.now anchored settled args.x hx
+          c.if-not-stirred-x.true),
+      equipped,
+    )
 
 pub returns-then-is_twin-clause-value : goal.returns-then-is_twin-clause-value
 returns-then-is_twin-clause-value c =
@@ -33,3 +43,16 @@ returns-in-Some-find-clause-value c =
           args.marks.now kin args.x c.at-in-Some-find.result hz hx t marked c.at-in-Some-find.ensures,
       equipped,
     )
+
+pub returns-clause-value : goal.returns-clause-value
+returns-clause-value c =
+    let args = c.args in
+    let b = args.before in
+    let a = c.in-Some.anchor in
+    λ F equipped settled anchored step marked known hx.
+    let d = next F b.names.now in
+    let link : suc a ≡ get_or b.anchors.now (get_or b.old.now args.x 0) 0 =
+    c.in-Some.ensures ∙ ap (λ (z : ℕ). get_or b.anchors.now z 0) c.at.ensures in
+    let below = (anchor-of d args.graph.n b.old.now b.stirred.now b.anchors.now anchored args.x a link).below in
+    let (same, equipped') = c.is_keyed_next-joins.ensures.value F equipped below hx in
+    (same ∙ sym (joined-some d args.graph.n b.old.now b.stirred.now b.anchors.now anchored args.x a link), equipped')

@@ -11,7 +11,3 @@ returns-then-graph-le-MOST_ITEMS-clause-value c =
     let classes = related-equivalence c.args.graph.n c.args.proposal.now in
     c.judge_firsts.ensures F held closed (reps-own classes reps)
     ∙ accepts-agree F closed c.list_firsts.result c.args.proposal.now (rw (← held.size) (reps-agree classes reps))
-
-pub returns-else-graph-le-MOST_ITEMS-clause-value : goal.returns-else-graph-le-MOST_ITEMS-clause-value
-returns-else-graph-le-MOST_ITEMS-clause-value c =
-    λ F held closed. absurd (omega (arith, held.few, c.if-graph-le-MOST_ITEMS.false))
