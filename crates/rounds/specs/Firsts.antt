@@ -3,7 +3,7 @@
 use Rattle.std.specs.Prelude.{ℕ, suc, ◌%◌, ◌≤◌, ◌<◌, ◌≡◌, Bool, true, ◌&&◌, List, eqb, get_or}
 use Rattle.bisimulation.specs.Finite.{related, lead}
 use Rattle.comparison.specs.Held.{open_below}
-use Rattle.rounds.specs.declared.judging.FirstIndex.{FirstIndex}
+use Rattle.rounds.specs.declared.links.Buckets.{Buckets}
 
 -- The count of buckets, for which there is room: the largest prime that is no more than 4,096, since remainders by it spread well.
 abbrev pub bucket_prime : ℕ
@@ -17,7 +17,7 @@ abbrev pub is_first_in : (list : List ℕ) → (bucket y : ℕ) → Bool
 is_first_in list bucket y = eqb (lead (related list) y) y && eqb (bucket_at list y) bucket
 
 -- The index of the first items below x.
-pub record Indexed (list : List ℕ) (index : FirstIndex) (x : ℕ) : Type 0 where
+pub record Indexed (list : List ℕ) (index : Buckets) (x : ℕ) : Type 0 where
   pub head : (bucket : ℕ) → bucket < bucket_prime → get_or index.heads bucket 0 ≡ open_below (is_first_in list bucket) x
   pub link : (y : ℕ) → y < x → lead (related list) y ≡ y
       → get_or index.links y 0 ≡ open_below (is_first_in list (bucket_at list y)) y

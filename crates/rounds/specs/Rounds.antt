@@ -10,7 +10,7 @@ use Rattle.comparison.specs.Keys.{key_of, Keyed, Equipped}
 use Rattle.rounds.specs.Names.{Named}
 use Rattle.rounds.specs.Changes.{Settled}
 use Rattle.comparison.specs.declared.held.Graph.{Graph}
-use Rattle.rounds.specs.declared.kins.KinIndex.{KinIndex}
+use Rattle.rounds.specs.declared.links.Buckets.{Buckets}
 use Rattle.rounds.specs.declared.rounds.Carried.{Carried}
 
 -- ---- The slices of a graph hold a structure, and keys and shelf go with it
@@ -90,9 +90,9 @@ pub record Sorted (d : ℕ → ℕ → Bool) (n : ℕ) (marks mid : List ℕ) : 
 abbrev pub LinksBelow : (i : ℕ) → (links : List ℕ) → Type 0
 LinksBelow i links = (b z : ℕ) → get_or links b 0 ≡ suc z → z < i
 
-pub record KinsBelow (i : ℕ) (kins : KinIndex) : Type 0 where
-  pub newest : LinksBelow i kins.newest
-  pub older : LinksBelow i kins.older
+pub record KinsBelow (i : ℕ) (kins : Buckets) : Type 0 where
+  pub heads : LinksBelow i kins.heads
+  pub links : LinksBelow i kins.links
 
 -- A kin of item x is an earlier item that is related to it in the next round.
 abbrev pub KinOf : (d : ℕ → ℕ → Bool) → (x : ℕ) → Option ℕ → Type 0

@@ -8,8 +8,8 @@ ghost use Rattle.rounds.specs.Changes.{Settled};
 ghost use Rattle.rounds.specs.Rounds.{Anchored, joined_by, join_mark, MarkedTo, Step, KinsBelow};
 ghost use Rattle.rounds.specs.Rounds.{KeyedIn, EquippedIn};
 
-use crate::kins::{KinIndex, sign_of};
-use crate::links::{link, linked};
+use crate::kins::{find_kin, put_kin, sign_of};
+use crate::links::{Buckets, link, linked};
 use crate::{MOST_ITEMS, SHELF};
 use comparison::Graph;
 use slices::at;
@@ -55,7 +55,7 @@ fn is_joined(
     marks: &[u16; MOST_ITEMS],
     keys: &mut [u64; MOST_ITEMS],
     shelf: &mut [u64; SHELF],
-    kins: &mut KinIndex,
+    kins: &mut Buckets,
 ) -> bool
     requires { x < most_items }
     ensures kins { (i : ℕ) → x < i → KinsBelow i kins.old → KinsBelow i kins.new }
@@ -86,11 +86,11 @@ fn is_joined(
         return true;
     }
     let sign = sign_of(graph, x, names);
-    if let Some(kin) = kins.find(graph, x, kins.newest(sign), names) {
+    if let Some(kin) = find_kin(graph, x, kins.newest(sign), names, kins) {
         return at(marks, kin, 0) % 2 == 1;
     }
     let joins = graph.is_keyed_next(anchor, x, names, keys, shelf);
-    kins.put(x, sign, keys);
+    put_kin(x, sign, keys, kins);
     joins
 }
 
@@ -124,7 +124,7 @@ pub(crate) fn fill_marks(
 {
     // Keeps the codes of an anchor that items are compared with; empty at first.
     let mut shelf = [0u64; SHELF];
-    let mut kins = KinIndex::new();
+    let mut kins = Buckets::new();
     let old = before.old;
     for x in 0..graph.n {
         let joins = is_joined(graph, before, x, marks, keys, &mut shelf, &mut kins);

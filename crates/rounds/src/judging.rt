@@ -9,7 +9,7 @@ ghost use Rattle.rounds.specs.Firsts.{bucket_prime, Indexed};
 ghost use Rattle.rounds.specs.Rounds.{HeldIn, judged_with};
 
 use crate::MOST_ITEMS;
-use crate::links::linked;
+use crate::links::Buckets;
 use comparison::Graph;
 use slices::at;
 
@@ -18,45 +18,26 @@ use slices::at;
 // Counts the buckets: the largest prime that is no more than 4,096, since remainders by it spread well.
 const BUCKETS: usize = 4093;
 
-// Links each bucket to the last of the first items with each number of a proposal that is in it, and each of these to the one before it.
-#[derive(Drop)]
-struct FirstIndex {
-    heads: [u16; MOST_ITEMS],
-    links: [u16; MOST_ITEMS],
-}
-
 fn bucket_of(number: u64) -> usize
     ensures { result ≡ number % bucket_prime }
 {
     (number % BUCKETS as u64) as usize
 }
 
-impl FirstIndex {
-    // Finds the first item with the number of item x, among those below x.
-    fn find(&self, x: usize, proposal: &[u64]) -> Option<usize>
-        requires { Indexed proposal.now self.now x }
-        ensures { MatchOption result (lead (related proposal.now) x ≡ x) (λ y. (lead (related proposal.now) x ≡ y) × (y < x)) }
-    {
-        let number = at(proposal, x, 0);
-        let mut next = linked(&self.heads, bucket_of(number));
-        while let Some(y) = next {
-            if at(proposal, y, 0) == number {
-                break;
-            }
-            next = linked(&self.links, y);
+// Finds the first item with the number of item x, among those below x. The index has those of them that are first with their numbers.
+fn find_first(x: usize, proposal: &[u64], index: &Buckets) -> Option<usize>
+    requires { Indexed proposal.now index.now x }
+    ensures { MatchOption result (lead (related proposal.now) x ≡ x) (λ y. (lead (related proposal.now) x ≡ y) × (y < x)) }
+{
+    let number = at(proposal, x, 0);
+    let mut next = index.newest(bucket_of(number));
+    while let Some(y) = next {
+        if at(proposal, y, 0) == number {
+            break;
         }
-        next
+        next = index.before(y);
     }
-
-    // Makes item x, which leads, the head of its bucket.
-    fn put(&mut self, x: usize, proposal: &[u64])
-        requires { (x < most_items) × Indexed proposal.now self.old x × (lead (related proposal.now) x ≡ x) }
-        ensures { Indexed proposal.now self.new (x + 1) }
-    {
-        let bucket = bucket_of(at(proposal, x, 0));
-        self.links[x] = self.heads[bucket];
-        self.heads[bucket] = (x + 1) as u16;
-    }
+    next
 }
 
 // Makes the list of each item's lead in the proposal.
@@ -65,15 +46,12 @@ fn list_firsts(n: usize, proposal: &[u64]) -> [u64; MOST_ITEMS]
     ensures { Reps (related proposal.now) n result }
 {
     let mut firsts = [0u64; MOST_ITEMS];
-    let mut index = FirstIndex {
-        heads: [0; MOST_ITEMS],
-        links: [0; MOST_ITEMS],
-    };
+    let mut index = Buckets::new();
     for x in 0..n {
-        let first = match index.find(x, proposal) {
+        let first = match find_first(x, proposal, &index) {
             Some(first) => first,
             None => {
-                index.put(x, proposal);
+                index.put(bucket_of(at(proposal, x, 0)), x);
                 x
             }
         };

@@ -7,7 +7,7 @@ ghost use Rattle.bisimulation.specs.Finite.{Finite, structure, next};
 ghost use Rattle.comparison.specs.Held.{most_items, most_edges};
 ghost use Rattle.rounds.specs.Rounds.{HeldIn, KinsBelow, KinOf};
 
-use crate::links::linked;
+use crate::links::Buckets;
 use crate::{MOST_EDGES, MOST_ITEMS};
 use comparison::Graph;
 use slices::at;
@@ -64,61 +64,34 @@ pub(crate) fn sign_of(graph: Graph, x: usize, names: &[u64; MOST_ITEMS]) -> usiz
     sign
 }
 
-// Links to the newest kin of each sign, and from each kin to the one before it.
-#[derive(Drop)]
-pub(crate) struct KinIndex {
-    newest: [u16; MOST_ITEMS],
-    older: [u16; MOST_ITEMS],
+// Finds a kin that item x is plainly alike to. An item is given that is tried first, and then the kins before it are.
+pub(crate) fn find_kin(
+    graph: Graph,
+    x: usize,
+    first: Option<usize>,
+    names: &[u64; MOST_ITEMS],
+    kins: &Buckets,
+) -> Option<usize>
+    ensures { (F : Finite) → HeldIn F graph.entry → Closed (structure F) → x < graph.entry.n
+        → KinsBelow x kins.now → IfSome first (λ z. z < x) → KinOf (next F names.now) x result }
+{
+    let mut tried = first;
+    for _ in 0..KIN_COUNT {
+        let kin = tried?;
+        if graph.is_twin(kin, x, names) {
+            return tried;
+        }
+        tried = kins.before(kin);
+    }
+    None
 }
 
-impl KinIndex {
-    pub(crate) fn new() -> Self
-        ensures { KinsBelow 0 result }
-    {
-        KinIndex {
-            newest: [0; MOST_ITEMS],
-            older: [0; MOST_ITEMS],
-        }
-    }
-
-    // Returns the newest kin of a sign.
-    pub(crate) fn newest(&self, sign: usize) -> Option<usize>
-        ensures { (x : ℕ) → KinsBelow x self.now → IfSome result (λ z. z < x) }
-    {
-        linked(&self.newest, sign)
-    }
-
-    // Finds a kin that item x is plainly alike to. An item is given that is tried first, and then the kins before it are.
-    pub(crate) fn find(
-        &self,
-        graph: Graph,
-        x: usize,
-        first: Option<usize>,
-        names: &[u64; MOST_ITEMS],
-    ) -> Option<usize>
-        ensures { (F : Finite) → HeldIn F graph.entry → Closed (structure F) → x < graph.entry.n
-            → KinsBelow x self.now → IfSome first (λ z. z < x)
-            → KinOf (next F names.now) x result }
-    {
-        let mut tried = first;
-        for _ in 0..KIN_COUNT {
-            let kin = tried?;
-            if graph.is_twin(kin, x, names) {
-                return tried;
-            }
-            tried = linked(&self.older, kin);
-        }
-        None
-    }
-
-    // Makes item x the newest kin of its sign, where its key had to be computed: it was not plainly alike to those that were tried.
-    pub(crate) fn put(&mut self, x: usize, sign: usize, keys: &[u64; MOST_ITEMS])
-        requires { (x < most_items) × (sign < most_items) }
-        ensures { (i : ℕ) → x < i → KinsBelow i self.old → KinsBelow i self.new }
-    {
-        if keys[x] != 0 {
-            self.older[x] = self.newest[sign];
-            self.newest[sign] = (x + 1) as u16;
-        }
+// Makes item x the newest kin of its sign, where its key had to be computed: it was not plainly alike to those that were tried.
+pub(crate) fn put_kin(x: usize, sign: usize, keys: &[u64; MOST_ITEMS], kins: &mut Buckets)
+    requires { (x < most_items) × (sign < most_items) }
+    ensures { (i : ℕ) → x < i → KinsBelow i kins.old → KinsBelow i kins.new }
+{
+    if keys[x] != 0 {
+        kins.put(sign, x);
     }
 }

@@ -1,8 +1,9 @@
 // Links to items in stored arrays: link y + 1 tells item y, and 0 tells none.
-ghost use Rattle.std.specs.Prelude.{◌+◌, ◌<◌, ◌≡◌, get_or, set};
+ghost use Rattle.std.specs.Prelude.{ℕ, ◌+◌, ◌<◌, ◌≡◌, length, get_or, set};
 ghost use Rattle.comparison.specs.Held.{most_items};
 ghost use Rattle.rounds.specs.Links.{link_to};
 
+use crate::MOST_ITEMS;
 use slices::{at, put};
 
 // Returns the item that link i tells.
@@ -18,4 +19,50 @@ pub(crate) fn link(links: &mut [u16], i: usize, y: usize)
     ensures { links.new ≡ set links.old i (y + 1) }
 {
     put(links, i, (y + 1) as u16);
+}
+
+// Holds items in buckets: links from each bucket to the item that came last, and from each item to the one before it.
+#[derive(Drop)]
+pub(crate) struct Buckets {
+    heads: [u16; MOST_ITEMS],
+    links: [u16; MOST_ITEMS],
+}
+
+impl Buckets {
+    // Makes empty buckets.
+    pub(crate) fn new() -> Self
+        ensures { (b : ℕ) → (get_or result.heads b 0 ≡ 0) × (get_or result.links b 0 ≡ 0) }
+    {
+        Buckets {
+            heads: [0; MOST_ITEMS],
+            links: [0; MOST_ITEMS],
+        }
+    }
+
+    // Returns the item that came last.
+    pub(crate) fn newest(&self, bucket: usize) -> Option<usize>
+        ensures { link_to result ≡ get_or self.now.heads bucket 0 }
+    {
+        linked(&self.heads, bucket)
+    }
+
+    // Returns the item that came before item x.
+    pub(crate) fn before(&self, x: usize) -> Option<usize>
+        ensures { link_to result ≡ get_or self.now.links x 0 }
+    {
+        linked(&self.links, x)
+    }
+
+    // Puts item x into a bucket.
+    pub(crate) fn put(&mut self, bucket: usize, x: usize)
+        requires { (bucket < most_items) × (x < most_items) }
+        ensures after { self.new ≡ record {
+          heads = set self.old.heads bucket (x + 1);
+          links = set self.old.links x (get_or self.old.heads bucket 0);
+        } }
+        ensures room { (length self.old.heads ≡ most_items) × (length self.old.links ≡ most_items) }
+    {
+        self.links[x] = self.heads[bucket];
+        self.heads[bucket] = (x + 1) as u16;
+    }
 }

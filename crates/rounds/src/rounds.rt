@@ -13,8 +13,8 @@ ghost use Rattle.rounds.specs.Rounds.{HeldIn, KeyedIn, EquippedIn, KinsBelow, Le
 
 use crate::changes::{is_classed, list_order, stir};
 use crate::joins::{Before, fill_marks, find_anchors};
-use crate::kins::{KinIndex, sign_of};
-use crate::links::{link, linked};
+use crate::kins::{find_kin, put_kin, sign_of};
+use crate::links::{Buckets, link, linked};
 use crate::names::{first_names, name_round};
 use crate::numbering::number_blocks;
 use crate::{MOST_EDGES, MOST_ITEMS, SHELF};
@@ -73,7 +73,7 @@ fn kin_lead(
     x: usize,
     first: Option<usize>,
     names: &[u64; MOST_ITEMS],
-    kins: &KinIndex,
+    kins: &Buckets,
     new: &[u64],
 ) -> Option<usize>
     ensures { (F : Finite) → HeldIn F graph.entry → Closed (structure F)
@@ -81,7 +81,7 @@ fn kin_lead(
         → Reps (next F names.now) x new.now → KinsBelow x kins.now → IfSome first (λ z. z < x)
         → LedByKin (next F names.now) x result }
 {
-    let kin = kins.find(graph, x, first, names)?;
+    let kin = find_kin(graph, x, first, names, kins)?;
     Some(at(new, kin, 0) as usize)
 }
 
@@ -123,7 +123,7 @@ fn next_lead(
     sorting: Sorting,
     x: usize,
     new: &[u64],
-    kins: &mut KinIndex,
+    kins: &mut Buckets,
     keys: &mut [u64; MOST_ITEMS],
     shelf: &mut [u64; SHELF],
     links: &mut [u16; MOST_ITEMS],
@@ -155,7 +155,7 @@ fn next_lead(
         return lead;
     }
     let lead = search_lead(graph, x, start, sorting.names, keys, shelf, links);
-    kins.put(x, sign, keys);
+    put_kin(x, sign, keys, kins);
     lead
 }
 
@@ -177,7 +177,7 @@ fn next_round(
     // Keeps the codes of a leader that items are compared with; empty at first.
     let mut shelf = [0u64; SHELF];
     let mut links = [0u16; MOST_ITEMS];
-    let mut kins = KinIndex::new();
+    let mut kins = Buckets::new();
     let mut count = 0;
     for x in 0..graph.n {
         let lead = next_lead(

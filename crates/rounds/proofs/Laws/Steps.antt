@@ -23,7 +23,7 @@ use Rattle.rounds.specs.Laws.Rounds as R
 use Rattle.rounds.specs.Laws.Rounds.{Counts}
 use Rattle.rounds.specs.Laws.Firsts.{indexed-on}
 use Rattle.rounds.specs.Laws.Names as N
-use Rattle.rounds.specs.declared.judging.FirstIndex.{FirstIndex}
+use Rattle.rounds.specs.declared.links.Buckets.{Buckets}
 
 -- ---- Lists filled from the front
 
@@ -239,13 +239,13 @@ Followed g names names' stirred = (changed : List Bool) × (Changed g.n names na
 -- ---- The index of first items
 
 -- The index, in lists that have room for all items.
-pub record IndexedIn (list : List ℕ) (stored : FirstIndex) (x : ℕ) : Type 0 where
+pub record IndexedIn (list : List ℕ) (stored : Buckets) (x : ℕ) : Type 0 where
   pub buckets : length stored.heads ≡ most_items
   pub room : length stored.links ≡ most_items
   pub index : Indexed list stored x
 
 -- What is stored for an item that leads.
-pub indexed-put : (list : List ℕ) (stored : FirstIndex) (x : ℕ) → IndexedIn list stored x → (bucket head : ℕ) (heads' links' : List ℕ)
+pub indexed-put : (list : List ℕ) (stored : Buckets) (x : ℕ) → IndexedIn list stored x → (bucket head : ℕ) (heads' links' : List ℕ)
     → x < most_items → lead (related list) x ≡ x → bucket ≡ bucket_at list x → head ≡ get_or stored.heads bucket 0
     → links' ≡ set stored.links x head → heads' ≡ set stored.heads bucket (x + 1)
     → IndexedIn list (record { heads = heads'; links = links' }) (x + 1)

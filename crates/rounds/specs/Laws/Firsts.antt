@@ -8,7 +8,7 @@ use Rattle.bisimulation.proofs.Laws.Tests.{clash, both, same?, and-iff, fails}
 use Rattle.bisimulation.proofs.Laws.Leads.{related-equivalence, lead_low, lead-lowest, lead-lead, lead-found, lead-related}
 use Rattle.comparison.specs.Held.{open_below}
 use Rattle.rounds.specs.Firsts.{bucket_prime, bucket_at, is_first_in, Indexed, Looking}
-use Rattle.rounds.specs.declared.judging.FirstIndex.{FirstIndex}
+use Rattle.rounds.specs.declared.links.Buckets.{Buckets}
 use Rattle.comparison.specs.Laws.Open.{open_none, open-yes, open_no, open-most, open_at}
 use Rattle.comparison.specs.Laws.Down.{open-past}
 use Rattle.comparison.specs.Laws.Steps.{below_one}
@@ -58,7 +58,7 @@ module _ (list : List ℕ) where
         ahead = λ y below leads t. open-ahead p e y (ahead y below leads t) (first-in (bucket_at list x) y leads (same-bucket y x t));
       }
 
-  module _ (stored : FirstIndex) (x : ℕ) (index : Indexed list stored x) where
+  module _ (stored : Buckets) (x : ℕ) (index : Indexed list stored x) where
     pub looking-start : Looking list x (get_or stored.heads (bucket_at list x) 0)
     looking-start =
         rw (index.head (bucket_at list x) (bucket-below list x)) (looking-from x x (omega arith) (λ y below leads t. below))
@@ -110,14 +110,14 @@ module _ (list : List ℕ) where
 
   -- ---- The index
 
-  pub indexed-none : (stored : FirstIndex) → ((b : ℕ) → get_or stored.heads b 0 ≡ 0) → Indexed list stored 0
+  pub indexed-none : (stored : Buckets) → ((b : ℕ) → get_or stored.heads b 0 ≡ 0) → Indexed list stored 0
   indexed-none stored none =
       record {
         head = λ bucket h. none bucket ∙ sym (open_none (is_first_in list bucket));
         link = λ y h leads. absurd (omega arith);
       }
 
-  module _ (stored : FirstIndex) (x : ℕ) (index : Indexed list stored x) where
+  module _ (stored : Buckets) (x : ℕ) (index : Indexed list stored x) where
     -- An item that does not lead is in no bucket.
     pub indexed-past : ¬ (lead (related list) x ≡ x) → Indexed list stored (x + 1)
     indexed-past other =

@@ -29,7 +29,7 @@ use Rattle.comparison.specs.Laws.Compare.{all-agree}
 use Rattle.comparison.specs.Laws.Steps.{below_one}
 use Rattle.rounds.specs.Rounds.{Numbered, Led, FirstWith, Seen, label_room}
 use Rattle.rounds.specs.Rounds.{Step, LinksBelow, KinsBelow, After, Chains, Walked, Last, Turned, Rested, judged_with}
-use Rattle.rounds.specs.declared.kins.KinIndex.{KinIndex}
+use Rattle.rounds.specs.declared.links.Buckets.{Buckets}
 use Rattle.rounds.specs.Links.{link_to}
 use Rattle.std.specs.Prelude.{Option, None, Some, IfSome}
 use Rattle.std.specs.Option.{is_some}
@@ -197,17 +197,17 @@ links-set links i b v below known = go (dec_lt b (length links))
             below z (sym (ap (λ (m : ℕ). get_or (set links b v) m 0) s ∙ get_or-set_same links b v 0 h) ∙ f)
         at c z f (inr o) = known c z (sym (get_or-set_other links b c v 0 o) ∙ f)
 
-pub kins-kept : (kins : KinIndex) (i : ℕ) → KinsBelow i kins → KinsBelow (i + 1) kins
+pub kins-kept : (kins : Buckets) (i : ℕ) → KinsBelow i kins → KinsBelow (i + 1) kins
 kins-kept kins i known =
-    record { newest = links-kept kins.newest i known.newest; older = links-kept kins.older i known.older }
+    record { heads = links-kept kins.heads i known.heads; links = links-kept kins.links i known.links }
 
 -- Item x becomes the newest kin of its sign, and what was the newest comes after it.
-pub kins-put : (kins : KinIndex) (x sign i : ℕ) → x < i → KinsBelow i kins
-    → KinsBelow i (record { newest = set kins.newest sign (x + 1); older = set kins.older x (get_or kins.newest sign 0) })
+pub kins-put : (kins : Buckets) (x sign i : ℕ) → x < i → KinsBelow i kins
+    → KinsBelow i (record { heads = set kins.heads sign (x + 1); links = set kins.links x (get_or kins.heads sign 0) })
 kins-put kins x sign i h known =
     record {
-      newest = links-set kins.newest i sign (x + 1) (λ z f. omega arith) known.newest;
-      older = links-set kins.older i x (get_or kins.newest sign 0) (λ z f. known.newest sign z f) known.older;
+      heads = links-set kins.heads i sign (x + 1) (λ z f. omega arith) known.heads;
+      links = links-set kins.links i x (get_or kins.heads sign 0) (λ z f. known.heads sign z f) known.links;
     }
 
 -- The item that a link tells.

@@ -3,6 +3,7 @@ use Rattle.std.proofs.Common.{ℕ, suc, ◌≡◌, get_or, sym, ap, ◌∙◌}
 use Rattle.bisimulation.specs.Finite.{next}
 use Rattle.comparison.specs.Laws.Keyed.{twins-meet}
 use Rattle.rounds.specs.Laws.Joins.{anchor-of, joined-some, joined-calm, kin-joined}
+use Rattle.rounds.specs.Laws.Rounds.{linked-below}
 use Rattle.rounds.proofs.joins.is_joined.Goals as goal
 
 pub returns-then-not-stirred-x-clause-value : goal.returns-then-not-stirred-x-clause-value
@@ -32,15 +33,16 @@ returns-then-is_twin-clause-value c =
       equipped,
     )
 
-pub returns-in-Some-find-clause-value : goal.returns-in-Some-find-clause-value
-returns-in-Some-find-clause-value c =
+pub returns-in-Some-find_kin-clause-value : goal.returns-in-Some-find_kin-clause-value
+returns-in-Some-find_kin-clause-value c =
     let args = c.args in
     let b = args.before in
-    let kin = c.in-Some-find.kin in
+    let kin = c.in-Some-find_kin.kin in
     λ F equipped settled anchored step marked known hx.
-    let (hz, t) = c.in-Some-find.ensures F equipped.keyed.held equipped.keyed.closed hx known (c.newest.ensures args.x known) in (
+    let newest = linked-below args.kins.now.heads args.x c.sign_of-sign.result c.newest.result c.newest.ensures known.heads in
+    let (hz, t) = c.in-Some-find_kin.ensures F equipped.keyed.held equipped.keyed.closed hx known newest in (
       kin-joined (next F b.names.now) args.graph.n b.old.now b.stirred.now b.anchors.now anchored step.classes step.finer
-          args.marks.now kin args.x c.at-in-Some-find.result hz hx t marked c.at-in-Some-find.ensures,
+          args.marks.now kin args.x c.at-in-Some-find_kin.result hz hx t marked c.at-in-Some-find_kin.ensures,
       equipped,
     )
 

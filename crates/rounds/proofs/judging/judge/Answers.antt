@@ -1,5 +1,5 @@
 -- A proposal and its rep map relate the same items.
-use Rattle.std.proofs.Common.{arith, ◌∙◌}
+use Rattle.std.proofs.Common.{◌∙◌}
 use Rattle.bisimulation.proofs.Laws.Leads.{related-equivalence, reps-own, reps-agree}
 use Rattle.rounds.specs.Laws.Rounds.{accepts-agree}
 use Rattle.rounds.proofs.judging.judge.Goals as goal

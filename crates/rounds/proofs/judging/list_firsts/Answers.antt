@@ -2,9 +2,8 @@
 use Rattle.std.proofs.Common.{ℕ, ◌<◌, length, length-set, arith, sym, ◌∙◌, replicate}
 use Rattle.std.proofs.lemmas.List.{length-replicate}
 use Rattle.bisimulation.specs.Finite.{related}
-use Rattle.comparison.specs.Laws.Steps.{zeros-at}
 use Rattle.rounds.specs.Laws.Rounds.{reps-none, reps-on}
-use Rattle.rounds.specs.Laws.Firsts.{indexed-none, indexed-past}
+use Rattle.rounds.specs.Laws.Firsts.{indexed-none, indexed-past, indexed-on}
 use Rattle.rounds.proofs.judging.list_firsts.Goals.{in-Some, in-None}
 use Rattle.rounds.proofs.judging.list_firsts.Goals as goal
 
@@ -13,7 +12,7 @@ loop-x-init c =
     let list = c.args.proposal.now in (
       length-replicate {A = ℕ} 4096 0,
       reps-none (related list) (replicate 4096 0),
-      indexed-none list (record { heads = replicate 4096 0; links = replicate 4096 0 }) (zeros-at 4096),
+      indexed-none list c.new-index.result (λ b. (c.new-index.ensures b).0),
     )
 
 pub loop-x-preserved : goal.loop-x-preserved
@@ -21,7 +20,7 @@ loop-x-preserved c =
     let list = c.args.proposal.now in
     let loop = c.loop-x in
     let inside : loop.x < length loop.firsts = omega (arith, loop.invariant.0, c.loop-x-test.true, c.requires) in
-    elim c.match-find.branch [
+    elim c.match-find_first.branch [
       | in-Some w ↦ rw (w.first-is, w.index-is) (
         length-set loop.firsts loop.x w.in-Some.first ∙ loop.invariant.0,
         reps-on (related list) loop.firsts loop.x w.in-Some.first inside loop.invariant.1 (sym w.in-Some.ensures.0),
@@ -30,6 +29,8 @@ loop-x-preserved c =
       | in-None w ↦ rw (w.first-is, w.index-is) (
         length-set loop.firsts loop.x loop.x ∙ loop.invariant.0,
         reps-on (related list) loop.firsts loop.x loop.x inside loop.invariant.1 (sym w.in-None.ensures),
-        w.put.ensures,
+        rw (w.put.ensures.after, w.bucket_of.ensures, w.at.ensures)
+            (indexed-on list loop.index loop.x loop.invariant.2 (omega (arith, w.put.ensures.room.0))
+            (omega (arith, w.put.ensures.room.1, c.loop-x-test.true, c.requires)) w.in-None.ensures),
       )
     ]

@@ -2,7 +2,7 @@
 use Rattle.std.proofs.Common.{get_or, set, arith, refl, sym}
 use Rattle.bisimulation.specs.Finite.{next}
 use Rattle.std.proofs.Common.{get_or-set_same}
-use Rattle.rounds.specs.Laws.Rounds.{chains-cleared, placed-own, placed-known}
+use Rattle.rounds.specs.Laws.Rounds.{linked-below, chains-cleared, placed-own, placed-known}
 use Rattle.rounds.proofs.rounds.next_lead.Goals as goal
 
 pub returns-then-x-start-clause-value : goal.returns-then-x-start-clause-value
@@ -54,7 +54,7 @@ returns-in-Some-kin_lead-clause-value c =
     let d = next F s.names.now in
     let cleared = chains-cleared d n s.mid.now sorted.step args.links.now x hx chains in
     let led = c.in-Some-kin_lead.ensures F equipped.keyed.held equipped.keyed.closed sorted.step.classes hx reps known
-    (c.newest.ensures x known) in
+    (linked-below args.kins.now.heads x c.sign_of-sign.result c.newest.result c.newest.ensures known.heads) in
     let (own, linked) = placed-known d n s.mid.now sorted.step (set args.links.now x 0) x hx cleared c.in-Some-kin_lead.lead
     (sym led.0) led.1 in
     (own, linked, equipped)

@@ -2,7 +2,7 @@
 use Rattle.std.proofs.Common.{◌<◌}
 use Rattle.std.specs.Prelude.{IfSome}
 use Rattle.rounds.specs.Rounds.{KinsBelow}
-use Rattle.rounds.proofs.kins.KinIndex.find.Given as goal
+use Rattle.rounds.proofs.kins.find_kin.Given as goal
 
 abbrev pub invariant-loop : goal.invariant-loop
-invariant-loop l = KinsBelow l.x l.self → IfSome l.fn.first (λ z. z < l.x) → IfSome l.tried (λ z. z < l.x)
+invariant-loop l = KinsBelow l.x l.kins → IfSome l.fn.first (λ z. z < l.x) → IfSome l.tried (λ z. z < l.x)

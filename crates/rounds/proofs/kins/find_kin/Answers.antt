@@ -2,7 +2,7 @@
 use Rattle.std.proofs.Common.{◌<◌, arith}
 use Rattle.comparison.specs.Laws.Keyed.{twins-meet}
 use Rattle.rounds.specs.Laws.Rounds.{linked-below}
-use Rattle.rounds.proofs.kins.KinIndex.find.Goals as goal
+use Rattle.rounds.proofs.kins.find_kin.Goals as goal
 
 pub returns-then-is_twin : goal.returns-then-is_twin
 returns-then-is_twin c =
@@ -19,4 +19,4 @@ returns-then-is_twin c =
 
 pub loop-preserved : goal.loop-preserved
 loop-preserved c =
-    λ known first. linked-below c.args.self.now.older c.args.x c.in_ok-kin.kin c.linked-tried.result c.linked-tried.ensures known.older
+    λ known first. linked-below c.args.kins.now.links c.args.x c.in_ok-kin.kin c.before-tried.result c.before-tried.ensures known.links
