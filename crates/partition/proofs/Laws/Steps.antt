@@ -1,7 +1,7 @@
 -- What follows from the definitions of the calls, test by test, and of one region by itself: laws that stand for a reader of the
 -- definitions; the code needs none of them.
-use Rattle.std.specs.Prelude.{ℕ, ◌≤◌, ◌<◌, ◌≡◌, refl, Bool, true, false, cond, ◌||◌, List, ◌++◌, eqb, leb, ltb, length, get_or, drop, replicate}
-use Rattle.std.specs.Prelude.{Ok}
+use Rattle.std.specs.Prelude.{ℕ, ◌≤◌, ◌<◌, ◌≡◌, refl, Bool, true, false, cond, ◌||◌, List, ◌++◌, eqb, leb, ltb}
+use Rattle.std.specs.Prelude.{length, get_or, drop, replicate, Ok}
 use Rattle.std.proofs.Common.{arith, sym, ◌∙◌, ap, ap₂, lt-ltb, le-ltb, le-leb}
 use Rattle.std.proofs.lemmas.Bool.{lt-leb}
 use Rattle.std.proofs.lemmas.List.{length-replicate}

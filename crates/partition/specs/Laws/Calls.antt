@@ -20,7 +20,8 @@ use Rattle.partition.specs.Instances.{graph}
 use Rattle.partition.specs.Room.{ShownIn, HeldIn, Lends}
 use Rattle.partition.specs.Laws.Instances.{call-closed}
 use Rattle.partition.specs.Laws.Shown.{whole-held}
-use Rattle.partition.specs.Calls.{Accepted, from_outcome, after_graph, refuses, acceptance, counts, is_short, is_asked_past, blocks_of, numbered_in}
+use Rattle.partition.specs.Calls.{Accepted, from_outcome, after_graph, refuses, acceptance, counts, is_short, is_asked_past}
+use Rattle.partition.specs.Calls.{blocks_of, numbered_in}
 use Rattle.partition.specs.Calls.{reduce_of, list_of, list_after, shared_of, pair_of, pair_list_of, pair_list_after, judged_of}
 use Rattle.table.specs.declared.refusals.Reason.{Reason}
 use Rattle.table.specs.declared.refusals.Reason.TheVariants.{TooManyRegions, ShortList, WrongLength, NoBisimulation, UnknownRegion}
@@ -62,7 +63,8 @@ module _ {A : Type 0} (refuse : Reason → ℕ → A) (go : Model → List Regio
   unfolding outcome_of
   on-refused r e = by_answer (read_table table) e
     where
-      same : (reason : Reason) (place : ℕ) → ◌≡◌ {A = Result ℕ Refusal} (Err r) (Err (refusal_at reason place)) → refuse r.reason r.place ≡ refuse reason place
+      same : (reason : Reason) (place : ℕ) → ◌≡◌ {A = Result ℕ Refusal} (Err r) (Err (refusal_at reason place))
+          → refuse r.reason r.place ≡ refuse reason place
       same reason place e =
           let is : r ≡ refusal_at reason place = cc in ap (λ (x : Refusal). refuse x.reason x.place) is
 

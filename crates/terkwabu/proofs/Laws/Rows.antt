@@ -15,7 +15,8 @@ use Rattle.regions.specs.Laws.Call.{refused-graph, cut-graph, whole-graph}
 use Rattle.regions.specs.Laws.Order.{whole-order, cut-order}
 use Rattle.regions.specs.Laws.View.{has-number, number-listed}
 use Rattle.partition.specs.Passed.{Reason, Refusal, number, refusal_at}
-use Rattle.table.specs.declared.refusals.Reason.TheVariants.{TooManyRegions, ShortList, WrongLength, NoBisimulation, UnknownRegion, BadState, Unreached}
+use Rattle.table.specs.declared.refusals.Reason.TheVariants.{TooManyRegions, ShortList, WrongLength, NoBisimulation, UnknownRegion}
+use Rattle.table.specs.declared.refusals.Reason.TheVariants.{BadState, Unreached}
 use Rattle.states.specs.States.{State, IsState}
 use Rattle.states.specs.Alike.{region_in}
 use Rattle.states.specs.StateCall.{asked, strays, is_not_taken, own_state, numbered, placed_among, placed_from, place_of}
@@ -32,8 +33,8 @@ use Rattle.partition.specs.Laws.Bisimilar.{accepted-iff}
 use Rattle.listing.specs.Printed.{refusal_line}
 use Rattle.listing.specs.Parts.{text_from, text_of, fitted, buffer_after, part_from, part_of}
 use Rattle.listing.specs.declared.parts.Part.TheVariants as T
-use Rattle.terkwabu.specs.Answers.{refused_as, result_as, of_refusal, of, told_number, told_counts, told_sharing, told_acceptance, of_graph, of_placing}
-use Rattle.terkwabu.specs.Answers.{of_reduction, of_pairing, of_judgement, told_part, of_part}
+use Rattle.terkwabu.specs.Answers.{refused_as, result_as, of_refusal, of, told_number, told_counts, told_sharing, told_acceptance}
+use Rattle.terkwabu.specs.Answers.{of_graph, of_placing, of_reduction, of_pairing, of_judgement, told_part, of_part}
 use Rattle.terkwabu.specs.Calls.{GraphCall, PlaceCall, ReduceCall, PairCall, JudgeCall, PartCall, LineCall}
 use Rattle.terkwabu.specs.Rows.{Stopped, row-1-13, row-14, row-15, GraphHeld, ByList, stopped, went_on}
 use Rattle.terkwabu.specs.Rows.{state_asked, Takes, GraphRows, graph-result, PlaceRows, place-row-20, place-row-21, place-result}
@@ -404,7 +405,8 @@ judge-own table cap proposal a =
   where
     by_tests : (x : Bool) → eqb (length proposal) (length a.found) ≡ x → (y : Bool)
         → accepts (graph a.model a.found) proposal ≡ y
-        → JudgeRows proposal a.model a.found (of_judgement (cond (not x) (refuses WrongLength 0) (cond y acceptance (refuses NoBisimulation 0))))
+        → JudgeRows proposal a.model a.found
+        (of_judgement (cond (not x) (refuses WrongLength 0) (cond y acceptance (refuses NoBisimulation 0))))
     by_tests false ex y ey = judge-row-17 (eqb-false _ _ ex)
     by_tests true ex true ey = judge-result (eqb-true _ _ ex) ((proposed-iff table cap a proposal).0 ey)
     by_tests true ex false ey =
