@@ -1,36 +1,29 @@
 // A digest of a sequence of numbers: 0, and then for each number x the old digest times 257 plus x plus 1, modulo MODULUS.
-ghost use Rattle.std.specs.Prelude.{◌<◌};
+use std::fmt;
 
 const MODULUS: u64 = 4294967291;
 
-// The digest with one number more.
-pub(crate) fn mix(digest: u64, x: usize) -> u64 {
-    let number = (x as u64) % 4294967296;
-    ((digest % MODULUS) * 257 + number + 1) % MODULUS
-}
+#[derive(Clone, Copy, Debug, PartialEq, Eq)]
+pub(crate) struct Digest(u64);
 
-// The digest with all numbers of a list more.
-pub(crate) fn mix_list(digest: u64, list: &[usize]) -> u64 {
-    let mut now = digest;
-    let mut i = 0;
-    while i < list.len() {
-        now = mix(now, list[i]);
-        i = i + 1;
+impl Digest {
+    // The digest of no numbers.
+    pub(crate) const EMPTY: Digest = Digest(0);
+
+    // The digest with one number more, of which the low 32 bits count.
+    pub(crate) fn with(self, number: u64) -> Digest {
+        Digest(((self.0 % MODULUS) * 257 + number % 4294967296 + 1) % MODULUS)
     }
-    now
-}
 
-fn wide(byte: u8) -> usize {
-    byte as usize
-}
-
-// The digest with all bytes of a list more.
-pub(crate) fn mix_bytes(digest: u64, list: &[u8]) -> u64 {
-    let mut now = digest;
-    let mut i = 0;
-    while i < list.len() {
-        now = mix(now, wide(list[i]));
-        i = i + 1;
+    // The digest with all numbers of a list more.
+    pub(crate) fn with_all<T: Copy + Into<u64>>(self, list: &[T]) -> Digest {
+        list.iter()
+            .fold(self, |digest, &number| digest.with(number.into()))
     }
-    now
+}
+
+impl fmt::Display for Digest {
+    fn fmt<W: fmt::Write>(&self, f: &mut fmt::Formatter<W>) -> fmt::Result {
+        write!(f, "{}", self.0)
+    }
 }

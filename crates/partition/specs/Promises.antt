@@ -6,13 +6,15 @@ use Rattle.partition.specs.Calls.{reduce_of, list_after, pair_of, pair_list_afte
 use Rattle.partition.specs.declared.calls.Reduction.{Reduction}
 use Rattle.table.specs.declared.refusals.Refusal.{Refusal}
 
-pub record Reduced (table entries first second : List ℕ) (answer : Result Reduction Refusal) (entries' first' second' : List ℕ) : Type 0 where
+pub record Reduced (table entries first second : List ℕ) (answer : Result Reduction Refusal)
+    (entries' first' second' : List ℕ) : Type 0 where
   pub answer-is : answer ≡ reduce_of table (room_for (length entries)) first second
   pub entries-are : entries' ≡ entries_after entries (outcome_of table (room_for (length entries)))
   pub first-is : first' ≡ list_after table (room_for (length entries)) first second first
   pub second_is : second' ≡ list_after table (room_for (length entries)) first second second
 
-pub record Paired (table entries first second : List ℕ) (r s : ℕ) (answer : Result Bool Refusal) (entries' first' second' : List ℕ) : Type 0 where
+pub record Paired (table entries first second : List ℕ) (r s : ℕ) (answer : Result Bool Refusal)
+    (entries' first' second' : List ℕ) : Type 0 where
   pub answer-is : answer ≡ pair_of table (room_for (length entries)) first second r s
   pub entries-are : entries' ≡ entries_after entries (outcome_of table (room_for (length entries)))
   pub first-is : first' ≡ pair_list_after table (room_for (length entries)) first second first r s

@@ -8,7 +8,7 @@ use Rattle.states.specs.StateCall.{asked, place_of}
 use Rattle.partition.specs.Calls.{reduce_of, list_after, pair_of, pair_list_after, judge_of}
 use Rattle.listing.specs.Printed.{refusal_line}
 use Rattle.listing.specs.Parts.{text_of, part_of, fitted, buffer_after, most_bytes}
-use Rattle.terkwabu.specs.Answers.{of_graph, of_placing, of_reduction, of_pairing, of_judgement, of_part}
+use Rattle.terkwabu.specs.Answers.{of_graph, of_placing, of_reduction, of_pairing, of_judgement, told_part, of_part}
 use Rattle.terkwabu.specs.declared.answer.Answer.{Answer}
 
 -- terkwabu_graph
@@ -49,6 +49,6 @@ pub record PartCall (table entries list : List ℕ) (regions blocks rounds part 
 
 -- terkwabu_refusal_line
 pub record LineCall (number place : ℕ) (buffer : List ℕ) (answer : Answer) (buffer' : List ℕ) : Type 0 where
-  pub answer-is : answer ≡ of_part (fitted (refusal_line number place) (length buffer))
+  pub answer-is : answer ≡ told_part (fitted (refusal_line number place) (length buffer))
   pub buffer-is : buffer' ≡ buffer_after (refusal_line number place) buffer
   pub enough : length (refusal_line number place) ≤ 128

@@ -3,6 +3,7 @@
 -- for each row, with its sentence, and one for the result, and each asks that no row before it is met: "the lowest number that fits the
 -- call decides". So at most one answer fits (`only-answer` of proofs/Laws/Only.antt).
 use Rattle.std.specs.Prelude.{ℕ, ◌*◌, ◌/◌, ◌≤◌, ◌<◌, min, ◌≡◌, ◌⊎◌, true, false, List, [], ◌∷◌, ◌++◌, length, get_or, take, drop}
+use Rattle.partition.specs.Passed.{Reason, number}
 use Rattle.regions.specs.Passed.{Model, read_table, refusal, accepted, Region}
 use Rattle.regions.specs.Graph.{bounds_of, meets, first, Reached}
 use Rattle.regions.specs.Order.{AllRegions, FirstRegions, InOrder, FirstInOrder}
@@ -25,10 +26,11 @@ with_regions found entries = flat found ++ drop (9 * length found) entries
 
 -- ---- Rows 1 to 15, which every call that takes a table and lent entries has, and what they leave in the entries
 
-pub data Stopped (table entries entries' : List ℕ) : (number place : ℕ) → Type 0 where
+pub data Stopped (table entries entries' : List ℕ) : (code place : ℕ) → Type 0 where
   -- 1 to 13, with their places, are those of reading the table, record by record (`rows_of` of Refusals and `read_table` of Reading, in
   -- crates/table). "Refusals 1 to 14 change nothing."
-  row-1-13 : {number place : ℕ} → read_table table ≡ refusal number place → entries' ≡ entries → Stopped table entries entries' number place
+  row-1-13 : {reason : Reason} {place : ℕ} → read_table table ≡ refusal reason place → entries' ≡ entries
+      → Stopped table entries entries' (number reason) place
   -- "14. Region 0 breaks its invariant."
   row-14 : {m : Model} → read_table table ≡ accepted m → meets (bounds_of m) m.invariants (first m) ≡ false → entries' ≡ entries
       → Stopped table entries entries' 14 0
@@ -50,8 +52,8 @@ pub record GraphHeld (table entries entries' : List ℕ) (m : Model) (found : Li
 
 -- The answer by the list: that of rows 1 to 15, where what else was lent is unchanged, or that of the call's own rows.
 pub data ByList (table entries entries' : List ℕ) (unchanged : Type 0) (own : Model → List Region → Answer → Type 0) : Answer → Type 0 where
-  stopped : {number place : ℕ} → Stopped table entries entries' number place → unchanged
-      → ByList table entries entries' unchanged own (refused_as number place)
+  stopped : {code place : ℕ} → Stopped table entries entries' code place → unchanged
+      → ByList table entries entries' unchanged own (refused_as code place)
   went_on : {m : Model} {found : List Region} {answer : Answer} → GraphHeld table entries entries' m found → own m found answer
       → ByList table entries entries' unchanged own answer
 
@@ -141,7 +143,7 @@ pub data Given (text buffer buffer' : List ℕ) : Answer → Type 0 where
 -- The part call: rows 1 to 13, or the text of the part. (From 14 on nothing is asked again: entries, list and counts are taken as they are
 -- lent.)
 pub data PartRows (table text buffer buffer' : List ℕ) : Answer → Type 0 where
-  part-row-1-13 : {number place : ℕ} → read_table table ≡ refusal number place → buffer' ≡ buffer
-      → PartRows table text buffer buffer' (refused_as number place)
+  part-row-1-13 : {reason : Reason} {place : ℕ} → read_table table ≡ refusal reason place → buffer' ≡ buffer
+      → PartRows table text buffer buffer' (refused_as (number reason) place)
   part-result : {m : Model} {answer : Answer} → read_table table ≡ accepted m → Given text buffer buffer' answer
       → PartRows table text buffer buffer' answer

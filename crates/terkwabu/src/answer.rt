@@ -1,16 +1,14 @@
 // What every call answers: numbers only. What does not apply is 0. Where nothing is refused, only the part call and that for the line of
 // a refusal use the place, for the bytes that a short buffer lacks room for.
-ghost use Rattle.std.specs.Prelude.{◌≡◌};
-ghost use Rattle.terkwabu.specs.Answers.{of_graph, of_placing, of_reduction, of_pairing, of_judgement, of_part, one_if};
+ghost use Rattle.std.specs.Prelude.{◌≡◌, MatchResult};
+ghost use Rattle.terkwabu.specs.Answers.{of_refusal, told_number, told_counts, told_sharing, told_acceptance, told_part};
 
 use listing::Part;
-use partition::{Judgement, Pairing, Reduction};
-use regions::Graph;
-use states::Placing;
+use partition::{Reduction, Refusal};
 
 // `refusal` is 0 where nothing is refused.
 #[repr(C)]
-#[derive(Clone, Copy)]
+#[derive(Clone, Copy, Debug, Default, PartialEq, Eq)]
 pub struct Answer {
     pub refusal: u64,
     pub place: u64,
@@ -19,159 +17,92 @@ pub struct Answer {
     pub rounds: u64,
 }
 
-// The answer of the graph call.
-pub(crate) fn of_graph(graph: Graph) -> Answer
-    ensures { result ≡ of_graph graph }
-{
-    match graph {
-        Graph::Refused { number, place } => Answer {
-            refusal: number as u64,
-            place: place as u64,
-            value: 0,
-            blocks: 0,
-            rounds: 0,
-        },
-        Graph::Regions(n) => Answer {
-            refusal: 0,
-            place: 0,
+impl From<Refusal> for Answer {
+    ghost from_gives = { λ refusal answer. answer ≡ of_refusal refusal };
+
+    fn from(refusal: Refusal) -> Answer {
+        Answer {
+            refusal: u64::from(refusal.reason.number()),
+            place: refusal.place as u64,
+            ..Answer::default()
+        }
+    }
+}
+
+// N of the graph call, or the number of a region.
+impl From<usize> for Answer {
+    ghost from_gives = { λ n answer. answer ≡ told_number n };
+
+    fn from(n: usize) -> Answer {
+        Answer {
             value: n as u64,
-            blocks: 0,
-            rounds: 0,
-        },
+            ..Answer::default()
+        }
     }
 }
 
-// The answer of the state call.
-pub(crate) fn of_placing(placing: Placing) -> Answer
-    ensures { result ≡ of_placing placing }
-{
-    match placing {
-        Placing::Refused { number, place } => Answer {
-            refusal: number as u64,
-            place: place as u64,
-            value: 0,
-            blocks: 0,
-            rounds: 0,
-        },
-        Placing::Region(number) => Answer {
-            refusal: 0,
-            place: 0,
-            value: number as u64,
-            blocks: 0,
-            rounds: 0,
-        },
+impl From<Reduction> for Answer {
+    ghost from_gives = { λ counts answer. answer ≡ told_counts counts };
+
+    fn from(counts: Reduction) -> Answer {
+        Answer {
+            value: counts.regions as u64,
+            blocks: counts.blocks,
+            rounds: counts.rounds,
+            ..Answer::default()
+        }
     }
 }
 
-// The answer of the partition call.
-pub(crate) fn of_reduction(reduction: Reduction) -> Answer
-    ensures { result ≡ of_reduction reduction }
-{
-    match reduction {
-        Reduction::Refused { number, place } => Answer {
-            refusal: number as u64,
-            place: place as u64,
-            value: 0,
-            blocks: 0,
-            rounds: 0,
-        },
-        Reduction::Blocks {
-            regions,
-            blocks,
-            rounds,
-        } => Answer {
-            refusal: 0,
-            place: 0,
-            value: regions as u64,
-            blocks: blocks as u64,
-            rounds: rounds as u64,
-        },
+// Whether two regions share a block: 1 where they do.
+impl From<bool> for Answer {
+    ghost from_gives = { λ holds answer. answer ≡ told_sharing holds };
+
+    fn from(holds: bool) -> Answer {
+        Answer {
+            value: u64::from(holds),
+            ..Answer::default()
+        }
     }
 }
 
-// 1 for true, 0 for false.
-fn one_if(holds: bool) -> u64
-    ensures { result ≡ one_if holds }
-{
-    if holds { 1 } else { 0 }
-}
+// Acceptance.
+impl From<()> for Answer {
+    ghost from_gives = { λ done answer. answer ≡ told_acceptance done };
 
-// The answer of the pair call.
-pub(crate) fn of_pairing(pairing: Pairing) -> Answer
-    ensures { result ≡ of_pairing pairing }
-{
-    match pairing {
-        Pairing::Refused { number, place } => Answer {
-            refusal: number as u64,
-            place: place as u64,
-            value: 0,
-            blocks: 0,
-            rounds: 0,
-        },
-        Pairing::Shared(holds) => Answer {
-            refusal: 0,
-            place: 0,
-            value: one_if(holds),
-            blocks: 0,
-            rounds: 0,
-        },
-    }
-}
-
-// The answer of the judging call.
-pub(crate) fn of_judgement(judgement: Judgement) -> Answer
-    ensures { result ≡ of_judgement judgement }
-{
-    match judgement {
-        Judgement::Refused { number, place } => Answer {
-            refusal: number as u64,
-            place: place as u64,
-            value: 0,
-            blocks: 0,
-            rounds: 0,
-        },
-        Judgement::Accepted => Answer {
-            refusal: 0,
-            place: 0,
+    fn from(_done: ()) -> Answer {
+        Answer {
             value: 1,
-            blocks: 0,
-            rounds: 0,
-        },
+            ..Answer::default()
+        }
     }
 }
 
-// The answer of the part call, and for the line of a refusal.
-pub(crate) fn of_part(part: Part) -> Answer
-    ensures { result ≡ of_part part }
-{
-    match part {
-        Part::Refused { number, place } => Answer {
-            refusal: number as u64,
-            place: place as u64,
-            value: 0,
-            blocks: 0,
-            rounds: 0,
-        },
-        Part::Written(k) => Answer {
-            refusal: 0,
-            place: 0,
-            value: k as u64,
-            blocks: 0,
-            rounds: 0,
-        },
-        Part::Short(k) => Answer {
-            refusal: 0,
-            place: k as u64,
-            value: 0,
-            blocks: 0,
-            rounds: 0,
-        },
-        Part::End => Answer {
-            refusal: 0,
-            place: 0,
-            value: 0,
-            blocks: 0,
-            rounds: 0,
-        },
+impl From<Part> for Answer {
+    ghost from_gives = { λ part answer. answer ≡ told_part part };
+
+    fn from(part: Part) -> Answer {
+        match part {
+            Part::Written(k) => Answer {
+                value: k as u64,
+                ..Answer::default()
+            },
+            Part::Short(k) => Answer {
+                place: k as u64,
+                ..Answer::default()
+            },
+            Part::End => Answer::default(),
+        }
+    }
+}
+
+impl<T: Into<Answer>> From<Result<T, Refusal>> for Answer {
+    ghost from_gives = { λ outcome answer. MatchResult outcome (λ x. T.converts x answer) (λ refusal. answer ≡ of_refusal refusal) };
+
+    fn from(outcome: Result<T, Refusal>) -> Answer {
+        match outcome {
+            Ok(x) => x.into(),
+            Err(refusal) => refusal.into(),
+        }
     }
 }

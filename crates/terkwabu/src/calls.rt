@@ -1,16 +1,14 @@
 // The exported calls. The contract of each is its record in specs/Calls.antt.
 ghost use Rattle.terkwabu.specs.Calls.{GraphCall, PlaceCall, ReduceCall, PairCall, JudgeCall, PartCall, LineCall};
 
-use crate::answer::{
-    Answer, of_graph, of_judgement, of_pairing, of_part, of_placing, of_reduction,
-};
+use crate::answer::Answer;
 
 // The graph call: explores the regions of a table into the lent entries. The value is N.
 #[unsafe(no_mangle)]
 pub extern "C" fn terkwabu_graph(table: &[u8], entries: &mut [u8]) -> Answer
     ensures { GraphCall table.now entries.old result entries.new }
 {
-    of_graph(regions::explore_table(table, entries))
+    regions::explore_table(table, entries).into()
 }
 
 // The state call: explores the regions of a table into the lent entries, and finds the region of a state, at a location, with four
@@ -28,7 +26,8 @@ pub extern "C" fn terkwabu_place(
 ) -> Answer
     ensures { PlaceCall table.now entries.old location v0 v1 v2 v3 denominator result entries.new }
 {
-    of_placing(states::place_state(table, entries, location, v0, v1, v2, v3, denominator))
+    let place = states::place_state(table, entries, location, v0, v1, v2, v3, denominator);
+    place.into()
 }
 
 // The partition call: the blocks of a table's regions, in both lists. The value is N.
@@ -42,7 +41,7 @@ pub extern "C" fn terkwabu_reduce(
     ensures { ReduceCall table.now entries.old first.old second.old result
         entries.new first.new second.new }
 {
-    of_reduction(partition::reduce_table(table, entries, first, second))
+    partition::reduce_table(table, entries, first, second).into()
 }
 
 // The pair call: whether two regions share a block; the blocks in both lists. The value is 1 where they do, 0 where not.
@@ -58,7 +57,7 @@ pub extern "C" fn terkwabu_pair(
     ensures { PairCall table.now entries.old first.old second.old r s result
         entries.new first.new second.new }
 {
-    of_pairing(partition::pair_table(table, entries, first, second, r, s))
+    partition::pair_table(table, entries, first, second, r, s).into()
 }
 
 // The judging call: is a proposed partition a bisimulation? The value is 1 where it is accepted.
@@ -66,7 +65,7 @@ pub extern "C" fn terkwabu_pair(
 pub extern "C" fn terkwabu_judge(table: &[u8], entries: &mut [u8], proposal: &[u64]) -> Answer
     ensures { JudgeCall table.now entries.old proposal.now result entries.new }
 {
-    of_judgement(partition::judge_table(table, entries, proposal))
+    partition::judge_table(table, entries, proposal).into()
 }
 
 // The part call: a part of the listing of a table, from what a partition call left, in a buffer. The value is how many bytes were written.
@@ -85,7 +84,7 @@ pub extern "C" fn terkwabu_part(
     ensures { PartCall table.now entries.now list.now regions blocks rounds part
         buffer.old result buffer.new }
 {
-    of_part(listing::write_part(table, entries, list, regions, blocks, rounds, part, buffer))
+    listing::write_part(table, entries, list, regions, blocks, rounds, part, buffer).into()
 }
 
 // The line of a refusal, in a buffer. The value is how many bytes were written; where it is 0, the place is how many the line takes.
@@ -93,5 +92,5 @@ pub extern "C" fn terkwabu_part(
 pub extern "C" fn terkwabu_refusal_line(number: u64, place: u64, buffer: &mut [u8]) -> Answer
     ensures { LineCall number place buffer.old result buffer.new }
 {
-    of_part(listing::refusal_line(number, place, buffer))
+    listing::refusal_line(number, place, buffer).into()
 }

@@ -28,7 +28,8 @@ module _ (table entries proposal : List ℕ) (answer : Result Unit Refusal) (ent
   pub judged-model : answer ≡ acceptance → Accepted table (room_for (length entries))
   unfolding judge_of
   judged-model e =
-      (from-accepted refuses (judged_of proposal) table (room_for (length entries)) (acceptance) (λ reason place q. cc) (sym promised.answer-is ∙ e)).0
+      (from-accepted refuses (judged_of proposal) table (room_for (length entries)) acceptance (λ reason place q. cc)
+      (sym promised.answer-is ∙ e)).0
 
   -- For an accepted table the answer is what is said of its model and regions.
   says : (a : Accepted table (room_for (length entries))) → answer ≡ judged_of proposal a.model a.found

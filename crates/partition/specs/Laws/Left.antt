@@ -155,7 +155,8 @@ pub reduced-refused : {A : Type 0} (refuse : Reason → ℕ → A) (go : Model �
 unfolding reduce_of
 reduced-refused {A} refuse go table cap first second r e other = by_answer (read_table table) e
   where
-    same : (reason : Reason) (place : ℕ) → ◌≡◌ {A = Result Reduction Refusal} (Err r) (refuses reason place) → refuse reason place ≡ refuse r.reason r.place
+    same : (reason : Reason) (place : ℕ) → ◌≡◌ {A = Result Reduction Refusal} (Err r) (refuses reason place)
+        → refuse reason place ≡ refuse r.reason r.place
     same reason place e = let is : refusal_at reason place ≡ r = cc in ap (λ (x : Refusal). refuse x.reason x.place) is
 
     by_length : (short : Bool) (n b k : ℕ) → Err r ≡ cond short (refuses ShortList 0) (Ok (counts n b k)) → ⊥
@@ -179,7 +180,8 @@ pub no-sixteen : (table : List ℕ) (cap : ℕ) (first second : List ℕ) (r : R
 unfolding reduce_of outcome_of
 no-sixteen table cap first second r e one two is = by_answer (read_table table) refl e
   where
-    low : (reason : Reason) (place : ℕ) → outcome_of table cap ≡ refused reason place → ◌≡◌ {A = Result Reduction Refusal} (Err r) (refuses reason place) → ⊥
+    low : (reason : Reason) (place : ℕ) → outcome_of table cap ≡ refused reason place
+        → ◌≡◌ {A = Result Reduction Refusal} (Err r) (refuses reason place) → ⊥
     low reason place o e =
         let most = (refused-number table cap reason place o).1 in
         let same : r ≡ refusal_at reason place = cc in

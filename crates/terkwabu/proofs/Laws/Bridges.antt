@@ -1,7 +1,7 @@
 -- From what a C host sees of a call that refused nothing, the five numbers answered and what was left in what was lent, back to what the
 -- layer beneath promises: `Accepted` of the graph call, `Reduced` and `Left` of the partition call, `Reduced` and `Left` of the pair call
 -- too, which leaves the same, and the region's number of the state call.
-use Rattle.std.specs.Prelude.{ℕ, ◌<◌, ◌≡◌, ◌↔◌, Bool, length}
+use Rattle.std.specs.Prelude.{ℕ, ◌<◌, ◌≡◌, ◌↔◌, Bool, length, Result, Ok}
 use Rattle.std.proofs.Common.{arith, sym, ◌∙◌, subst}
 use Rattle.std.proofs.Math.Path.{refl, ap, ap₂}
 use mathlib.Core.Logic.Iff
@@ -24,20 +24,19 @@ use Rattle.regions.specs.Laws.View.{has-number, number-listed}
 use Rattle.states.specs.States.{State}
 use Rattle.states.specs.Alike.{region_in}
 use Rattle.states.specs.StateCall.{asked, is_not_taken, own_state, numbered, place_of}
-use Rattle.states.specs.declared.states.Placing.{Placing}
-use Rattle.states.specs.declared.states.Placing.TheVariants as P
 use Rattle.bisimulation.specs.Finite.{Finite, block_count, rounds}
 use Rattle.partition.specs.Instances.{region_of, lands_at, graph}
 use Rattle.partition.specs.Laws.Delays.{delays-are}
-use Rattle.partition.specs.Calls.{Accepted, reduce_of, pair_of}
+use Rattle.partition.specs.Passed.{Refusal}
+use Rattle.partition.specs.Calls.{Accepted, refuses, counts, reduce_of, pair_of}
 use Rattle.partition.specs.Promises.{Reduced, Paired}
 use Rattle.partition.specs.Left.{Left}
 use Rattle.partition.specs.Laws.Calls.{from-accepted, pair-accepted, pair-below}
 use Rattle.partition.specs.Laws.Success.{one_found}
 use Rattle.partition.specs.Laws.Left.{reduced-first, reduced-second}
 use Rattle.partition.specs.Laws.Promised.{paired-model, pair-leaves, pair-as-first, pair-as-second}
-use Rattle.partition.specs.declared.calls.Reduction.TheVariants as B
-use Rattle.partition.specs.declared.calls.Pairing.TheVariants as S
+use Rattle.table.specs.declared.refusals.Reason.TheVariants.{BadState, Unreached}
+use Rattle.partition.specs.declared.calls.Reduction.{Reduction}
 use Rattle.terkwabu.specs.Answers.{of_placing, of_reduction, one_if, of_pairing}
 use Rattle.terkwabu.specs.Calls.{GraphCall, PlaceCall, ReduceCall, PairCall}
 use Rattle.terkwabu.proofs.Laws.Rows.{placed_in, place_after}
@@ -132,21 +131,13 @@ module _ (table entries : List ℕ) (answer : Answer) (entries' : List ℕ) (cal
 -- The value is the number of the state's region.
 pub place-region : (table entries : List ℕ) (location v₀ v₁ v₂ v₃ denominator : ℕ) (answer : Answer) (entries' : List ℕ)
     → PlaceCall table entries location v₀ v₁ v₂ v₃ denominator answer entries' → answer.refusal ≡ 0
-    → place_of table (room_for (length entries)) (asked location v₀ v₁ v₂ v₃ denominator) ≡ P.Region answer.value
+    → place_of table (room_for (length entries)) (asked location v₀ v₁ v₂ v₃ denominator) ≡ Ok answer.value
 place-region table entries location v₀ v₁ v₂ v₃ denominator answer entries' call none =
     let (number, e) = (zero-placed table (room_for (length entries)) (asked location v₀ v₁ v₂ v₃ denominator)).0
     (sym (ap (λ (a : Answer). a.refusal) call.answer-is) ∙ none) in
-    e ∙ sym (ap (λ (a : Answer). P.Region a.value) (call.answer-is ∙ ap of_placing e))
+    e ∙ sym (ap (λ (a : Answer). Ok a.value) (call.answer-is ∙ ap of_placing e))
 
 -- So the model is accepted, the call takes the state, and region number `value` is the state's.
-placing-kind : Placing → ℕ
-placing-kind (P.Refused number place) = 0
-placing-kind (P.Region number) = 1
-
-placing-number : Placing → ℕ
-placing-number (P.Refused number place) = 0
-placing-number (P.Region number) = number
-
 module _ (table entries : List ℕ) (location v₀ v₁ v₂ v₃ denominator : ℕ) (answer : Answer) (entries' : List ℕ)
     (call : PlaceCall table entries location v₀ v₁ v₂ v₃ denominator answer entries') (none : answer.refusal ≡ 0) where
   abbrev given : State
@@ -155,10 +146,8 @@ module _ (table entries : List ℕ) (location v₀ v₁ v₂ v₃ denominator : 
   pub place_found : (a : Accepted table (room_for (length entries))) × (is_not_taken a.model given ≡ false)
       × (answer.value < length a.found)
       × ((d : Region) → get_or a.found answer.value d ≡ region_in a.model (own_state a.model given))
-  unfolding placing-kind placing-number
   place_found =
-      let (a, e) = from-accepted P.Refused (placed_in given) table (room_for (length entries)) (P.Region answer.value)
-      (λ number place q. omega (arith, ap placing-kind q))
+      let (a, e) = from-accepted refuses (placed_in given) table (room_for (length entries)) (Ok answer.value) (λ reason place q. cc)
       (sym (place_after table (room_for (length entries)) given)
       ∙ place-region table entries location v₀ v₁ v₂ v₃ denominator answer entries' call none) in
       let r : Region = region_in a.model (own_state a.model given) in
@@ -170,28 +159,28 @@ module _ (table entries : List ℕ) (location v₀ v₁ v₂ v₃ denominator : 
             ap (λ (x : ℕ). get_or a.found x d) (sym same) ∙ (has-number a.found r (number-listed a.found r below)).is d,
       )
     where
-      tests : (b : Bool) (n x : ℕ) → cond b (P.Refused 20 0) (numbered n x) ≡ P.Region answer.value
+      tests : (b : Bool) (n x : ℕ) → cond b (refuses BadState 0) (numbered n x) ≡ Ok answer.value
           → (b ≡ false) × (x < n) × (x ≡ answer.value)
-      tests true n x e = absurd (omega (arith, ap placing-kind e))
+      tests true n x e = absurd (let z : ◌≡◌ {A = ℕ} 0 1 = cc in omega arith)
       tests false n x e = go (ltb x n) refl e
         where
-          go : (t : Bool) → ltb x n ≡ t → cond t (P.Region x) (P.Refused 21 0) ≡ P.Region answer.value
+          go : (t : Bool) → ltb x n ≡ t → cond t (Ok x) (refuses Unreached 0) ≡ Ok answer.value
               → (◌≡◌ {A = Bool} false false) × (x < n) × (x ≡ answer.value)
-          go true t q = (refl, ltb-true x n t, ap placing-number q)
-          go false t q = absurd (omega (arith, ap placing-kind q))
+          go true t q = (refl, ltb-true x n t, cc)
+          go false t q = absurd (let z : ◌≡◌ {A = ℕ} 0 1 = cc in omega arith)
 
 -- ---- The partition call
 
 module _ (table entries first second : List ℕ) (answer : Answer) (entries' first' second' : List ℕ)
     (call : ReduceCall table entries first second answer entries' first' second') (none : answer.refusal ≡ 0) where
-  reduced-as : B.Blocks answer.value answer.blocks answer.rounds ≡ reduce_of table (room_for (length entries)) first second
+  reduced-as : Ok (counts answer.value answer.blocks answer.rounds) ≡ reduce_of table (room_for (length entries)) first second
   reduced-as =
       let (n, b, k, e) = (zero-reduced table (room_for (length entries)) first second).0
       (sym (ap (λ (a : Answer). a.refusal) call.answer-is) ∙ none) in
-      ap (λ (a : Answer). B.Blocks a.value a.blocks a.rounds) (call.answer-is ∙ ap of_reduction e) ∙ sym e
+      ap (λ (a : Answer). Ok (counts a.value a.blocks a.rounds)) (call.answer-is ∙ ap of_reduction e) ∙ sym e
 
   -- What the partition layer promises, with the three counts of the answer.
-  pub reduced-of : Reduced table entries first second (B.Blocks answer.value answer.blocks answer.rounds) entries' first' second'
+  pub reduced-of : Reduced table entries first second (Ok (counts answer.value answer.blocks answer.rounds)) entries' first' second'
   reduced-of =
       record {
         answer-is = reduced-as;
@@ -218,12 +207,12 @@ one-if false = (λ e. absurd (omega (arith, e)), λ e. ap one_if e)
 module _ (table entries first second : List ℕ) (r s : ℕ) (answer : Answer) (entries' first' second' : List ℕ)
     (call : PairCall table entries first second r s answer entries' first' second') (none : answer.refusal ≡ 0) where
   -- It is answered whether they share a block.
-  pub shared-as : (v : Bool) × (pair_of table (room_for (length entries)) first second r s ≡ S.Shared v)
+  pub shared-as : (v : Bool) × (pair_of table (room_for (length entries)) first second r s ≡ Ok v)
   shared-as =
       (zero-paired table (room_for (length entries)) first second r s).0 (sym (ap (λ (a : Answer). a.refusal) call.answer-is) ∙ none)
 
   -- What the partition layer promises; the value is 1 exactly where the two regions share a block.
-  pub paired-of : Paired table entries first second r s (S.Shared shared-as.0) entries' first' second'
+  pub paired-of : Paired table entries first second r s (Ok shared-as.0) entries' first' second'
   paired-of =
       record {
         answer-is = sym shared-as.1;
@@ -239,7 +228,7 @@ module _ (table entries first second : List ℕ) (r s : ℕ) (answer : Answer) (
 
   -- The model and its regions, as the pair call found them.
   pub pair-model : Accepted table (room_for (length entries))
-  pair-model = paired-model table entries first second r s (S.Shared shared-as.0) entries' first' second' paired-of shared-as.0 refl
+  pair-model = paired-model table entries first second r s (Ok shared-as.0) entries' first' second' paired-of shared-as.0 refl
 
   -- Both numbers are those of regions.
   pub pair-regions : (r < length pair-model.found) × (s < length pair-model.found)
@@ -253,10 +242,10 @@ module _ (table entries first second : List ℕ) (r s : ℕ) (answer : Answer) (
   abbrev F : Finite
   F = graph pair-model.model pair-model.found
 
-  pair-reduced : Reduced table entries first second (B.Blocks (length pair-model.found) (block_count F (rounds F)) (rounds F)) entries'
+  pair-reduced : Reduced table entries first second (Ok (counts (length pair-model.found) (block_count F (rounds F)) (rounds F))) entries'
       first' second'
   unfolding pair-model
-  pair-reduced = pair-leaves table entries first second r s (S.Shared shared-as.0) entries' first' second' paired-of shared-as.0 refl
+  pair-reduced = pair-leaves table entries first second r s (Ok shared-as.0) entries' first' second' paired-of shared-as.0 refl
 
   pub pair-first-left : Left table (room_for (length entries)) (length pair-model.found) (block_count F (rounds F)) (rounds F) entries'
       first'
@@ -268,18 +257,18 @@ module _ (table entries first second : List ℕ) (r s : ℕ) (answer : Answer) (
 
   -- The value is 1 exactly where the two numbers are equal, in the lists that a partition call on this table left, whatever was lent to it.
   module _ (entries₁ first₁ second₁ : List ℕ) (n b k : ℕ) (entries₁' first₁' second₁' : List ℕ)
-      (reduced : Reduced table entries₁ first₁ second₁ (B.Blocks n b k) entries₁' first₁' second₁') where
+      (reduced : Reduced table entries₁ first₁ second₁ (Ok (counts n b k)) entries₁' first₁' second₁') where
     pub value-first : (answer.value ≡ 1) ↔ (get_or first₁' r 0 ≡ get_or first₁' s 0)
     value-first =
         Iff.trans value_shares
-        (pair-as-first table entries₁ first₁ second₁ (B.Blocks n b k) entries₁' first₁' second₁' reduced n b k refl entries first second
-        r s (S.Shared shared-as.0) entries' first' second' paired-of shared-as.0 refl)
+        (pair-as-first table entries₁ first₁ second₁ (Ok (counts n b k)) entries₁' first₁' second₁' reduced n b k refl entries first second
+        r s (Ok shared-as.0) entries' first' second' paired-of shared-as.0 refl)
 
     pub value-second : (answer.value ≡ 1) ↔ (get_or second₁' r 0 ≡ get_or second₁' s 0)
     value-second =
         Iff.trans value_shares
-        (pair-as-second table entries₁ first₁ second₁ (B.Blocks n b k) entries₁' first₁' second₁' reduced n b k refl entries first second
-        r s (S.Shared shared-as.0) entries' first' second' paired-of shared-as.0 refl)
+        (pair-as-second table entries₁ first₁ second₁ (Ok (counts n b k)) entries₁' first₁' second₁' reduced n b k refl entries first second
+        r s (Ok shared-as.0) entries' first' second' paired-of shared-as.0 refl)
 
   -- So in its own lists: 1 where they are equal, 0 where they differ.
   pub value-together : (answer.value ≡ 1) ↔ (get_or first' r 0 ≡ get_or first' s 0)

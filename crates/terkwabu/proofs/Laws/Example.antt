@@ -1,7 +1,7 @@
 -- The hypotheses of the three demands are met, at document 01's printed model, with 45 bytes of entries and two lists of 5 numbers: the
 -- graph call, the state call, the partition call and the pair call refuse nothing, and demand 3 says of three states with the clock at 0,
 -- 1/2 and 1 which have one number. `printed-block`, `printed-apart` and `printed-together` are demand 3 there.
-use Rattle.std.specs.Prelude.{ℕ, ◌≡◌, refl, List, length, get_or, replicate}
+use Rattle.std.specs.Prelude.{ℕ, ◌≡◌, refl, List, length, get_or, replicate, Ok}
 use Rattle.std.proofs.Common.{sym, ◌∙◌, ap}
 use Rattle.regions.specs.Call.{room_for, from_answer, outcome_of, graph_of, entries_after}
 use Rattle.regions.specs.Explore.{same_region, listed}
@@ -11,7 +11,6 @@ use Rattle.regions.specs.Example.{printed, printed_model, printed-read}
 use Rattle.states.specs.Alike.{region_in}
 use Rattle.states.specs.Placing.{state_cell, placed}
 use Rattle.states.specs.StateCall.{asked, is_not_taken, own_state, placed_among, placed_from, place_of}
-use Rattle.states.specs.declared.states.Placing.TheVariants as P
 use Rattle.partition.specs.Instances.{block_in}
 use Rattle.partition.specs.Calls.{list_after, pair_list_after}
 use Rattle.partition.specs.Laws.Example.{printed-whole, clock_at_zero, clock_at_half, clock_at_one, printed-states, printed-reached}
@@ -53,7 +52,7 @@ printed-pair =
     record { answer-is = sym (ap of_pairing printed-pairs.0); entries-are = refl; first-is = refl; second_is = refl }
 
 -- The clock at 1/2 at location 0 lies in region 1.
-half : place_of printed 5 (asked 0 1 0 0 0 2) ≡ P.Region 1
+half : place_of printed 5 (asked 0 1 0 0 0 2) ≡ Ok 1
 unfolding place_of outcome_of is_not_taken own_state largest_constant bounds_of state_cell placed same_region number_in
 half =
     ap (placed_from 5 (asked 0 1 0 0 0 2)) printed-read

@@ -6,6 +6,7 @@ use Rattle.std.proofs.Common.{arith, inl, inr, ⊎_elim, sym, ◌∙◌, ap, ap�
 use Rattle.std.proofs.lemmas.Bool.{false≢true}
 use mathlib.Core.List.Memᴰ
 use mathlib.Core.List.{List, [], ◌∷◌, ◌++◌, Memᴰ}
+use Rattle.partition.specs.Passed.{Reason, number}
 use Rattle.regions.specs.Passed.{Model, Answer as Read, read_table, refusal, accepted, Region}
 use Rattle.regions.specs.Graph.{bounds_of, meets, first, Reached}
 use Rattle.regions.specs.Order.{AllRegions, FirstRegions, InOrder}
@@ -24,7 +25,7 @@ use Rattle.terkwabu.specs.declared.answer.Answer.{Answer}
 -- ---- What reading says
 
 abbrev number_in : Read → ℕ
-number_in (refusal n p) = n
+number_in (refusal n p) = number n
 number_in (accepted m) = 0
 
 abbrev place_in : Read → ℕ
@@ -35,12 +36,12 @@ abbrev kind_of : Read → ℕ
 kind_of (refusal n p) = 0
 kind_of (accepted m) = 1
 
-refused-read : (table : List ℕ) (n p : ℕ) → read_table table ≡ refusal n p → outcome_of table 0 ≡ refused n p
+refused-read : (table : List ℕ) (n : Reason) (p : ℕ) → read_table table ≡ refusal n p → outcome_of table 0 ≡ refused n p
 unfolding outcome_of
 refused-read table n p e = ap (from_answer 0) e
 
 module _ (table entries : List ℕ) where
-  refused-or-read : {n p : ℕ} {m : Model} → read_table table ≡ refusal n p → read_table table ≡ accepted m → ⊥
+  refused-or-read : {n : Reason} {p : ℕ} {m : Model} → read_table table ≡ refusal n p → read_table table ≡ accepted m → ⊥
   refused-or-read e f = omega (arith, ap kind_of (sym e ∙ f))
 
   meets-or-breaks : {m m' : Model} → read_table table ≡ accepted m → meets (bounds_of m) m.invariants (first m) ≡ false
@@ -68,8 +69,8 @@ module _ (table entries : List ℕ) where
 
   -- The number is not 0.
   pub stopped-some : {left : List ℕ} {n p : ℕ} → Stopped table entries left n p → 0 < n
-  stopped-some {n = n} {p} (row-1-13 e _) =
-      let low = refused-number table 0 n p (refused-read table n p e) in omega (arith, low)
+  stopped-some (row-1-13 {reason} {place} e _) =
+      let low = refused-number table 0 reason place (refused-read table reason place e) in omega (arith, low)
   stopped-some (row-14 _ _ _) = omega arith
   stopped-some (row-15 _ _ _ _ _) = omega arith
 

@@ -1,7 +1,7 @@
 -- The answer of each call, and what it left in what was lent, are by document 01's list, row by row. What the graph call comes to decides
 -- rows 1 to 15 (`rows`); then come the rows of each call.
 use Rattle.std.specs.Prelude.{ℕ, zero, suc, ◌+◌, ◌≤◌, ◌<◌, ◌⊎◌, ◌↔◌, ◌≡◌, Bool, true, false, not}
-use Rattle.std.specs.Prelude.{◌&&◌, ◌||◌, List, [], ◌∷◌, ◌++◌, eqb, leb, ltb, length, get_or, drop}
+use Rattle.std.specs.Prelude.{◌&&◌, ◌||◌, List, [], ◌∷◌, ◌++◌, eqb, leb, ltb, length, get_or, drop, Result, Ok, Err}
 use Rattle.std.proofs.Common.{arith, ◌∙◌}
 use Rattle.std.proofs.Math.Logic.{inl, inr}
 use Rattle.std.proofs.Math.Path.{refl, sym, ap, subst}
@@ -14,29 +14,27 @@ use Rattle.regions.specs.View.{number_in}
 use Rattle.regions.specs.Laws.Call.{refused-graph, cut-graph, whole-graph}
 use Rattle.regions.specs.Laws.Order.{whole-order, cut-order}
 use Rattle.regions.specs.Laws.View.{has-number, number-listed}
-use Rattle.regions.specs.declared.call.Graph.TheVariants as G
+use Rattle.partition.specs.Passed.{Reason, Refusal, number, refusal_at}
+use Rattle.table.specs.declared.refusals.Reason.TheVariants.{TooManyRegions, ShortList, WrongLength, NoBisimulation, UnknownRegion}
+use Rattle.table.specs.declared.refusals.Reason.TheVariants.{BadState, Unreached}
 use Rattle.states.specs.States.{State, IsState}
 use Rattle.states.specs.Alike.{region_in}
 use Rattle.states.specs.StateCall.{asked, strays, is_not_taken, own_state, numbered, placed_among, placed_from, place_of}
 use Rattle.states.specs.Laws.Placed.{own-state}
-use Rattle.states.specs.declared.states.Placing.{Placing}
-use Rattle.states.specs.declared.states.Placing.TheVariants as P
 use Rattle.bisimulation.specs.Finite.{structure, related, accepts, rounds, last_blocks, block_count}
 use Rattle.bisimulation.proofs.Laws.Rounds.{bisimulation-agree}
 use Rattle.partition.specs.Instances.{graph}
-use Rattle.partition.specs.Calls.{Accepted, from_outcome, after_graph, is_short, is_asked_past}
-use Rattle.partition.specs.Calls.{blocks_of, numbered_in, reduce_of, list_after}
-use Rattle.partition.specs.Calls.{shared_of, pair_of, pair_list_after, judged_of, judge_of}
+use Rattle.partition.specs.Calls.{Accepted, from_outcome, after_graph, refuses, counts, acceptance, is_short, is_asked_past}
+use Rattle.partition.specs.Calls.{blocks_of, numbered_in, reduce_of, list_of, list_after}
+use Rattle.partition.specs.Calls.{shared_of, pair_of, pair_list_of, pair_list_after, judged_of, judge_of}
 use Rattle.partition.specs.Laws.Calls.{on-accepted, on-refused, long-enough, below_both, judged-well}
 use Rattle.partition.specs.Laws.Instances.{call-closed, call-placed}
 use Rattle.partition.specs.Laws.Bisimilar.{accepted-iff}
-use Rattle.partition.specs.declared.calls.Reduction.TheVariants as B
-use Rattle.partition.specs.declared.calls.Pairing.TheVariants as S
-use Rattle.partition.specs.declared.calls.Judgement.TheVariants as J
 use Rattle.listing.specs.Printed.{refusal_line}
 use Rattle.listing.specs.Parts.{text_from, text_of, fitted, buffer_after, part_from, part_of}
 use Rattle.listing.specs.declared.parts.Part.TheVariants as T
-use Rattle.terkwabu.specs.Answers.{refused_as, result_as, of_graph, of_placing, of_reduction, of_pairing, of_judgement, of_part}
+use Rattle.terkwabu.specs.Answers.{refused_as, result_as, of_refusal, of, told_number, told_counts, told_sharing, told_acceptance}
+use Rattle.terkwabu.specs.Answers.{of_graph, of_placing, of_reduction, of_pairing, of_judgement, told_part, of_part}
 use Rattle.terkwabu.specs.Calls.{GraphCall, PlaceCall, ReduceCall, PairCall, JudgeCall, PartCall, LineCall}
 use Rattle.terkwabu.specs.Rows.{Stopped, row-1-13, row-14, row-15, GraphHeld, ByList, stopped, went_on}
 use Rattle.terkwabu.specs.Rows.{state_asked, Takes, GraphRows, graph-result, PlaceRows, place-row-20, place-row-21, place-result}
@@ -54,35 +52,32 @@ module _ (table entries entries' : List ℕ) (held : entries' ≡ entries_after 
   -- One of them is met, and the graph call says which; or none is.
   Rows : Type 0
   Rows =
-      ((number : ℕ) × (place : ℕ) × Stopped table entries entries' number place
-      × (G.Refused number place ≡ graph_of (outcome_of table room)))
+      ((r : Refusal) × Stopped table entries entries' (number r.reason) r.place × (Err r ≡ graph_of (outcome_of table room)))
       ⊎ ((a : Accepted table room) × GraphHeld table entries entries' a.model a.found)
 
   rows : Rows
   unfolding Rows
   rows = by-outcome (outcome_of table room) refl
     where
-      early : (n p : ℕ) → outcome_of table room ≡ refused n p → Stopped table entries entries' n p
+      early : (n : Reason) (p : ℕ) → outcome_of table room ≡ refused n p → Stopped table entries entries' (number n) p
       early n p o =
           elim (refused-graph table room n p o) [
             | inl read ↦ row-1-13 read (held ∙ ap (entries_after entries) o)
             | inr t ↦
                 let (m, read, breaks, en, ep) = t in
-                subst (λ (x : ℕ). Stopped table entries entries' x p) (sym en)
+                subst (λ (x : Reason). Stopped table entries entries' (number x) p) (sym en)
                 (subst (λ (y : ℕ). Stopped table entries entries' 14 y) (sym ep)
                 (row-14 read breaks (held ∙ ap (entries_after entries) o)))
           ]
 
       by-outcome : (o : Outcome) → outcome_of table room ≡ o
-          → ((number : ℕ) × (place : ℕ) × Stopped table entries entries' number place
-          × (G.Refused number place ≡ graph_of (outcome_of table room)))
+          → ((r : Refusal) × Stopped table entries entries' (number r.reason) r.place × (Err r ≡ graph_of (outcome_of table room)))
           ⊎ ((a : Accepted table room) × GraphHeld table entries entries' a.model a.found)
-      by-outcome (refused n p) o = inl (n, p, early n p o, sym (ap graph_of o))
+      by-outcome (refused n p) o = inl (refusal_at n p, early n p o, sym (ap graph_of o))
       by-outcome (cut found) o =
           let (b, some) = cut-graph table room found o in
           inl (
-            15,
-            0,
+            refusal_at TooManyRegions 0,
             row-15 b.read b.meets-first some (cut-order table room found b.model b.read o) (held ∙ ap (entries_after entries) o),
             sym (ap graph_of o),
           )
@@ -101,47 +96,47 @@ module _ (table entries entries' : List ℕ) (held : entries' ≡ entries_after 
           )
 
   -- A call that goes on after the graph call: its answer is of one of them, or of its own rows.
-  module _ {A : Type 0} (refuse : ℕ → ℕ → A) (go : Model → List Region → A) (of : A → Answer) (unchanged : Type 0)
-      (own : Model → List Region → Answer → Type 0) (plain : (n p : ℕ) → of (refuse n p) ≡ refused_as n p) where
-    by-list : (answer : Answer) → answer ≡ of (after_graph refuse go room (read_table table))
-        → ((number place : ℕ) → G.Refused number place ≡ graph_of (outcome_of table room) → unchanged)
-        → ((a : Accepted table room) → own a.model a.found (of (go a.model a.found)))
+  module _ {A : Type 0} (go : Model → List Region → Result A Refusal) (told : A → Answer) (unchanged : Type 0)
+      (own : Model → List Region → Answer → Type 0) where
+    by-list : (answer : Answer) → answer ≡ of told (after_graph refuses go room (read_table table))
+        → ((r : Refusal) → Err r ≡ graph_of (outcome_of table room) → unchanged)
+        → ((a : Accepted table room) → own a.model a.found (of told (go a.model a.found)))
         → ByList table entries entries' unchanged own answer
     unfolding Rows
     by-list answer is same rest =
         elim rows [
           | inl t ↦
-              let (n, p, row, e) = t in
+              let (r, row, e) = t in
               subst (ByList table entries entries' unchanged own)
-              (sym (is ∙ ap of (sym (on-refused refuse go table room n p e)) ∙ plain n p)) (stopped row (same n p e))
+              (sym (is ∙ ap (of told) (sym (on-refused refuses go table room r e)))) (stopped row (same r e))
           | inr t ↦
               let (a, here) = t in
-              subst (ByList table entries entries' unchanged own) (sym (is ∙ ap of (on-accepted refuse go table room a)))
+              subst (ByList table entries entries' unchanged own) (sym (is ∙ ap (of told) (on-accepted refuses go table room a)))
               (went_on here (rest a))
         ]
 
 -- ---- The graph call
 
 graph-after : (table : List ℕ) (cap : ℕ)
-    → graph_of (outcome_of table cap) ≡ after_graph G.Refused (λ m found. G.Regions (length found)) cap (read_table table)
+    → graph_of (outcome_of table cap) ≡ after_graph refuses (λ m found. Ok (length found)) cap (read_table table)
 unfolding outcome_of
 graph-after table cap = by_answer (read_table table)
   where
     by-outcome : (m : Model) (o : Outcome)
-        → graph_of o ≡ from_outcome G.Refused (λ found. G.Regions (length found)) o
+        → graph_of o ≡ from_outcome refuses (λ found. Ok (length found)) o
     by-outcome m (refused n p) = refl
     by-outcome m (cut found) = refl
     by-outcome m (whole found) = refl
 
-    by_answer : (x : Read) → graph_of (from_answer cap x) ≡ after_graph G.Refused (λ m found. G.Regions (length found)) cap x
+    by_answer : (x : Read) → graph_of (from_answer cap x) ≡ after_graph refuses (λ m found. Ok (length found)) cap x
     by_answer (refusal n p) = refl
     by_answer (accepted m) = by-outcome m (from_answer cap (accepted m))
 
 pub graph-rows : (table entries : List ℕ) (answer : Answer) (entries' : List ℕ) → GraphCall table entries answer entries'
     → ByList table entries entries' Unit GraphRows answer
 graph-rows table entries answer entries' call =
-    by-list table entries entries' call.entries-are G.Refused (λ m found. G.Regions (length found)) of_graph Unit GraphRows
-    (λ n p. refl) answer (call.answer-is ∙ ap of_graph (graph-after table (room_for (length entries)))) (λ n p e. tt) (λ a. graph-result)
+    by-list table entries entries' call.entries-are (λ m found. Ok (length found)) told_number Unit GraphRows answer
+    (call.answer-is ∙ ap of_graph (graph-after table (room_for (length entries)))) (λ r e. tt) (λ a. graph-result)
 
 -- ---- The state call
 
@@ -170,19 +165,19 @@ none-strays n i (v ∷ vs) all =
     here false t = rw t refl
 
 -- What is said of a state after the graph call.
-abbrev pub placed_in : State → Model → List Region → Placing
-placed_in s m found = cond (is_not_taken m s) (P.Refused 20 0) (numbered (length found) (number_in found (region_in m (own_state m s))))
+abbrev pub placed_in : State → Model → List Region → Result ℕ Refusal
+placed_in s m found = cond (is_not_taken m s) (refuses BadState 0) (numbered (length found) (number_in found (region_in m (own_state m s))))
 
-pub place_after : (table : List ℕ) (cap : ℕ) (s : State) → place_of table cap s ≡ after_graph P.Refused (placed_in s) cap (read_table table)
+pub place_after : (table : List ℕ) (cap : ℕ) (s : State) → place_of table cap s ≡ after_graph refuses (placed_in s) cap (read_table table)
 unfolding place_of
 place_after table cap s = by_answer (read_table table)
   where
-    by-outcome : (m : Model) (o : Outcome) → placed_among m s o ≡ from_outcome P.Refused (placed_in s m) o
+    by-outcome : (m : Model) (o : Outcome) → placed_among m s o ≡ from_outcome refuses (placed_in s m) o
     by-outcome m (refused n p) = refl
     by-outcome m (cut found) = refl
     by-outcome m (whole found) = refl
 
-    by_answer : (x : Read) → placed_from cap s x ≡ after_graph P.Refused (placed_in s) cap x
+    by_answer : (x : Read) → placed_from cap s x ≡ after_graph refuses (placed_in s) cap x
     by_answer (refusal n p) = refl
     by_answer (accepted m) = by-outcome m (from_answer cap (accepted m))
 
@@ -232,21 +227,21 @@ place-own table cap location v₀ v₁ v₂ v₃ denominator a = by-taken (is_no
     own : own_state a.model s ≡ state_asked a.model location v₀ v₁ v₂ v₃ denominator
     own = asked_is a.model location v₀ v₁ v₂ v₃ denominator
 
-    number : ℕ
-    number = number_in a.found (region_in a.model (own_state a.model s))
+    place : ℕ
+    place = number_in a.found (region_in a.model (own_state a.model s))
 
-    by_number : is_not_taken a.model s ≡ false → (b : Bool) → ltb number (length a.found) ≡ b
-        → PlaceRows location v₀ v₁ v₂ v₃ denominator a.model a.found (of_placing (cond b (P.Region number) (P.Refused 21 0)))
+    by_number : is_not_taken a.model s ≡ false → (b : Bool) → ltb place (length a.found) ≡ b
+        → PlaceRows location v₀ v₁ v₂ v₃ denominator a.model a.found (of_placing (cond b (Ok place) (refuses Unreached 0)))
     by_number taken true e =
-        let below = ltb-true number (length a.found) e in
+        let below = ltb-true place (length a.found) e in
         place-result (takes a.model location v₀ v₁ v₂ v₃ denominator taken)
-        (subst (IsState a.model) own (own-state table a.model a.read s refl taken)) number below
+        (subst (IsState a.model) own (own-state table a.model a.read s refl taken)) place below
         (λ d.
         (has-number a.found (region_in a.model (own_state a.model s))
         (number-listed a.found (region_in a.model (own_state a.model s)) below)).is d
         ∙ ap (region_in a.model) own)
     by_number taken false e =
-        let above = ltb-false number (length a.found) e in
+        let above = ltb-false place (length a.found) e in
         place-row-21 (takes a.model location v₀ v₁ v₂ v₃ denominator taken)
         (subst (IsState a.model) own (own-state table a.model a.read s refl taken))
         (λ r.
@@ -256,18 +251,17 @@ place-own table cap location v₀ v₁ v₂ v₃ denominator a = by-taken (is_no
 
     by-taken : (b : Bool) → is_not_taken a.model s ≡ b
         → PlaceRows location v₀ v₁ v₂ v₃ denominator a.model a.found
-        (of_placing (cond b (P.Refused 20 0) (numbered (length a.found) number)))
+        (of_placing (cond b (refuses BadState 0) (numbered (length a.found) place)))
     by-taken true e = place-row-20 (takes-not a.model location v₀ v₁ v₂ v₃ denominator e)
-    by-taken false e = by_number e (ltb number (length a.found)) refl
+    by-taken false e = by_number e (ltb place (length a.found)) refl
 
 pub place-rows : (table entries : List ℕ) (location v₀ v₁ v₂ v₃ denominator : ℕ) (answer : Answer) (entries' : List ℕ)
     → PlaceCall table entries location v₀ v₁ v₂ v₃ denominator answer entries'
     → ByList table entries entries' Unit (PlaceRows location v₀ v₁ v₂ v₃ denominator) answer
 place-rows table entries location v₀ v₁ v₂ v₃ denominator answer entries' call =
     let s : State = asked location v₀ v₁ v₂ v₃ denominator in
-    by-list table entries entries' call.entries-are P.Refused (placed_in s) of_placing Unit
-    (PlaceRows location v₀ v₁ v₂ v₃ denominator) (λ n p. refl) answer
-    (call.answer-is ∙ ap of_placing (place_after table (room_for (length entries)) s)) (λ n p e. tt)
+    by-list table entries entries' call.entries-are (placed_in s) told_number Unit (PlaceRows location v₀ v₁ v₂ v₃ denominator) answer
+    (call.answer-is ∙ ap of_placing (place_after table (room_for (length entries)) s)) (λ r e. tt)
     (place-own table (room_for (length entries)) location v₀ v₁ v₂ v₃ denominator)
 
 -- ---- The partition call
@@ -292,18 +286,14 @@ module _ (table entries first second : List ℕ) where
   lent = room_for (length entries)
 
   -- A list after the call, where rows 1 to 15 stopped it, and where not.
-  kept-list : (list : List ℕ) (n p : ℕ) → G.Refused n p ≡ graph_of (outcome_of table lent) → list_after table lent first second list ≡ list
+  kept-list : (list : List ℕ) (r : Refusal) → Err r ≡ graph_of (outcome_of table lent) → list_after table lent first second list ≡ list
   unfolding list_after
-  kept-list list n p e =
-      sym (on-refused (λ number place. list) (λ m found. cond (is_short (length found) first second) list (numbered_in list m found)) table
-      lent n p e)
+  kept-list list r e = sym (on-refused (λ reason place. list) (list_of first second list) table lent r e)
 
-  after_list : (list : List ℕ) (a : Accepted table lent) → list_after table lent first second list
-      ≡ cond (is_short (length a.found) first second) list (numbered_in list a.model a.found)
+  after_list : (list : List ℕ) (a : Accepted table lent)
+      → list_after table lent first second list ≡ list_of first second list a.model a.found
   unfolding list_after
-  after_list list a =
-      on-accepted (λ number place. list) (λ m found. cond (is_short (length found) first second) list (numbered_in list m found)) table
-      lent a
+  after_list list a = on-accepted (λ reason place. list) (list_of first second list) table lent a
 
   reduce-own : (first' second' : List ℕ) → first' ≡ list_after table lent first second first
       → second' ≡ list_after table lent first second second → (a : Accepted table lent)
@@ -315,9 +305,9 @@ module _ (table entries first second : List ℕ) where
           → first' ≡ cond b first (numbered_in first a.model a.found)
           → second' ≡ cond b second (numbered_in second a.model a.found)
           → ReduceRows first second first' second' a.model a.found
-          (of_reduction (cond b (B.Refused 16 0)
-          (B.Blocks (length a.found) (block_count (graph a.model a.found) (rounds (graph a.model a.found)))
-          (rounds (graph a.model a.found)))))
+          (of_reduction (cond b (refuses ShortList 0)
+          (Ok (counts (length a.found) (block_count (graph a.model a.found) (rounds (graph a.model a.found)))
+          (rounds (graph a.model a.found))))))
       by_length true e f s = reduce-row-16 (short-one (length first) (length a.found) (length second) e) (f, s)
       by_length false e f s = reduce-result (long-enough (length first) (length a.found) (length second) e) (f, s)
 
@@ -326,11 +316,11 @@ pub reduce-rows : (table entries first second : List ℕ) (answer : Answer) (ent
     → ByList table entries entries' ((first' ≡ first) × (second' ≡ second)) (ReduceRows first second first' second') answer
 unfolding reduce_of
 reduce-rows table entries first second answer entries' first' second' call =
-    by-list table entries entries' call.entries-are B.Refused (blocks_of first second) of_reduction
-    ((first' ≡ first) × (second' ≡ second)) (ReduceRows first second first' second') (λ n p. refl) answer call.answer-is
-    (λ n p e. (
-      call.first-is ∙ kept-list table entries first second first n p e,
-      call.second_is ∙ kept-list table entries first second second n p e,
+    by-list table entries entries' call.entries-are (blocks_of first second) told_counts
+    ((first' ≡ first) × (second' ≡ second)) (ReduceRows first second first' second') answer call.answer-is
+    (λ r e. (
+      call.first-is ∙ kept-list table entries first second first r e,
+      call.second_is ∙ kept-list table entries first second second r e,
     ))
     (reduce-own table entries first second first' second' call.first-is call.second_is)
 
@@ -340,19 +330,15 @@ module _ (table entries first second : List ℕ) (r s : ℕ) where
   abbrev pair_room : ℕ
   pair_room = room_for (length entries)
 
-  abbrev paired_in : List ℕ → Model → List Region → List ℕ
-  paired_in list m found =
-      cond (is_short (length found) first second) list (cond (is_asked_past (length found) r s) list (numbered_in list m found))
-
-  kept_pair : (list : List ℕ) (n p : ℕ) → G.Refused n p ≡ graph_of (outcome_of table pair_room)
+  kept_pair : (list : List ℕ) (x : Refusal) → Err x ≡ graph_of (outcome_of table pair_room)
       → pair_list_after table pair_room first second list r s ≡ list
   unfolding pair_list_after
-  kept_pair list n p e = sym (on-refused (λ number place. list) (paired_in list) table pair_room n p e)
+  kept_pair list x e = sym (on-refused (λ reason place. list) (pair_list_of first second list r s) table pair_room x e)
 
   after-pair : (list : List ℕ) (a : Accepted table pair_room)
-      → pair_list_after table pair_room first second list r s ≡ paired_in list a.model a.found
+      → pair_list_after table pair_room first second list r s ≡ pair_list_of first second list r s a.model a.found
   unfolding pair_list_after
-  after-pair list a = on-accepted (λ number place. list) (paired_in list) table pair_room a
+  after-pair list a = on-accepted (λ reason place. list) (pair_list_of first second list r s) table pair_room a
 
   pair-own : (first' second' : List ℕ) → first' ≡ pair_list_after table pair_room first second first r s
       → second' ≡ pair_list_after table pair_room first second second r s → (a : Accepted table pair_room)
@@ -369,7 +355,7 @@ module _ (table entries first second : List ℕ) (r s : ℕ) where
       by-share : (n ≤ length first) × (n ≤ length second) → (r < n) × (s < n)
           → (first' ≡ numbered_in first a.model a.found) × (second' ≡ numbered_in second a.model a.found)
           → (v : Bool) → related numbers r s ≡ v
-          → PairRows first second r s first' second' a.model a.found (of_pairing (S.Shared v))
+          → PairRows first second r s first' second' a.model a.found (of_pairing (Ok v))
       by-share long below lists true e = pair-shared long below lists (eqb-true _ _ e)
       by-share long below lists false e = pair-apart long below lists (eqb-false _ _ e)
 
@@ -377,7 +363,7 @@ module _ (table entries first second : List ℕ) (r s : ℕ) where
           → first' ≡ cond x first (cond y first (numbered_in first a.model a.found))
           → second' ≡ cond x second (cond y second (numbered_in second a.model a.found))
           → PairRows first second r s first' second' a.model a.found
-          (of_pairing (cond x (S.Refused 16 0) (cond y (S.Refused 19 0) (S.Shared (related numbers r s)))))
+          (of_pairing (cond x (refuses ShortList 0) (cond y (refuses UnknownRegion 0) (Ok (related numbers r s)))))
       by_tests true ex y ey f g = pair-row-16 (short-one (length first) n (length second) ex) (f, g)
       by_tests false ex true ey f g =
           pair-row-19 (long-enough (length first) n (length second) ex) (past_one n r s ey) (f, g)
@@ -389,11 +375,11 @@ pub pair-rows : (table entries first second : List ℕ) (r s : ℕ) (answer : An
     → ByList table entries entries' ((first' ≡ first) × (second' ≡ second)) (PairRows first second r s first' second') answer
 unfolding pair_of
 pair-rows table entries first second r s answer entries' first' second' call =
-    by-list table entries entries' call.entries-are S.Refused (shared_of first second r s) of_pairing
-    ((first' ≡ first) × (second' ≡ second)) (PairRows first second r s first' second') (λ n p. refl) answer call.answer-is
-    (λ n p e. (
-      call.first-is ∙ kept_pair table entries first second r s first n p e,
-      call.second_is ∙ kept_pair table entries first second r s second n p e,
+    by-list table entries entries' call.entries-are (shared_of first second r s) told_sharing
+    ((first' ≡ first) × (second' ≡ second)) (PairRows first second r s first' second') answer call.answer-is
+    (λ x e. (
+      call.first-is ∙ kept_pair table entries first second r s first x e,
+      call.second_is ∙ kept_pair table entries first second r s second x e,
     ))
     (pair-own table entries first second r s first' second' call.first-is call.second_is)
 
@@ -419,7 +405,8 @@ judge-own table cap proposal a =
   where
     by_tests : (x : Bool) → eqb (length proposal) (length a.found) ≡ x → (y : Bool)
         → accepts (graph a.model a.found) proposal ≡ y
-        → JudgeRows proposal a.model a.found (of_judgement (cond (not x) (J.Refused 17 0) (cond y J.Accepted (J.Refused 18 0))))
+        → JudgeRows proposal a.model a.found
+        (of_judgement (cond (not x) (refuses WrongLength 0) (cond y acceptance (refuses NoBisimulation 0))))
     by_tests false ex y ey = judge-row-17 (eqb-false _ _ ex)
     by_tests true ex true ey = judge-result (eqb-true _ _ ex) ((proposed-iff table cap a proposal).0 ey)
     by_tests true ex false ey =
@@ -429,8 +416,8 @@ pub judge-rows : (table entries proposal : List ℕ) (answer : Answer) (entries'
     → JudgeCall table entries proposal answer entries' → ByList table entries entries' Unit (JudgeRows proposal) answer
 unfolding judge_of
 judge-rows table entries proposal answer entries' call =
-    by-list table entries entries' call.entries-are J.Refused (judged_of proposal) of_judgement Unit (JudgeRows proposal) (λ n p. refl)
-    answer call.answer-is (λ n p e. tt) (judge-own table (room_for (length entries)) proposal)
+    by-list table entries entries' call.entries-are (judged_of proposal) told_acceptance Unit (JudgeRows proposal) answer call.answer-is
+    (λ r e. tt) (judge-own table (room_for (length entries)) proposal)
 
 -- It answers 1 exactly where the proposal has N numbers, and equal numbers are a bisimulation.
 pub judge-iff : (table entries proposal : List ℕ) (answer : Answer) (entries' : List ℕ) → JudgeCall table entries proposal answer entries'
@@ -443,7 +430,7 @@ judge-iff table entries proposal answer entries' call a =
     (λ e. accepted-row (subst (JudgeRows proposal a.model a.found) (sym is ∙ e) own), λ t. is ∙ judged-one t)
   where
     judge-is : answer ≡ of_judgement (judged_of proposal a.model a.found)
-    judge-is = call.answer-is ∙ ap of_judgement (on-accepted J.Refused (judged_of proposal) table (room_for (length entries)) a)
+    judge-is = call.answer-is ∙ ap of_judgement (on-accepted refuses (judged_of proposal) table (room_for (length entries)) a)
 
     accepted-row : JudgeRows proposal a.model a.found (result_as 1 0 0)
         → (length proposal ≡ length a.found) × Proposed a.model a.found proposal
@@ -458,7 +445,7 @@ judge-iff table entries proposal answer entries' call a =
 -- ---- Text in a buffer
 
 given : (text buffer buffer' : List ℕ) → buffer' ≡ buffer_after text buffer
-    → Given text buffer buffer' (of_part (fitted text (length buffer)))
+    → Given text buffer buffer' (told_part (fitted text (length buffer)))
 given [] buffer buffer' e = no_text refl (e ∙ empty (leb 0 (length buffer)))
   where
     empty : (b : Bool) → cond b buffer buffer ≡ buffer
@@ -468,7 +455,7 @@ given (c ∷ l) buffer buffer' e = by_length (leb (length (c ∷ l)) (length buf
   where
     by_length : (b : Bool) → leb (length (c ∷ l)) (length buffer) ≡ b
         → buffer' ≡ cond b ((c ∷ l) ++ drop (length (c ∷ l)) buffer) buffer
-        → Given (c ∷ l) buffer buffer' (of_part (cond b (T.Written (length (c ∷ l))) (T.Short (length (c ∷ l)))))
+        → Given (c ∷ l) buffer buffer' (told_part (cond b (T.Written (length (c ∷ l))) (T.Short (length (c ∷ l)))))
     by_length true t f = written (omega arith) (leb-true _ _ t) f
     by_length false t f = short (leb-false _ _ t) f
 

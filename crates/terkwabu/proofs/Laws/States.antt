@@ -27,7 +27,7 @@ use Rattle.terkwabu.specs.declared.answer.Answer.{Answer}
 -- ---- A table is read as one model
 
 abbrev model_in : Model → Read → Model
-model_in other (refusal number place) = other
+model_in other (refusal reason place) = other
 model_in other (accepted m) = m
 
 pub read_one : (table : List ℕ) (m m' : Model) → read_table table ≡ accepted m → read_table table ≡ accepted m' → m ≡ m'

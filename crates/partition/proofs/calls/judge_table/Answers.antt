@@ -29,6 +29,8 @@ returns c =
     shown-for args.bytes.now args.entries.now c.in_ok-n.n c.in_ok-n.ensures.value c.show.new.self
     (λ m found read out. c.show.ensures.shown m found read out c.new-room.ensures) c.graph.result c.graph.ensures in
     record {
-      answer-is = c.judge_shown.ensures a.model a.found held closed ∙ sym (on-accepted refuses (judged_of args.proposal.now) args.bytes.now cap a);
+      answer-is =
+          c.judge_shown.ensures a.model a.found held closed
+          ∙ sym (on-accepted refuses (judged_of args.proposal.now) args.bytes.now cap a);
       entries-are = c.show.ensures.entries_after;
     }

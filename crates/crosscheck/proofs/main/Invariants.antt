@@ -1,8 +1,0 @@
--- `main` is safe and ends: the measure is the cases left. Assumes nothing.
-use Rattle.crosscheck.proofs.main.Given as goal
-
-abbrev pub invariant-loop-left : goal.invariant-loop-left
-invariant-loop-left l = Unit
-
-abbrev pub decreases-loop-left : goal.decreases-loop-left
-decreases-loop-left l = l.left

@@ -1,2 +1,0 @@
--- What the program's contracts say of printing.
-pub mod Outcomes
