@@ -1,5 +1,5 @@
 -- What a pass works over.
-use Rattle.std.specs.Prelude.{ℕ, ◌≤◌, List}
+use Rattle.std.specs.Prelude.{ℕ, ◌≤◌, ◌≡◌, List}
 use Rattle.signatures.specs.Book.{Sound}
 use Rattle.signatures.specs.Raw.{raw_step}
 use Rattle.signatures.specs.Memo.{Noted}
@@ -17,3 +17,8 @@ pub record Ready (edges names : List ℕ) (held : List (List ℕ)) (memo : List 
   pub noted : Noted (raw_step edges) held memo
   pub sound : Sound held
   pub items-few : items_in names ≤ 4096
+
+-- A pass goes on: all but the lists that are held stays, and these are different.
+pub record Keeps (s s' : State) : Type 0 where
+  pub stays : s' ≡ record s { held = s'.held }
+  pub sound : Sound s'.held

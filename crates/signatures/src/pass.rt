@@ -59,10 +59,12 @@ fn reach(x: usize, names: &[u16], delays: &mut ArrayVec<u32, 4096>)
 }
 
 impl Pass<'_> {
+    ghost use Rattle.signatures.specs.Pass.{Keeps};
+
     // Returns the id of the step of a raw form, which is listed only if it was not noted.
     fn noted_id(&mut self, raw: &[u16]) -> Result<u16, NoRoom>
         requires { (0 < length raw.now) × (length raw.now ≤ 9) }
-        ensures stays { self.new ≡ record self.old { held = self.new.held } }
+        ensures keeps { Keeps self.old self.new }
         ensures told { Told (raw_step self.old.edges raw.now) self.old.held self.new.held result }
     {
         let cell = cell_of(raw);
@@ -78,7 +80,7 @@ impl Pass<'_> {
 
     // Returns the id of the step of the edge of a rank at an item.
     fn step_id(&mut self, x: usize, rank: usize) -> Result<u16, NoRoom>
-        ensures stays { self.new ≡ record self.old { held = self.new.held } }
+        ensures keeps { Keeps self.old self.new }
         ensures told { Told (step_at self.old.graph self.old.edges self.old.names (class_of self.old.graph x) (edge_of self.old.graph x rank))
             self.old.held self.new.held result }
     {
@@ -91,7 +93,7 @@ impl Pass<'_> {
 
     // Returns the ids of the steps of an item as a set.
     fn step_ids(&mut self, x: usize) -> Result<ArrayVec<u32, 130>, NoRoom>
-        ensures stays { self.new ≡ record self.old { held = self.new.held } }
+        ensures keeps { Keeps self.old self.new }
         ensures grows { Grows self.old.held self.new.held }
         ensures answered { Answered self.old.graph self.old.edges self.old.names x self.old.held self.new.held result }
     {
@@ -109,8 +111,9 @@ impl Pass<'_> {
 
     // Returns the id of the names that an item reaches by delay.
     fn delay_id(&mut self, x: usize) -> Result<u16, NoRoom>
-        ensures stays { self.new ≡ record self.old { held = self.new.held } }
+        ensures keeps { Keeps self.old self.new }
         ensures told { Told (reached_from self.old.names x) self.old.held self.new.held result }
+        ensures few { length (reached_from self.old.names x) ≤ 4096 }
     {
         reach(x, self.names, &mut self.delays);
         self.dictionary.intern(self.delays.as_slice())
@@ -118,7 +121,7 @@ impl Pass<'_> {
 
     // Returns the id of the signature of an item.
     fn signature(&mut self, x: usize) -> Result<u16, NoRoom>
-        ensures stays { self.new ≡ record self.old { held = self.new.held } }
+        ensures keeps { Keeps self.old self.new }
         ensures grows { Grows self.old.held self.new.held }
         ensures signed { Signed self.old.held self.new.held (name_of self.old.names x) (reached_from self.old.names x)
             (steps_from self.old.graph self.old.edges self.old.names x) result }
