@@ -1,6 +1,7 @@
 -- The dictionary in two slices. The index holds the count, a head for each bucket, the place where each list starts and ends among the
 -- numbers, and a link for each list; the other slice holds the numbers of all lists, one list after the other.
-use Rattle.std.specs.Prelude.{ℕ, zero, suc, ◌+◌, ◌≤◌, ◌<◌, ◌≡◌, List, [], ◌∷◌, ◌++◌, Bool, true, false, length, get_or, set, Option, Some, None}
+use Rattle.std.specs.Prelude.{ℕ, zero, suc, ◌+◌, ◌≤◌, ◌<◌, ◌≡◌, List, [], ◌∷◌, ◌++◌, Bool, true, false, length, get_or, set}
+use Rattle.std.specs.Prelude.{Option, Some, None}
 use Rattle.std.proofs.Math.Seq.{slice}
 use Rattle.signatures.specs.Chain.{Chained}
 use Rattle.signatures.specs.Book.{max_ids, room, Absent}

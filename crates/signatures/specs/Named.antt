@@ -1,18 +1,18 @@
 -- Signatures over a dictionary. Each step of an item is a list with an id, and so is the set of names that the item reaches by delay. The
 -- signature is a list with an id too: the set of the steps' ids, then the item's name and the id of the names reached by delay.
-use Rattle.std.specs.Prelude.{ℕ, ◌+◌, ◌*◌, ◌/◌, ◌≤◌, ◌<◌, ◌≡◌, length, get_or, take, true, cond, ltb}
+use Rattle.std.specs.Prelude.{ℕ, ◌+◌, ◌*◌, ◌/◌, ◌≤◌, ◌<◌, ◌≡◌, length, get_or}
 use mathlib.Core.List.{List, [], ◌∷◌, ◌++◌, Memᴰ}
 use Rattle.std.specs.Prelude.{Result, Ok, Err}
 use Rattle.arrayvec.specs.ArrayVec.{ArrayVec}
 use Rattle.signatures.specs.declared.dictionary.NoRoom.{NoRoom}
-use Rattle.graph.specs.Readers.{delay_of, is_available}
+use Rattle.graph.specs.Readers.{delay_of}
 use Rattle.signatures.specs.Sets.{set_of}
 use Rattle.signatures.specs.Dictionary.{index_size}
 use Rattle.signatures.specs.Memo.{memo_size}
 use Rattle.signatures.specs.Book.{max_ids, room, At, Different, numbers_in, Shut, Grows}
 use Rattle.signatures.specs.Steps.{name_of}
-use Rattle.signatures.specs.Signatures.{names_of, steps_below, steps_of}
-use Rattle.signatures.specs.Structure.{chain_from, structure_of, step_at}
+use Rattle.signatures.specs.Signatures.{names_of, steps_of}
+use Rattle.signatures.specs.Structure.{chain_from, structure_of}
 
 -- Ids of some lists, in the same order.
 pub data AllIds (held : List (List ℕ)) : List (List ℕ) → List ℕ → Type 0 where

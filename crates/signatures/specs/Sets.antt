@@ -1,5 +1,5 @@
 -- Sets of numbers as strictly rising lists.
-use Rattle.std.specs.Prelude.{ℕ, ◌+◌, ◌-◌, ◌≤◌, ◌<◌, ◌≡◌, cond, eqb, ltb, length, get_or, take}
+use Rattle.std.specs.Prelude.{ℕ, ◌<◌, cond, eqb, ltb}
 use mathlib.Core.List.{List, [], ◌∷◌, Memᴰ}
 
 -- A number put into a rising list, once.

@@ -64,15 +64,6 @@ fn enter(id: u16, end: usize, bucket: usize, index: &mut [u16])
     index[COUNT] = id + 1;
 }
 
-// Copies a list to a place among the numbers.
-fn copy_in(list: &[u32], start: usize, numbers: &mut [u32])
-    requires { start + length list.now ≤ length numbers.old }
-    ensures { numbers.new ≡ paste numbers.old start list.now (length list.now) }
-{
-    let end = start + list.len();
-    numbers[start..end].copy_from_slice(list);
-}
-
 impl<'a> Dictionary<'a> {
     // Makes an empty dictionary in two slices.
     pub(crate) fn new(index: &'a mut [u16], numbers: &'a mut [u32]) -> Dictionary<'a>
@@ -90,7 +81,8 @@ impl<'a> Dictionary<'a> {
     {
         let start = usize::from(self.index[STARTS + usize::from(id)]);
         let end = usize::from(self.index[ENDS + usize::from(id)]);
-        &self.numbers[start..end] == list
+        let entry = &self.numbers[start..end];
+        entry == list
     }
 
     // Looks for a list, along its bucket.
@@ -123,8 +115,9 @@ impl<'a> Dictionary<'a> {
         if ROOM - start < list.len() {
             return Err(NoRoom);
         }
-        copy_in(list, start, self.numbers);
-        enter(id, start + list.len(), bucket_of(list), self.index);
+        let end = start + list.len();
+        self.numbers[start..end].copy_from_slice(list);
+        enter(id, end, bucket_of(list), self.index);
         Ok(id)
     }
 

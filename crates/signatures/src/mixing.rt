@@ -8,8 +8,7 @@ pub(crate) fn mix<T: Copy + Into<u32>>(list: &[T]) -> u32
 {
     let mut sum: u32 = 0;
     for number in list {
-        let number: u32 = (*number).into();
-        sum = sum.wrapping_add(number).wrapping_mul(1540483477);
+        sum = sum.wrapping_add((*number).into()).wrapping_mul(1540483477);
     }
     sum
 }

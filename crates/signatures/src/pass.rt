@@ -1,8 +1,11 @@
 // A pass gives each item of a list the id of its signature: the set of the ids of its steps, its name, and the id of the set of names that
 // it reaches by delay.
 ghost use Rattle.std.specs.Prelude.{ℕ, ◌≤◌, ◌<◌, ◌≡◌, [], length};
-ghost use Rattle.signatures.specs.Book.{Told, Grows};
+ghost use Rattle.signatures.specs.Book.{room, Told, Grows};
+ghost use Rattle.signatures.specs.Dictionary.{index_size};
+ghost use Rattle.signatures.specs.Memo.{memo_size};
 ghost use Rattle.signatures.specs.Named.{items_in, reached_from, Answered, Signed, Passed, steps_from};
+ghost use Rattle.signatures.specs.Pass.{State, Ready, Keeps};
 ghost use Rattle.signatures.specs.Raw.{raw_step};
 ghost use Rattle.signatures.specs.Steps.{name_of};
 ghost use Rattle.graph.specs.Readers.{class_of};
@@ -11,7 +14,7 @@ ghost use Rattle.signatures.specs.Structure.{edge_of, step_at};
 use crate::dictionary::{Dictionary, NoRoom};
 use crate::memo::{cell_of, note, noted};
 use crate::sets::insert;
-use crate::steps::{landed, step_of};
+use crate::steps::{raw_form, step_of};
 use arrayvec::ArrayVec;
 use slices::at;
 use std::marker::Model;
@@ -23,17 +26,15 @@ const NO_ID: u16 = 65535;
 // `delays`: it is kept for the next item, since a new one would be filled with zeros.
 #[derive(Drop)]
 pub(crate) struct Pass<'a> {
-    pub graph: &'a [u16],
-    pub edges: &'a [u32],
-    pub names: &'a [u16],
-    pub dictionary: Dictionary<'a>,
-    pub memo: &'a mut [u16],
-    pub delays: ArrayVec<u32, 4096>,
+    graph: &'a [u16],
+    edges: &'a [u32],
+    names: &'a [u16],
+    dictionary: Dictionary<'a>,
+    memo: &'a mut [u16],
+    delays: ArrayVec<u32, 4096>,
 }
 
 impl<'a> Model for Pass<'a> {
-    ghost use Rattle.signatures.specs.Pass.{State, Ready};
-
     ghost Value = { State };
 
     ghost view = { λ p. record { graph = p.graph.now; edges = p.edges.now; names = p.names.now; held = p.dictionary } };
@@ -58,8 +59,30 @@ fn reach(x: usize, names: &[u16], delays: &mut ArrayVec<u32, 4096>)
     }
 }
 
-impl Pass<'_> {
-    ghost use Rattle.signatures.specs.Pass.{Keeps};
+impl<'a> Pass<'a> {
+    // Begins a pass, in which nothing is held.
+    pub(crate) fn new(
+        graph: &'a [u16],
+        edges: &'a [u32],
+        names: &'a [u16],
+        index: &'a mut [u16],
+        numbers: &'a mut [u32],
+        memo: &'a mut [u16],
+    ) -> Pass<'a>
+        requires sizes { (length index.old ≡ index_size) × (length numbers.old ≡ room) × (length memo.old ≡ memo_size) }
+        requires few { items_in names.now ≤ 4096 }
+        ensures { result ≡ record { graph = graph.now; edges = edges.now; names = names.now; held = [] } }
+    {
+        memo.fill(0);
+        Pass {
+            graph,
+            edges,
+            names,
+            dictionary: Dictionary::new(index, numbers),
+            memo,
+            delays: ArrayVec::new(),
+        }
+    }
 
     // Returns the id of the step of a raw form, which is listed only if it was not noted.
     fn noted_id(&mut self, raw: &[u16]) -> Result<u16, NoRoom>
@@ -81,13 +104,13 @@ impl Pass<'_> {
     // Returns the id of the step of the edge of a rank at an item.
     fn step_id(&mut self, x: usize, rank: usize) -> Result<u16, NoRoom>
         ensures keeps { Keeps self.old self.new }
-        ensures told { Told (step_at self.old.graph self.old.edges self.old.names (class_of self.old.graph x) (edge_of self.old.graph x rank))
-            self.old.held self.new.held result }
+        ensures told { Told (step_at self.old.graph self.old.edges self.old.names (class_of self.old.graph x)
+            (edge_of self.old.graph x rank)) self.old.held self.new.held result }
     {
         let class = graph::class_of(self.graph, x);
         let location = graph::location_of(self.graph, x);
         let edge = graph::edge_at(self.graph, location, rank);
-        let raw = landed(edge, class, self.graph, self.names);
+        let raw = raw_form(edge, class, self.graph, self.names);
         self.noted_id(raw.as_slice())
     }
 

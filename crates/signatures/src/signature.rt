@@ -3,9 +3,7 @@ ghost use Rattle.std.specs.Prelude.{◌≡◌, true, false};
 ghost use Rattle.signatures.specs.Dictionary.{Tells};
 ghost use Rattle.signatures.specs.Named.{Passed, Roomy};
 
-use crate::dictionary::Dictionary;
 use crate::pass::Pass;
-use arrayvec::ArrayVec;
 
 // The sizes of the work memory of a pass.
 pub const INDEX: usize = 24578;
@@ -33,6 +31,7 @@ fn is_roomy(names: &[u16], index: &[u16], numbers: &[u32], memo: &[u16], items: 
 // of INDEX, NUMBERS and MEMO numbers. Their contents do not matter; afterwards they are unspecified. If they have other sizes, or the list
 // has more than 4,096 items, or names more than 8,192 numbers, the answer is false and all that was lent stays as it is. Otherwise the
 // answer is true.
+#[tactic(auto, unfolding(crate::specs::Named::items_in))]
 pub fn sign(
     graph: &[u16],
     edges: &[u32],
@@ -52,15 +51,7 @@ pub fn sign(
     if !is_roomy(names, index, numbers, memo, items) {
         return false;
     }
-    memo.fill(0);
-    let mut pass = Pass {
-        graph,
-        edges,
-        names,
-        dictionary: Dictionary::new(index, numbers),
-        memo,
-        delays: ArrayVec::new(),
-    };
+    let mut pass = Pass::new(graph, edges, names, index, numbers, memo);
     pass.sign_all(items);
     true
 }

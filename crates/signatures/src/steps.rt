@@ -10,12 +10,7 @@ use arrayvec::ArrayVec;
 use slices::at;
 
 // Returns the raw form of an edge from the regions of a class.
-pub(crate) fn landed(
-    edge: usize,
-    class: usize,
-    graph: &[u16],
-    names: &[u16],
-) -> ArrayVec<u16, 9>
+pub(crate) fn raw_form(edge: usize, class: usize, graph: &[u16], names: &[u16]) -> ArrayVec<u16, 9>
     requires { edge < 128 }
     ensures { Landed graph.now names.now edge class result.items }
 {

@@ -1,20 +1,19 @@
 -- Available edges, one after the other, and the steps of an item.
-use Prim.Native.Nat.{ℕ, zero, suc, ◌+◌, ◌-◌, ◌*◌, ◌≤◌, ◌<◌}
+use Prim.Native.Nat.{ℕ, zero, suc, ◌+◌, ◌-◌, ◌≤◌, ◌<◌}
 use native.Mathlib.Omega.{arith}
-use Rattle.std.proofs.Common.{eq-or-lt_of_le, sym, ◌∙◌, inl, inr, add-one, lt-ltb, le-ltb}
-use Rattle.std.specs.Prelude.{◌≡◌, Bool, true, false, cond, ◌&&◌, ◌⊎◌, ltb, eqb, length, take}
+use Rattle.std.proofs.Common.{sym, ◌∙◌, add-one, lt-ltb, le-ltb}
+use Rattle.std.specs.Prelude.{◌≡◌, Bool, true, false, cond, ◌&&◌, length}
 use Rattle.std.proofs.Math.Path.{refl, ap, subst}
 use mathlib.Core.List.{List, [], ◌∷◌, Memᴰ}
 use Rattle.graph.specs.Readers.{edge_count, branch_count, denominator_of, class_of, location_of, is_available}
 use Rattle.graph.proofs.Laws.Bounds.{edges_few, branches-few}
 use Rattle.bisimulation.specs.Structures.{Branch}
 use Rattle.bisimulation.specs.Finite.{Finite}
-use Rattle.bisimulation.proofs.Laws.Tests.{both}
 use Rattle.std.specs.Prelude.{Ok, Err}
 use Rattle.signatures.specs.declared.dictionary.NoRoom.{NoRoom}
 use Rattle.signatures.specs.Sets.{put_in, set_of}
 use Rattle.signatures.specs.Book.{Told}
-use Rattle.signatures.specs.Steps.{named, target_names, mass_of, shares_over, step_list, step_of}
+use Rattle.signatures.specs.Steps.{named, target_names, mass_of, step_list, step_of}
 use Rattle.signatures.specs.Signatures.{steps_below, steps_of}
 use Rattle.signatures.specs.Laws.Signatures.{step_in}
 use Rattle.signatures.specs.Structure.{branches_from, edge_of, structure_of, step_at}

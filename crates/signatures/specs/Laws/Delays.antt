@@ -1,8 +1,6 @@
 -- Names gathered along the delays of an item.
-use Rattle.std.specs.Prelude.{ℕ, zero, suc, ◌+◌, ◌-◌, ◌≤◌, ◌<◌, ◌≡◌, refl, Bool, cond, ltb, length}
-use Rattle.std.proofs.Common.{arith, sym, ◌∙◌, ap, subst, inl, inr, lt-ltb, le-ltb}
-use Rattle.signatures.specs.Laws.Sets.{both}
-use Rattle.signatures.specs.Laws.Insert.{set-size}
+use Rattle.std.specs.Prelude.{ℕ, suc, ◌+◌, ◌-◌, ◌≤◌, ◌<◌, ◌≡◌, Bool, cond}
+use Rattle.std.proofs.Common.{arith, ◌∙◌, ap, subst, lt-ltb, le-ltb}
 use mathlib.Core.List.{List, [], ◌∷◌}
 use Rattle.signatures.specs.Sets.{put_in}
 use Rattle.signatures.specs.Walked.{Walked}
@@ -65,22 +63,3 @@ delays-start names x =
     subst (λ (k : ℕ). Walked (names_of names (chain_from (jump_of names) (items_in names) (items_in names) x)) []
     (names_of names (chain_from (jump_of names) (items_in names) k x))) e
     (walked_start (names_of names (chain_from (jump_of names) (items_in names) (items_in names) x)))
-
--- At most as many names as items are reached.
-names-size : (names l : List ℕ) → length (names_of names l) ≡ length l
-names-size names [] = refl
-names-size names (y ∷ l) = ap suc (names-size names l)
-
-chain-size : (next : ℕ → ℕ) (n steps y : ℕ) → length (chain_from next n steps y) ≤ steps
-chain-size next n zero y = omega arith
-chain-size next n (suc steps) y =
-    elim (both (ltb y n)) [
-      | inl e ↦ rw e (omega (arith, chain-size next n steps (next y)))
-      | inr e ↦ rw e (omega arith)
-    ]
-
-pub reached-few : (names : List ℕ) (x : ℕ) → length (reached_from names x) ≤ items_in names
-unfolding reached_from
-reached-few names x =
-    let l : List ℕ = chain_from (jump_of names) (items_in names) (items_in names) x in
-    omega (arith, set-size (names_of names l), names-size names l, chain-size (jump_of names) (items_in names) (items_in names) x)

@@ -2,7 +2,7 @@
 use Prim.Native.Nat.{ℕ, zero, suc, ◌+◌, ◌-◌, ◌≤◌, ◌<◌}
 use native.Mathlib.Omega.{arith}
 use Rattle.std.proofs.Common.{eq-or-lt_of_le, add-zero, add-suc, ◌∙◌, subst, inl, inr, ⊎_elim, length-append, length-set, get_or-set_same}
-use Rattle.std.proofs.Common.{get_or-set_other, length-take-le, take-take, drop_at, take-add, ext_get_or}
+use Rattle.std.proofs.Common.{get_or-set_other, length-take-le, take-take, drop_at, take-add}
 use Rattle.std.proofs.Math.Numerals.{add-one}
 use Rattle.std.specs.Prelude.{◌≡◌, refl, ◌⊎◌, length, get_or, set, take, drop, Some, None, Ok, Err, replicate}
 use Rattle.std.proofs.Math.Path.{sym, ap, ap₂}

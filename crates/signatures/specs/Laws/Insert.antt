@@ -1,8 +1,9 @@
 -- A number put into a rising list: at its place, or nowhere where it is there already.
 use Prim.Native.Nat.{ℕ, zero, suc, ◌+◌, ◌≤◌, ◌<◌}
 use native.Mathlib.Omega.{arith}
-use Rattle.std.proofs.Common.{◌∙◌, ap, subst, sym, ltb, eqb, take-append-drop, lt-ltb, le-ltb, eq-eqb, ne_eqb, eq-or-lt_of_le, ◌⊎◌, inl, inr}
-use Rattle.std.specs.Prelude.{◌≡◌, refl, take, Result, Ok, Err, MatchResult}
+use Rattle.std.proofs.Common.{◌∙◌, ap, subst, sym, ◌⊎◌, inl, inr, ltb, eqb, take-append-drop, eq-or-lt_of_le}
+use Rattle.std.proofs.Common.{lt-ltb, le-ltb, eq-eqb, ne_eqb}
+use Rattle.std.specs.Prelude.{◌≡◌, refl, take, Ok, Err}
 use mathlib.Core.List.{List, [], ◌∷◌, ◌++◌, Memᴰ}
 use Rattle.std.proofs.Math.ListN.{length, get_or, drop, length-drop}
 use Rattle.std.proofs.Math.Seq.{get_or-take, get_or-drop, length-take-le}
@@ -89,8 +90,12 @@ module _ (v : ℕ) (l : List ℕ) (r : Rising l) (i : ℕ) where
       let size : length (take i l) ≡ i = length-take-le i l at.0 in
       sym (ap (put_in v) (sym (take-append-drop i l)) ∙ put-middle v (take i l) (drop i l)
       (λ u m. let k = mem-at u (take i l) m in
-          let less : k.0 < i = omega (arith, k.1, size) in
-          omega (arith, k.2, get_or-take i l k.0 0 less, at.1 k.0 less))
+      let less : k.0 < i = omega (arith, k.1, size) in
+      omega (arith, k.2, get_or-take i l k.0 0 less, at.1 k.0 less))
       (λ u m. let k = mem-at u (drop i l) m in
-          omega (arith, k.2, get_or-drop i l k.0 0,
-          at.2 (i + k.0) (omega arith) (omega (arith, k.1, length-drop i l)))))
+      omega (
+        arith,
+        k.2,
+        get_or-drop i l k.0 0,
+        at.2 (i + k.0) (omega arith) (omega (arith, k.1, length-drop i l)),
+      )))

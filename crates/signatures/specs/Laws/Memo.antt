@@ -1,14 +1,13 @@
 -- Laws of the memo: what it holds stays right while the dictionary grows, and when a cell is written.
-use Rattle.std.specs.Prelude.{ℕ, ◌+◌, ◌-◌, ◌*◌, ◌≤◌, ◌<◌, ◌≡◌, Bool, ◌⊎◌, set, drop, replicate}
+use Rattle.std.specs.Prelude.{ℕ, ◌+◌, ◌-◌, ◌*◌, ◌≤◌, ◌<◌, ◌≡◌, ◌⊎◌, set, drop}
 use native.Mathlib.Omega.{arith}
 use Rattle.std.proofs.Math.Path.{sym, ap}
-use Rattle.std.proofs.Common.{◌∙◌, subst, inl, inr, ⊎_elim, length-set, length-append, get_or-set_same, get_or-set_other, get_or-take}
+use Rattle.std.proofs.Common.{◌∙◌, inl, inr, ⊎_elim, length-set, length-append, get_or-set_same, get_or-set_other, get_or-take}
 use Rattle.std.proofs.Common.{get_or-drop, drop_at}
 use mathlib.Core.List.{List, ◌++◌, append_assoc}
 use Rattle.std.proofs.Math.ListN.{length, get_or, take, length-drop, get_or-append}
 use Rattle.std.proofs.Math.Seq.{length-take-le, ext_get_or, paste, take-length, take-append_seam}
 use Rattle.std.proofs.lemmas.List.Edits.{length-paste, drop-paste}
-use Rattle.std.proofs.lemmas.List.{get_or-replicate}
 use Rattle.signatures.specs.Laws.Order.{decide, cases}
 use Rattle.signatures.specs.Book.{At, Grows}
 use Rattle.signatures.specs.Memo.{cells, memo_size, max_raw, raw_of, id_of, Noted, Holds, written}
@@ -16,21 +15,6 @@ use Rattle.signatures.specs.Memo.{cells, memo_size, max_raw, raw_of, id_of, Note
 pub noted-grows : (meaning : List ℕ → List ℕ) (held held' : List (List ℕ)) (memo : List ℕ) → Grows held held' → Noted meaning held memo
     → Noted meaning held' memo
 noted-grows meaning held held' memo g n = record { size = n.size; short = n.short; right = λ c h k. g.keeps _ _ (n.right c h k) }
-
--- A hit.
-pub noted-hit : (meaning : List ℕ → List ℕ) (held : List (List ℕ)) (memo : List ℕ) (c : ℕ) (raw : List ℕ) → Noted meaning held memo
-    → c < cells → Holds memo c raw
-    → At held (id_of memo c) (meaning raw)
-noted-hit meaning held memo c raw n h k = subst (λ (r : List ℕ). At held (id_of memo c) (meaning r)) k.is (n.right c h k.some)
-
--- An empty memo is right.
-pub noted-none : (meaning : List ℕ → List ℕ) (held : List (List ℕ)) (memo : List ℕ) → length memo ≡ memo_size
-    → memo ≡ replicate memo_size 0 → Noted meaning held memo
-noted-none meaning held memo size is =
-    record { size = size; short = λ c h. omega (arith, zeros c h); right = λ c h k. absurd (omega (arith, zeros c h)) }
-  where
-    zeros : (c : ℕ) → c < cells → get_or memo (11 * c) 0 ≡ 0
-    zeros c h = ap (λ (l : List ℕ). get_or l (11 * c) 0) is ∙ get_or-replicate memo_size (11 * c) 0 0 (omega arith)
 
 -- What a copy does not reach stays; what it reaches is there.
 module _ (l : List ℕ) (at : ℕ) (raw : List ℕ) (fits : at + length raw ≤ length l) where

@@ -5,7 +5,7 @@ use Rattle.std.proofs.Math.Path.{ap}
 use mathlib.Core.List.{List, [], ◌∷◌, ◌++◌, Memᴰ}
 use Rattle.std.proofs.Math.ListN.{length}
 use Rattle.signatures.specs.declared.dictionary.NoRoom.{NoRoom}
-use Rattle.signatures.specs.Book.{room, At, Different, numbers_in, Told, Shut, Grows}
+use Rattle.signatures.specs.Book.{At, Different, numbers_in, Told, Shut, Grows}
 use Rattle.signatures.specs.Laws.Book.{grows_same, grows_then, told-grows, told-few}
 use Rattle.signatures.specs.Sets.{put_in, set_of, Rising}
 use Rattle.signatures.specs.Laws.Sets.{set_same, same_set, set-rises}

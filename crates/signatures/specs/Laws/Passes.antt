@@ -1,7 +1,7 @@
 -- A pass, item by item: one more has its id, or none.
-use Rattle.std.specs.Prelude.{ℕ, ◌+◌, ◌≤◌, ◌<◌, ◌≡◌, refl, Bool, cond, List, [], ◌⊎◌, length, get_or}
+use Rattle.std.specs.Prelude.{ℕ, ◌+◌, ◌<◌, ◌≡◌, List, [], ◌⊎◌, length, get_or}
 use Rattle.std.specs.Prelude.{set}
-use Rattle.std.proofs.Common.{arith, sym, ◌∙◌, ap, subst, inl, inr, length-set, get_or-set_same, get_or-set_other, lt-ltb}
+use Rattle.std.proofs.Common.{arith, sym, ◌∙◌, ap, subst, inl, inr, length-set, get_or-set_same, get_or-set_other}
 use Rattle.std.specs.Prelude.{Result, Ok, Err}
 use Rattle.std.specs.Result.{result_unwrap_or}
 use Rattle.signatures.specs.declared.dictionary.NoRoom.{NoRoom}
@@ -10,16 +10,6 @@ use Rattle.signatures.specs.Steps.{name_of}
 use Rattle.signatures.specs.Named.{Named, Refused, Signed, reached_from, steps_from, no_id, Passing}
 use Rattle.signatures.specs.Laws.Order.{decide}
 use Rattle.signatures.specs.Laws.Named.{named-grows, refused-grows}
-
-pub passing-none : (graph edges names items : List ℕ) (held : List (List ℕ)) → Passing graph edges names items items held 0
-passing-none graph edges names items held =
-    record {
-      size = refl;
-      id = λ j h. absurd (omega arith);
-      refused = λ j h. absurd (omega arith);
-      rest = λ j h. refl;
-      first = λ h. absurd (omega arith);
-    }
 
 module _ (graph edges names items items' : List ℕ) (held held' : List (List ℕ)) (k : ℕ) (p : Passing graph edges names items items' held k)
     (room : k < length items) (grows : Grows held held') (sound : Sound held') (empty : k ≡ 0 → held ≡ []) where

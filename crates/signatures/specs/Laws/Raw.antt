@@ -1,9 +1,8 @@
 -- Laws of raw forms, and the turns of the loops that make and use them.
-use Rattle.std.specs.Prelude.{ℕ, zero, suc, ◌+◌, ◌-◌, ◌*◌, ◌/◌, ◌%◌, ◌≤◌, ◌<◌, ◌≡◌, refl, Bool, true, false, cond, ◌⊎◌, eqb, get_or}
+use Rattle.std.specs.Prelude.{ℕ, zero, suc, ◌+◌, ◌-◌, ◌*◌, ◌≤◌, ◌<◌, ◌≡◌, refl, Bool, true, false, cond, ◌⊎◌, eqb, get_or}
 use Rattle.std.specs.Prelude.{take}
-use Rattle.std.proofs.Common.{arith, add-one, eq-or-lt_of_le, sym, ◌∙◌, subst, inl, inr, length-append}
+use Rattle.std.proofs.Common.{arith, add-zero, add-one, eq-or-lt_of_le, sym, ◌∙◌, subst, inl, inr, length-append}
 use Rattle.std.proofs.Common.{take-suc, eq-eqb, ne_eqb}
-use Rattle.std.proofs.Math.Nat.{div-zero}
 use Rattle.std.proofs.Math.Path.{ap, ap₂}
 use mathlib.Core.List.{List, [], ◌∷◌, ◌++◌, append_assoc, append-nil}
 use Rattle.std.proofs.Math.ListN.{length, drop, length-drop}
@@ -15,20 +14,9 @@ use Rattle.graph.specs.Readers.{branch_count, branch_slot, landing_of, action_of
 use Rattle.signatures.specs.Sets.{put_in, set_of}
 use Rattle.signatures.specs.Walked.{Walked}
 use Rattle.signatures.specs.Laws.Walked.{walked_start, walked_on, walked_end}
-use Rattle.signatures.specs.Shares.{high_share, low_share}
 use Rattle.signatures.specs.Steps.{name_of, named, target_names, mass_of, entry_of, shares_over, step_list}
 use Rattle.signatures.specs.Structure.{branches_from}
 use Rattle.signatures.specs.Raw.{raw_edge, raw_branches, raw_names, raw_step, Landed}
-
--- ---- Shares over nothing
-
-pub high_zero : (w d : ℕ) → d ≡ 0 → 0 ≡ high_share w d
-unfolding high_share
-high_zero w d e = sym (ap (λ (k : ℕ). w * 1073741824 / k % 4294967296) e ∙ ap (λ (k : ℕ). k % 4294967296) (div-zero (w * 1073741824)))
-
-pub low-zero : (w d : ℕ) → d ≡ 0 → 0 ≡ low_share w d
-unfolding low_share
-low-zero w d e = sym (ap (λ (k : ℕ). w * 1073741824 % k * 1073741824 / k) e ∙ div-zero _)
 
 -- ---- Raw forms
 
@@ -107,7 +95,7 @@ module _ (edges raw : List ℕ) (name count : ℕ) where
 
   module _ (sum i : ℕ) (is : sum + mass_of name (raw_branches edges raw i (count - i)) ≡ mass_of name (raw_branches edges raw 0 count))
     where
-      pub mass-on : (more : ℕ) → i < count → more ≡ cond (eqb (get_or raw (1 + i) 0) name) (low_of edges (raw_edge raw) i) 0
+      mass-on : (more : ℕ) → i < count → more ≡ cond (eqb (get_or raw (1 + i) 0) name) (low_of edges (raw_edge raw) i) 0
           → (sum + more) + mass_of name (raw_branches edges raw (i + 1) (count - (i + 1))) ≡ mass_of name (raw_branches edges raw 0 count)
       mass-on more h e =
           let next : count - i ≡ suc (count - (i + 1)) = omega arith in
@@ -121,6 +109,18 @@ module _ (edges raw : List ℕ) (name count : ℕ) where
               (mass_of name (raw_branches edges raw (suc i) (count - (i + 1))))
           go true = omega arith
           go false = omega arith
+
+      -- The branch lands in the name, or in another.
+      pub mass-here : (more : ℕ) → i < count → more ≡ low_of edges (raw_edge raw) i → get_or raw (1 + i) 0 ≡ name
+          → (sum + more) + mass_of name (raw_branches edges raw (i + 1) (count - (i + 1))) ≡ mass_of name (raw_branches edges raw 0 count)
+      mass-here more h e same =
+          mass-on more h (e ∙ sym (ap (λ (b : Bool). cond b (low_of edges (raw_edge raw) i) 0) (eq-eqb (get_or raw (1 + i) 0) name same)))
+
+      pub mass-past : i < count → (get_or raw (1 + i) 0 ≡ name → ⊥)
+          → sum + mass_of name (raw_branches edges raw (i + 1) (count - (i + 1))) ≡ mass_of name (raw_branches edges raw 0 count)
+      mass-past h other =
+          sym (ap (λ (s : ℕ). s + mass_of name (raw_branches edges raw (i + 1) (count - (i + 1)))) (add-zero sum))
+          ∙ mass-on 0 h (sym (ap (λ (b : Bool). cond b (low_of edges (raw_edge raw) i) 0) (ne_eqb (get_or raw (1 + i) 0) name other)))
 
       pub mass-end : count ≤ i → sum ≡ mass_of name (raw_branches edges raw 0 count)
       mass-end h =
@@ -153,15 +153,7 @@ module _ (raw : List ℕ) (count : ℕ) where
         walked_end (raw_names raw 0 count) set
         (subst (λ (k : ℕ). Walked (raw_names raw 0 count) set (raw_names raw i k)) none w)
 
--- ---- Entries
-
-pub entry-none : (name mass d : ℕ) → mass ≡ 0 → entry_of name mass d ≡ []
-entry-none name mass d e =
-    ap (λ (b : Bool). cond b [] (name ∷ high_share mass d ∷ low_share mass d ∷ [])) (eq-eqb mass 0 e)
-
-pub entry-some : (name mass d : ℕ) → (mass ≡ 0 → ⊥) → entry_of name mass d ≡ name ∷ high_share mass d ∷ low_share mass d ∷ []
-entry-some name mass d e =
-    ap (λ (b : Bool). cond b [] (name ∷ high_share mass d ∷ low_share mass d ∷ [])) (ne_eqb mass 0 e)
+-- ---- Shares
 
 module _ (mass : ℕ → ℕ) (d : ℕ) where
   shares-append : (a b : List ℕ) → shares_over mass d (a ++ b) ≡ shares_over mass d a ++ shares_over mass d b

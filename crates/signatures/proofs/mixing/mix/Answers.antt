@@ -1,5 +1,5 @@
 -- Loop: what is mixed so far, with the rest of the list, is the whole mixed.
-use Rattle.std.proofs.Common.{ℕ, ◌≡◌, ◌+◌, ◌*◌, ◌%◌, ◌<◌, ◌≤◌, ◌∙◌, List, ◌∷◌, map, length, drop, get_or, refl, sym, ap, arith}
+use Rattle.std.proofs.Common.{ℕ, ◌≡◌, ◌+◌, ◌*◌, ◌%◌, ◌<◌, ◌≤◌, ◌∙◌, List, map, length, drop, get_or, sym, ap, arith}
 use Rattle.std.proofs.lemmas.List.{at_drop_more, at_drop_all}
 use Rattle.signatures.specs.Chain.{mixed}
 use Rattle.signatures.proofs.mixing.mix.Goals as goal
@@ -21,15 +21,12 @@ mixed-end : {T : Type 0} (number : T → ℕ) (list : List T) (h i : ℕ) → le
 unfolding mixed
 mixed-end number list h i past = at_drop_all (λ l. mixed h (map number l)) list i past
 
-pub loop-number-init : goal.loop-number-init
-loop-number-init g c = λ number is. refl
-
 pub loop-number-preserved : goal.loop-number-preserved
 loop-number-preserved g c = λ number is.
     let loop = c.loop-number in
     let item = c.number-item in
-    let e = is item.result c.into-number.result c.into-number.ensures in
-    rw (turn loop.sum c.into-number.result, e)
+    let e = is item.result c.into.result c.into.ensures in
+    rw (turn loop.sum c.into.result, e)
     (mixed-on number c.args.list.now loop.sum loop.number-index item.result c.loop-number-test.true item.is ∙ loop.invariant number is)
 
 pub returns : goal.returns

@@ -1,12 +1,9 @@
 -- Loop: the names so far are a set; these and those of the rest are those of the whole.
-use Rattle.std.proofs.Common.{◌≡◌, ◌-◌, ◌<◌, ◌≤◌, ◌∙◌, length, arith}
+use Rattle.std.proofs.Common.{arith}
 use Rattle.signatures.specs.Named.{items_in, jump_of}
 use Rattle.signatures.specs.Laws.Insert.{put-size}
-use Rattle.signatures.specs.Laws.Delays.{delays-start, delays-turn, delays-stop, delays-over}
+use Rattle.signatures.specs.Laws.Delays.{delays-turn, delays-stop, delays-over}
 use Rattle.signatures.proofs.pass.reach.Goals as goal
-
-pub loop-i-init : goal.loop-i-init
-loop-i-init c = rw c.clear.ensures (delays-start c.args.names.now c.args.x, omega arith)
 
 pub returns-then-n-y : goal.returns-then-n-y
 unfolding items_in
@@ -27,7 +24,8 @@ loop-i-preserved c =
     let args = c.args in
     let loop = c.loop-i in
     rw c.insert.ensures (
-      delays-turn args.names.now args.x loop.delays.items loop.y loop._i loop.invariant.0 c.from.result c.from-y.result c.loop-i-test.true (omega arith) c.from.ensures c.from-y.ensures,
+      delays-turn args.names.now args.x loop.delays.items loop.y loop._i loop.invariant.0 c.from.result c.from-y.result
+          c.loop-i-test.true (omega arith) c.from.ensures c.from-y.ensures,
       omega (arith, put-size c.from.result loop.delays.items, loop.invariant.1),
     )
 

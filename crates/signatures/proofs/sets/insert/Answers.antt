@@ -7,9 +7,11 @@ pub returns-in-Err : goal.returns-in-Err
 returns-in-Err g c =
     let args = c.args in
     c.insert.ensures.items
-    ∙ inserted_new args.number args.set.now.items c.requires.rising c.in-Err.place (rw c.as_slice.ensures.value at c.in-Err.ensures.position)
+    ∙ inserted_new args.number args.set.now.items c.requires.rising c.in-Err.place
+    (rw (c.as_slice.ensures.value, c.in-Err.is) at c.binary_search.ensures.position)
 
 pub returns-in_default : goal.returns-in_default
 returns-in_default g c =
     let args = c.args in
-    inserted-there args.number args.set.now.items c.requires.rising c.in_default.field-0 (rw c.as_slice.ensures.value at (rw c.in_default.is at c.binary_search.ensures.position))
+    inserted-there args.number args.set.now.items c.requires.rising c.in_default.field-0
+    (rw (c.as_slice.ensures.value, c.in_default.is) at c.binary_search.ensures.position)

@@ -1,18 +1,8 @@
 -- Loop: the names so far are a set; these and the names that are left are those of all.
-use Rattle.std.proofs.Common.{◌≡◌, ◌-◌, ◌<◌, ◌≤◌, ◌∙◌, ap, length, arith}
+use Rattle.std.proofs.Common.{◌-◌, ◌<◌, ◌∙◌, length, arith}
 use Rattle.signatures.specs.Laws.Insert.{put-size}
-use Rattle.signatures.specs.Laws.Raw.{names-size, names_at, gather-start, gather-on, gather-end}
+use Rattle.signatures.specs.Laws.Raw.{names-size, names_at, gather-on, gather-end}
 use Rattle.signatures.proofs.steps.gather_names.Goals as goal
-
-pub loop-name-init : goal.loop-name-init
-loop-name-init c =
-    let raw = c.args.raw.now in
-    rw c.new-names.ensures (gather-start raw (length raw - 1), omega arith)
-
-pub insert-requires : goal.insert-requires
-insert-requires c =
-    let loop = c.loop-name in
-    (omega arith, (loop.invariant.0.rises, omega (arith, loop.invariant.1, names-size c.args.raw.now)))
 
 pub loop-name-preserved : goal.loop-name-preserved
 loop-name-preserved c =

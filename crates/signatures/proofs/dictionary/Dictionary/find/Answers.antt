@@ -1,8 +1,8 @@
 -- Loop: if the list is held, it stands before this link along its bucket. Measure: the links along a bucket fall.
-use Rattle.std.proofs.Common.{ℕ, ◌≡◌, ◌-◌, ◌<◌, ◌∙◌, ap, sym, subst, List, [], length, get_or, arith}
+use Rattle.std.proofs.Common.{◌≡◌, ◌-◌, ◌<◌, ◌∙◌, ap, sym, [], length, get_or, arith}
 use Rattle.std.proofs.lemmas.Bool.{false≢true}
-use Rattle.signatures.specs.Dictionary.{entry_of, count_of, head_of}
-use Rattle.signatures.specs.Laws.Dictionary.{count-is, held_entry, sound, walk_start, walk-on, walk-falls, walk-found, walk_none}
+use Rattle.signatures.specs.Dictionary.{entry_of}
+use Rattle.signatures.specs.Laws.Dictionary.{count-is, held_entry, sound, walk_start, walk-on, walk-falls, walk_none}
 use Rattle.signatures.proofs.dictionary.Dictionary.find.Goals as goal
 
 pub loop-link-init : goal.loop-link-init
@@ -34,7 +34,7 @@ loop-link-preserved c =
     let j = loop.link - 1 in
     let some : 0 < loop.link = omega arith in
     let is : get_or c.args.self.now j [] ≡ entry_of c.self.inside.index.now c.self.inside.numbers.now j =
-        rw (← c.self.view_is) (held_entry d j (omega (arith, loop.invariant.within))) in
+    rw (← c.self.view_is) (held_entry d j (omega (arith, loop.invariant.within))) in
     rw c.from.ensures
     (walk-on d c.args.list.now loop.link loop.invariant some (λ e. false≢true (sym c.if-is_entry.false ∙ c.is_entry.ensures.1 (is ∙ e))))
 

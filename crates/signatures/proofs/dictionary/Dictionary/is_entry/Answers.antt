@@ -14,20 +14,20 @@ bounds-self-inside-from-2 c =
     let d = c.self.invariant in
     omega (arith, count-is d, ap length c.self.view_is)
 
-pub slice_bounds-eq-count : goal.slice_bounds-eq-count
-slice_bounds-eq-count c =
+pub slice_bounds-entry-count : goal.slice_bounds-entry-count
+slice_bounds-entry-count c =
     let d = c.self.invariant in
     let less : c.args.id < count_of c.self.inside.index.now = omega (arith, count-is d, ap length c.self.view_is) in
     rw (c.from-start.ensures, c.from-end.ensures, c.from.ensures, c.from-2.ensures) (entry-rises d c.args.id less)
 
-pub slice_bounds-eq-start : goal.slice_bounds-eq-start
-slice_bounds-eq-start c =
+pub slice_bounds-entry-start : goal.slice_bounds-entry-start
+slice_bounds-entry-start c =
     let d = c.self.invariant in
     let less : c.args.id < count_of c.self.inside.index.now = omega (arith, count-is d, ap length c.self.view_is) in
     rw (c.from-start.ensures, c.from-end.ensures, c.from.ensures, c.from-2.ensures) (entry-rises d c.args.id less)
 
-pub slice_bounds-eq-end : goal.slice_bounds-eq-end
-slice_bounds-eq-end c =
+pub slice_bounds-entry-end : goal.slice_bounds-entry-end
+slice_bounds-entry-end c =
     let d = c.self.invariant in
     let less : c.args.id < count_of c.self.inside.index.now = omega (arith, count-is d, ap length c.self.view_is) in
     rw (c.from-end.ensures, c.from-2.ensures) (entry-within d c.args.id less)
@@ -38,8 +38,8 @@ returns c =
     let numbers = c.self.inside.numbers.now in
     let less : c.args.id < count_of c.self.inside.index.now = omega (arith, count-is d, ap length c.self.view_is) in
     let is : take (c.from-end.result - c.from-start.result) (drop c.from-start.result numbers) ≡ get_or c.args.self.now c.args.id [] =
-        rw (c.from-start.ensures, c.from-end.ensures, c.from.ensures, c.from-2.ensures)
-        (entry-part d c.args.id less ∙ sym (held_entry d c.args.id less) ∙ ap (λ (l : List _). get_or l c.args.id []) c.self.view_is) in
+    rw (c.from-start.ensures, c.from-end.ensures, c.from.ensures, c.from-2.ensures)
+    (entry-part d c.args.id less ∙ sym (held_entry d c.args.id less) ∙ ap (λ (l : List _). get_or l c.args.id []) c.self.view_is) in
     let same : IsTrue c.eq.result ↔ (take (c.from-end.result - c.from-start.result) (drop c.from-start.result numbers) ≡ c.args.list.now) =
-        search rules in
+    search rules in
     (λ t. sym is ∙ same.0 t, λ h. same.1 (is ∙ h))

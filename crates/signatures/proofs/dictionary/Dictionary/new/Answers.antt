@@ -1,5 +1,5 @@
 -- Where all of the index is 0, nothing is held.
-use Rattle.std.proofs.Common.{ℕ, ◌≡◌, ◌∙◌, ap, sym, length, replicate}
+use Rattle.std.proofs.Common.{ℕ, ◌∙◌, ap, sym, replicate}
 use Rattle.signatures.specs.Laws.Dictionary.{cleared, cleared-none}
 use Rattle.signatures.proofs.dictionary.Dictionary.new.Goals as goal
 
