@@ -1,7 +1,6 @@
 -- What a dictionary holds, seen from outside: a list of different lists, and how it grows.
-use Rattle.std.specs.Prelude.{ℕ, ◌+◌, ◌≤◌, ◌<◌, ◌≡◌, List, [], ◌∷◌, ◌++◌, ◌⊎◌, length, get_or}
-use Rattle.signatures.specs.declared.dictionary.Interned.{Interned}
-use Rattle.signatures.specs.declared.dictionary.Interned.TheVariants.{Id, Full}
+use Rattle.std.specs.Prelude.{ℕ, ◌+◌, ◌≤◌, ◌<◌, ◌≡◌, List, [], ◌∷◌, ◌++◌, ◌⊎◌, length, get_or, Result, Ok, Err}
+use Rattle.signatures.specs.declared.dictionary.NoRoom.{NoRoom}
 
 -- How many lists and how many numbers there is room for.
 abbrev pub max_ids : ℕ
@@ -20,6 +19,11 @@ Absent held s = (i : ℕ) → At held i s → ⊥
 abbrev pub Different : List (List ℕ) → Type 0
 Different held = (i j : ℕ) (s : List ℕ) → At held i s → At held j s → i ≡ j
 
+-- The lists are different, and no more than there are ids.
+pub record Sound (held : List (List ℕ)) : Type 0 where
+  pub different : Different held
+  pub few : length held ≤ max_ids
+
 -- The numbers of all lists.
 unfoldable pub numbers_in : List (List ℕ) → ℕ
 numbers_in [] = 0
@@ -29,9 +33,9 @@ abbrev pub Fits : List (List ℕ) → List ℕ → Type 0
 Fits held s = (length held < max_ids) × (numbers_in held + length s ≤ room)
 
 -- What `intern` answers for a list: its id, where it was there or is added at the end; or that there is no room for it.
-abbrev pub Told : List ℕ → List (List ℕ) → List (List ℕ) → Interned → Type 0
-Told s held held' (Id i) = At held' i s × ((held' ≡ held) ⊎ ((held' ≡ held ++ (s ∷ [])) × Absent held s × Fits held s))
-Told s held held' Full = (held' ≡ held) × Absent held s × (Fits held s → ⊥)
+abbrev pub Told : List ℕ → List (List ℕ) → List (List ℕ) → Result ℕ NoRoom → Type 0
+Told s held held' (Ok i) = At held' i s × ((held' ≡ held) ⊎ ((held' ≡ held ++ (s ∷ [])) × Absent held s × Fits held s))
+Told s held held' (Err _) = (held' ≡ held) × Absent held s × (Fits held s → ⊥)
 
 -- A list is shut out: it is not held, and never will be.
 pub record Shut (held : List (List ℕ)) (s : List ℕ) : Type 0 where

@@ -6,13 +6,14 @@ use Rattle.std.specs.Prelude.{ℕ, zero, suc, ◌+◌, ◌*◌, ◌/◌, ◌%◌
 abbrev pub buckets : ℕ
 buckets = 8192
 
--- Numbers mixed into a number below 2 to the 32nd; its highest bits name the bucket.
+-- Numbers mixed into one below 2 to the 32nd.
 unfoldable pub mixed : ℕ → List ℕ → ℕ
-mixed h [] = h / 524288 % 8192
+mixed h [] = h
 mixed h (x ∷ l) = mixed ((h + x) * 1540483477 % 4294967296) l
 
+-- Its highest bits name the bucket.
 unfoldable pub hash_of : List ℕ → ℕ
-hash_of l = mixed 0 l
+hash_of l = mixed 0 l / 524288 % 8192
 
 -- The link to the last number below n that passes a test.
 unfoldable pub last : (ℕ → Bool) → ℕ → ℕ

@@ -3,6 +3,8 @@
 
 mod dictionary;
 mod memo;
+mod mixing;
+mod pass;
 mod sets;
 mod shares;
 mod signature;

@@ -1,10 +1,9 @@
 -- How what a dictionary holds grows.
-use Rattle.std.specs.Prelude.{ℕ, suc, ◌+◌, ◌≤◌, ◌<◌, ◌≡◌, List, [], ◌∷◌, ◌++◌, ◌⊎◌, length, get_or}
+use Rattle.std.specs.Prelude.{ℕ, suc, ◌+◌, ◌≤◌, ◌<◌, ◌≡◌, List, [], ◌∷◌, ◌++◌, ◌⊎◌, length, get_or, Result, Ok, Err}
 use Rattle.std.proofs.Common.{arith, eq-or-lt_of_le, sym, ◌∙◌, ap, subst, inl, inr, ⊎_elim, length-append}
 use Rattle.std.proofs.Math.ListN.{get_or-append}
 use Rattle.std.proofs.Math.Seq.{get_or-append_seam}
-use Rattle.signatures.specs.declared.dictionary.Interned.{Interned}
-use Rattle.signatures.specs.declared.dictionary.Interned.TheVariants.{Id, Full}
+use Rattle.signatures.specs.declared.dictionary.NoRoom.{NoRoom}
 use Rattle.signatures.specs.Book.{room, At, Absent, Different, numbers_in, Fits, Told, Shut, Grows}
 
 pub grows_same : (held : List (List ℕ)) → Grows held held
@@ -62,14 +61,14 @@ module _ (held : List (List ℕ)) (s : List ℕ) where
       go t h (inl k) = h.absent _ k
       go t h (inr k) = h.large (f.0, subst (λ (u : List ℕ). numbers_in held + length u ≤ room) (sym k.1) f.1)
 
-pub told-grows : (s : List ℕ) (held held' : List (List ℕ)) (a : Interned) → Told s held held' a → Grows held held'
-told-grows s held held' (Id i) h =
+pub told-grows : (s : List ℕ) (held held' : List (List ℕ)) (a : Result ℕ NoRoom) → Told s held held' a → Grows held held'
+told-grows s held held' (Ok i) h =
     ⊎_elim (λ e. subst (λ (k : List (List ℕ)). Grows held k) (sym e) (grows_same held))
     (λ t. subst (λ (k : List (List ℕ)). Grows held k) (sym t.0) (grows-more held s t.2)) h.1
-told-grows s held held' Full h = subst (λ (k : List (List ℕ)). Grows held k) (sym h.0) (grows_same held)
+told-grows s held held' (Err _) h = subst (λ (k : List (List ℕ)). Grows held k) (sym h.0) (grows_same held)
 
 -- Of a list that is not too long, and its id: how much more is held.
-pub told-few : (s : List ℕ) (held held' : List (List ℕ)) (i : ℕ) → Told s held held' (Id i)
+pub told-few : (s : List ℕ) (held held' : List (List ℕ)) (i : ℕ) → Told s held held' (Ok i)
     → (length held' ≤ length held + 1) × (numbers_in held' ≤ numbers_in held + length s)
 told-few s held held' i h = ⊎_elim old new h.1
   where

@@ -1,6 +1,6 @@
 -- Names gathered along the delays of an item.
-use Rattle.std.specs.Prelude.{ℕ, suc, ◌+◌, ◌-◌, ◌≤◌, ◌<◌, ◌≡◌, Bool, cond, take}
-use Rattle.std.proofs.Common.{arith, sym, ◌∙◌, ap, subst, lt-ltb, le-ltb}
+use Rattle.std.specs.Prelude.{ℕ, suc, ◌+◌, ◌-◌, ◌≤◌, ◌<◌, ◌≡◌, Bool, cond}
+use Rattle.std.proofs.Common.{arith, ◌∙◌, ap, subst, lt-ltb, le-ltb}
 use mathlib.Core.List.{List, [], ◌∷◌}
 use Rattle.signatures.specs.Sets.{put_in}
 use Rattle.signatures.specs.Walked.{Walked}
@@ -29,41 +29,36 @@ module _ (next : ℕ → ℕ) (n i y : ℕ) where
 
 -- ---- A turn of the loop, and its ends
 
-module _ (names : List ℕ) (x : ℕ) (list : List ℕ) (y i len : ℕ)
-    (w : Walked (names_of names (chain_from (jump_of names) (items_in names) (items_in names) x)) (take len list)
+module _ (names : List ℕ) (x : ℕ) (set : List ℕ) (y i : ℕ)
+    (w : Walked (names_of names (chain_from (jump_of names) (items_in names) (items_in names) x)) set
     (names_of names (chain_from (jump_of names) (items_in names) (items_in names - i) y))) where
-  pub delays-turn : (list' : List ℕ) (len' v y' : ℕ) → i < items_in names → y < items_in names → v ≡ name_of names y → y' ≡ jump_of names y
-      → take len' list' ≡ put_in v (take len list)
-      → Walked (names_of names (chain_from (jump_of names) (items_in names) (items_in names) x)) (take len' list')
+  pub delays-turn : (v y' : ℕ) → i < items_in names → y < items_in names → v ≡ name_of names y → y' ≡ jump_of names y
+      → Walked (names_of names (chain_from (jump_of names) (items_in names) (items_in names) x)) (put_in v set)
       (names_of names (chain_from (jump_of names) (items_in names) (items_in names - (i + 1)) y'))
-  delays-turn list' len' v y' h less is goes put =
+  delays-turn v y' h less is goes =
       let whole : List ℕ = names_of names (chain_from (jump_of names) (items_in names) (items_in names) x) in
-      subst (λ (l : List ℕ). Walked whole l (names_of names (chain_from (jump_of names) (items_in names) (items_in names - (i + 1)) y')))
-      (sym (put ∙ ap (λ (k : ℕ). put_in k (take len list)) is))
-      (subst (λ (k : ℕ). Walked whole (put_in (name_of names y) (take len list))
-      (names_of names (chain_from (jump_of names) (items_in names) (items_in names - (i + 1)) k))) (sym goes)
-      (walked_on whole (take len list)
-      (names_of names (chain_from (jump_of names) (items_in names) (items_in names - (i + 1)) (jump_of names y)))
-      (name_of names y) (subst (λ (l : List ℕ). Walked whole (take len list) (names_of names l))
-      (chain-on (jump_of names) (items_in names) i y h less) w)))
+      rw (is, goes)
+      (walked_on whole set (names_of names (chain_from (jump_of names) (items_in names) (items_in names - (i + 1)) (jump_of names y)))
+      (name_of names y) (subst (λ (l : List ℕ). Walked whole set (names_of names l))
+      (chain-on (jump_of names) (items_in names) i y h less) w))
 
-  done : chain_from (jump_of names) (items_in names) (items_in names - i) y ≡ [] → take len list ≡ reached_from names x
+  done : chain_from (jump_of names) (items_in names) (items_in names - i) y ≡ [] → set ≡ reached_from names x
   unfolding reached_from
   done e =
-      walked_end (names_of names (chain_from (jump_of names) (items_in names) (items_in names) x)) (take len list)
-      (subst (λ (l : List ℕ). Walked (names_of names (chain_from (jump_of names) (items_in names) (items_in names) x)) (take len list)
+      walked_end (names_of names (chain_from (jump_of names) (items_in names) (items_in names) x)) set
+      (subst (λ (l : List ℕ). Walked (names_of names (chain_from (jump_of names) (items_in names) (items_in names) x)) set
       (names_of names l)) e w)
 
-  pub delays-stop : i < items_in names → items_in names ≤ y → take len list ≡ reached_from names x
+  pub delays-stop : i < items_in names → items_in names ≤ y → set ≡ reached_from names x
   delays-stop h past = done (chain-ends (jump_of names) (items_in names) i y h past)
 
-  pub delays-over : items_in names ≤ i → take len list ≡ reached_from names x
+  pub delays-over : items_in names ≤ i → set ≡ reached_from names x
   delays-over h = done (chain-over (jump_of names) (items_in names) i y h)
 
-pub delays-start : (names list : List ℕ) (x : ℕ)
-    → Walked (names_of names (chain_from (jump_of names) (items_in names) (items_in names) x)) (take 0 list)
+pub delays-start : (names : List ℕ) (x : ℕ)
+    → Walked (names_of names (chain_from (jump_of names) (items_in names) (items_in names) x)) []
     (names_of names (chain_from (jump_of names) (items_in names) (items_in names - 0) x))
-delays-start names list x =
+delays-start names x =
     let e : items_in names ≡ items_in names - 0 = omega arith in
     subst (λ (k : ℕ). Walked (names_of names (chain_from (jump_of names) (items_in names) (items_in names) x)) []
     (names_of names (chain_from (jump_of names) (items_in names) k x))) e

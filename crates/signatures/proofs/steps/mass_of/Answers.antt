@@ -1,40 +1,27 @@
--- Loop: the sum and the mass of the branches that are left are the mass of all. Measure: the branches that are left.
-use Prim.Native.Nat.{◌-◌}
-use native.Mathlib.Omega.{arith}
-use lib.ListN.{length}
-use Rattle.signatures.specs.Laws.Raw.{mass-start, mass-on, mass-end}
+-- Loop: the sum and the mass of the branches that are left are the mass of all.
+use Rattle.std.proofs.Common.{◌≡◌, ◌+◌, ◌-◌, ◌<◌, ◌∙◌, ap, sym, get_or, length, arith}
+use Rattle.graph.specs.Readers.{low_of}
+use Rattle.signatures.specs.Laws.Raw.{names-size, names_at, mass-here, mass-past}
 use Rattle.signatures.proofs.steps.mass_of.Goals as goal
+use Rattle.signatures.proofs.steps.mass_of.Goals.{then-from-name, else-from-name}
 
-pub loop-i-init : goal.loop-i-init
-loop-i-init c =
-    let args = c.args in
-    (mass-start args.edges.now args.raw.now args.name (length args.raw.now - 1), omega arith, omega arith)
-
-pub mass_at-sum-requires : goal.mass_at-sum-requires
-mass_at-sum-requires c = omega (arith, c.loop-i-test.true, c.requires.1)
-
-pub overflow_add-sum : goal.overflow_add-sum
-overflow_add-sum c =
-    let loop = c.loop-i in
-    let pre = c.requires in
-    omega (arith, c.mass_at-sum.ensures.1, loop.invariant.1, c.loop-i-test.true, pre.1)
-
-pub loop-i-preserved : goal.loop-i-preserved
-loop-i-preserved c =
-    let args = c.args in
-    let loop = c.loop-i in
-    let loop-test = c.loop-i-test in (
-      mass-on args.edges.now args.raw.now args.name (length args.raw.now - 1) loop.sum loop.i loop.invariant.0 c.mass_at-sum.result
-          loop-test.true c.mass_at-sum.ensures.0,
-      omega (arith, c.mass_at-sum.ensures.1, loop.invariant.1),
-      omega (arith, loop-test.true),
-    )
-
-pub returns : goal.returns
-returns c =
-    let args = c.args in
-    let loop = c.loop-i in
-    let pre = c.requires in (
-      mass-end args.edges.now args.raw.now args.name (length args.raw.now - 1) loop.sum loop.i loop.invariant.0 c.loop-i-test.false,
-      omega (arith, loop.invariant.1, loop.invariant.2, pre.1, pre.0),
-    )
+pub loop-branch-preserved : goal.loop-branch-preserved
+loop-branch-preserved c =
+    let name = c.args.name in
+    let raw = c.args.raw.now in
+    let edges = c.args.edges.now in
+    let loop = c.loop-branch in
+    let i = loop.branch in
+    let less : i < length raw - 1 = omega (arith, names-size raw) in
+    let target : c.from.result ≡ get_or raw (1 + i) 0 = c.from.ensures ∙ names_at raw i less in
+    elim c.if-from-name.branch [
+      | then-from-name w ↦ rw w.mass-is (
+        mass-here edges raw name (length raw - 1) loop.mass i loop.invariant.0 w.low_of-mass.result less
+            (w.low_of-mass.ensures.0 ∙ ap (λ e. low_of edges e i) c.from-edge.ensures) (sym target ∙ w.if-from-name.true),
+        omega (arith, w.low_of-mass.ensures.1, loop.invariant.1),
+      )
+      | else-from-name w ↦ rw w.mass-is (
+        mass-past edges raw name (length raw - 1) loop.mass i loop.invariant.0 less (λ e. w.if-from-name.false (target ∙ e)),
+        omega (arith, loop.invariant.1),
+      )
+    ]

@@ -1,0 +1,15 @@
+-- Where all of the index is 0, nothing is held.
+use Rattle.std.proofs.Common.{ℕ, ◌∙◌, ap, sym, replicate}
+use Rattle.signatures.specs.Laws.Dictionary.{cleared, cleared-none}
+use Rattle.signatures.proofs.dictionary.Dictionary.new.Goals as goal
+
+pub invariant_of-result : goal.invariant_of-result
+invariant_of-result c =
+    let fill = c.fill.ensures in
+    cleared c.fill.new.self c.args.numbers.now (fill.after (λ y e. e) ∙ ap (λ (n : ℕ). replicate n 0) (sym fill.len))
+    (fill.len ∙ c.requires.0) c.requires.1
+
+pub returns : goal.returns
+returns c =
+    let fill = c.fill.ensures in
+    cleared-none c.fill.new.self c.args.numbers.now (fill.after (λ y e. e) ∙ ap (λ (n : ℕ). replicate n 0) (sym fill.len))
