@@ -32,6 +32,10 @@ numbers_in (s ∷ held) = length s + numbers_in held
 abbrev pub Fits : List (List ℕ) → List ℕ → Type 0
 Fits held s = (length held < max_ids) × (numbers_in held + length s ≤ room)
 
+-- There is no room.
+abbrev pub full : Result ℕ NoRoom
+full = Err (record {})
+
 -- What `intern` answers for a list: its id, where it was there or is added at the end; or that there is no room for it.
 abbrev pub Told : List ℕ → List (List ℕ) → List (List ℕ) → Result ℕ NoRoom → Type 0
 Told s held held' (Ok i) = At held' i s × ((held' ≡ held) ⊎ ((held' ≡ held ++ (s ∷ [])) × Absent held s × Fits held s))

@@ -6,14 +6,18 @@ use Rattle.std.specs.Prelude.{ℕ, zero, suc, ◌+◌, ◌*◌, ◌/◌, ◌%◌
 abbrev pub buckets : ℕ
 buckets = 8192
 
--- Numbers mixed into one below 2 to the 32nd.
+-- Numbers mixed into a number below 2 to the 32nd; its highest bits name the bucket.
 unfoldable pub mixed : ℕ → List ℕ → ℕ
-mixed h [] = h
+mixed h [] = h / 524288 % 8192
 mixed h (x ∷ l) = mixed ((h + x) * 1540483477 % 4294967296) l
 
--- Its highest bits name the bucket.
+-- The same as far as the list goes.
+unfoldable pub stirred : ℕ → List ℕ → ℕ
+stirred h [] = h
+stirred h (x ∷ l) = stirred ((h + x) * 1540483477 % 4294967296) l
+
 unfoldable pub hash_of : List ℕ → ℕ
-hash_of l = mixed 0 l / 524288 % 8192
+hash_of l = mixed 0 l
 
 -- The link to the last number below n that passes a test.
 unfoldable pub last : (ℕ → Bool) → ℕ → ℕ

@@ -1,10 +1,12 @@
 -- The dictionary in two slices. The index holds the count, a head for each bucket, the place where each list starts and ends among the
 -- numbers, and a link for each list; the other slice holds the numbers of all lists, one list after the other.
 use Rattle.std.specs.Prelude.{ℕ, zero, suc, ◌+◌, ◌≤◌, ◌<◌, ◌≡◌, List, [], ◌∷◌, ◌++◌, Bool, true, false, length, get_or, set}
-use Rattle.std.specs.Prelude.{Option, Some, None}
 use Rattle.std.proofs.Math.Seq.{slice}
+use Rattle.std.specs.Prelude.{Option, Some, None}
+use Rattle.std.specs.Prelude.{Result}
+use Rattle.signatures.specs.declared.dictionary.NoRoom.{NoRoom}
 use Rattle.signatures.specs.Chain.{Chained}
-use Rattle.signatures.specs.Book.{max_ids, room, Absent}
+use Rattle.signatures.specs.Book.{max_ids, room, Absent, Told}
 use Rattle.signatures.specs.Book as book
 
 abbrev pub index_size : ℕ
@@ -52,6 +54,10 @@ abbrev pub Found : List ℕ → List (List ℕ) → Option ℕ → Type 0
 Found list held (Some i) = book.At held i list
 Found list held None = Absent held list
 
+pub record Interns (list index numbers index' numbers' : List ℕ) (answer : Result ℕ NoRoom) : Type 0 where
+  pub kept : Dictionary index' numbers'
+  pub told : Told list (entries_of index numbers) (entries_of index' numbers') answer
+
 -- An answer tells whether something is so.
 pub record Tells (answer : Bool) (Claim : Type 0) : Type 0 where
   pub holds : answer ≡ true → Claim
@@ -61,3 +67,8 @@ pub record Tells (answer : Bool) (Claim : Type 0) : Type 0 where
 abbrev pub entered : (index : List ℕ) (n end bucket : ℕ) → List ℕ
 entered index n end bucket =
     set (set (set (set index (8194 + n) end) (16386 + n) (head_of index bucket)) (1 + bucket) (n + 1)) 0 (n + 1)
+
+-- Where the count, the heads and the first start are 0, nothing is held.
+pub record Empty (index numbers : List ℕ) : Type 0 where
+  pub kept : Dictionary index numbers
+  pub none : entries_of index numbers ≡ []

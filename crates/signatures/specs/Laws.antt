@@ -1,7 +1,7 @@
 -- Laws on the definitions of signatures:
 --   Order       numbers are equal or not, below or not
 --   Sets        equal lists exactly for equal sets
---   Insert      a number put into a set
+--   Insert      a number put into a set in a slice
 --   Walked      gathering numbers into a set
 --   Chain       searching along a bucket
 --   Book        how a dictionary grows

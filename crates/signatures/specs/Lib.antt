@@ -10,6 +10,7 @@
 --   Structure   the slices of a graph as a finite structure
 --   Raw         the raw form of a step
 --   Memo        ids of steps by their raw forms
+--   Available   the next available edge
 --   Named       signatures over a dictionary
 --   Pass        what a pass works over
 -- Laws on these stand in Laws.
@@ -24,6 +25,7 @@ pub mod Signatures
 pub mod Structure
 pub mod Raw
 pub mod Memo
+pub mod Available
 pub mod Named
 pub mod Pass
 pub mod Laws

@@ -2,7 +2,10 @@
 -- the cell is empty), the id, and the raw form.
 use Rattle.std.specs.Prelude.{ℕ, ◌+◌, ◌-◌, ◌*◌, ◌≤◌, ◌<◌, ◌≡◌, List, length, get_or, set, take, drop}
 use Rattle.std.proofs.Math.Seq.{paste}
+use Rattle.std.specs.Prelude.{Result}
+use Rattle.signatures.specs.declared.dictionary.NoRoom.{NoRoom}
 use Rattle.signatures.specs.Book.{At}
+use Rattle.signatures.specs.Dictionary.{Interns, entries_of}
 
 abbrev pub cells : ℕ
 cells = 4096
@@ -35,3 +38,8 @@ pub record Holds (memo : List ℕ) (c : ℕ) (raw : List ℕ) : Type 0 where
 -- The memo with a cell written: what the code stores.
 abbrev pub written : List ℕ → ℕ → List ℕ → ℕ → List ℕ
 written memo c raw id = paste (set (set memo (11 * c) (length raw + 1)) (11 * c + 1) id) (11 * c + 2) raw (length raw)
+
+-- What the code answers: the step has an id, or is refused, and the memo stays right.
+pub record Notes (meaning : List ℕ → List ℕ) (raw index numbers index' numbers' memo' : List ℕ) (answer : Result ℕ NoRoom) : Type 0 where
+  pub interns : Interns (meaning raw) index numbers index' numbers' answer
+  pub noted : Noted meaning (entries_of index' numbers') memo'

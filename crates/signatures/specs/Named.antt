@@ -1,18 +1,19 @@
 -- Signatures over a dictionary. Each step of an item is a list with an id, and so is the set of names that the item reaches by delay. The
 -- signature is a list with an id too: the set of the steps' ids, then the item's name and the id of the names reached by delay.
-use Rattle.std.specs.Prelude.{ℕ, ◌+◌, ◌*◌, ◌/◌, ◌≤◌, ◌<◌, ◌≡◌, length, get_or}
+use Rattle.std.specs.Prelude.{ℕ, ◌+◌, ◌*◌, ◌/◌, ◌≤◌, ◌<◌, ◌≡◌, length, get_or, take, true, cond, ltb}
 use mathlib.Core.List.{List, [], ◌∷◌, ◌++◌, Memᴰ}
 use Rattle.std.specs.Prelude.{Result, Ok, Err}
 use Rattle.arrayvec.specs.ArrayVec.{ArrayVec}
 use Rattle.signatures.specs.declared.dictionary.NoRoom.{NoRoom}
-use Rattle.graph.specs.Readers.{delay_of}
+use Rattle.graph.specs.Readers.{delay_of, is_available}
 use Rattle.signatures.specs.Sets.{set_of}
-use Rattle.signatures.specs.Dictionary.{index_size}
-use Rattle.signatures.specs.Memo.{memo_size}
-use Rattle.signatures.specs.Book.{max_ids, room, At, Different, numbers_in, Shut, Grows}
+use Rattle.signatures.specs.Dictionary.{index_size, Dictionary, Interns, entries_of}
+use Rattle.signatures.specs.Raw.{raw_step}
+use Rattle.signatures.specs.Memo.{memo_size, Noted}
+use Rattle.signatures.specs.Book.{full, max_ids, room, At, Different, numbers_in, Shut, Grows}
 use Rattle.signatures.specs.Steps.{name_of}
-use Rattle.signatures.specs.Signatures.{names_of, steps_of}
-use Rattle.signatures.specs.Structure.{chain_from, structure_of}
+use Rattle.signatures.specs.Signatures.{names_of, steps_below, steps_of}
+use Rattle.signatures.specs.Structure.{chain_from, structure_of, step_at}
 
 -- Ids of some lists, in the same order.
 pub data AllIds (held : List (List ℕ)) : List (List ℕ) → List ℕ → Type 0 where
@@ -45,17 +46,17 @@ pub record Alike (name : ℕ) (delays : List ℕ) (steps : List (List ℕ)) (nam
   pub to : (s : List ℕ) → Memᴰ s steps → Memᴰ s steps'
   pub fro : (s : List ℕ) → Memᴰ s steps' → Memᴰ s steps
 
--- Some steps are held, and a set is that of their ids; k counts the steps.
-pub record Partial (held₀ held : List (List ℕ)) (steps : List (List ℕ)) (k : ℕ) (set : List ℕ) : Type 0 where
+-- Some steps are held, and their ids are a set in the first len numbers of a list; k counts the steps.
+pub record Partial (held₀ held : List (List ℕ)) (steps : List (List ℕ)) (k : ℕ) (list : List ℕ) (len : ℕ) : Type 0 where
   pub ids : List ℕ
   pub each : AllIds held steps ids
-  pub put : set ≡ set_of ids
-  pub short : length set ≤ k
+  pub put : take len list ≡ set_of ids
+  pub short : len ≤ k
   pub grows : Grows held₀ held
   pub few : length held ≤ length held₀ + k
   pub small : numbers_in held ≤ numbers_in held₀ + 25 * k
 
--- What the function of a signature answers. From an empty dictionary it always finds room.
+-- What the function of a signature answers. From an empty dictionary it is never full.
 abbrev pub Signed : (held held' : List (List ℕ)) → (name : ℕ) (delays : List ℕ) (steps : List (List ℕ)) → Result ℕ NoRoom → Type 0
 Signed held held' name delays steps (Ok id) = Named held' name delays steps id
 Signed held held' name delays steps (Err _) = Refused held' name delays steps × (held ≡ [] → ⊥)
@@ -89,17 +90,75 @@ reached_from names x = set_of (names_of names (chain_from (jump_of names) (items
 unfoldable pub steps_from : (graph edges names : List ℕ) → ℕ → List (List ℕ)
 steps_from graph edges names x = steps_of (structure_of (items_in names) graph edges) names x
 
--- The steps of an item: the set of their ids, or one of them is refused.
-abbrev pub Answered : (graph edges names : List ℕ) → ℕ → (held held' : List (List ℕ)) → Result (ArrayVec ℕ) NoRoom → Type 0
-Answered graph edges names x held held' (Ok set) = Partial held held' (steps_from graph edges names x) 128 set.items
-Answered graph edges names x held held' (Err e) =
+-- ---- What the functions leave
+
+-- The step of an edge has an id, or is refused, and the memo stays right.
+pub record Stepped (graph edges names : List ℕ) (class edge : ℕ) (index numbers index' numbers' memo' : List ℕ)
+    (answer : Result ℕ NoRoom) : Type 0 where
+  pub interns : Interns (step_at graph edges names class edge) index numbers index' numbers' answer
+  pub noted : Noted (raw_step edges) (entries_of index' numbers') memo'
+
+-- The steps of an item: their ids are a set in the first numbers of a list, or one of them is refused.
+abbrev pub Answered : (graph edges names : List ℕ) → ℕ → (held held' : List (List ℕ)) → List ℕ → Result ℕ NoRoom → Type 0
+Answered graph edges names x held held' list' (Ok len) = Partial held held' (steps_from graph edges names x) 128 list' len
+Answered graph edges names x held held' list' (Err _) =
+    Grows held held' × ((name : ℕ) (delays : List ℕ) → Signed held held' name delays (steps_from graph edges names x) full)
+
+-- The same for a list that is that set.
+abbrev pub Listed : (graph edges names : List ℕ) → ℕ → (held held' : List (List ℕ)) → Result (ArrayVec ℕ) NoRoom → Type 0
+Listed graph edges names x held held' (Ok set) =
+    Partial held held' (steps_from graph edges names x) 128 set.items (length set.items)
+Listed graph edges names x held held' (Err e) =
     (name : ℕ) (delays : List ℕ) → Signed held held' name delays (steps_from graph edges names x) (Err e)
+
+-- The ranks before one were looked at, and their steps are held.
+pub record Listing (graph edges names : List ℕ) (x count : ℕ) (index numbers list index' numbers' memo' list' : List ℕ)
+    (len rank : ℕ) : Type 0 where
+  pub kept : Dictionary index' numbers'
+  pub noted : Noted (raw_step edges) (entries_of index' numbers') memo'
+  pub size : length list' ≡ length list
+  pub part : Partial (entries_of index numbers) (entries_of index' numbers')
+      (steps_below (structure_of (items_in names) graph edges) names x rank)
+      rank list' len
+  pub within : rank ≤ count
+  pub here : rank < count → is_available graph x rank ≡ true
+
+pub record Gathering (graph edges names : List ℕ) (x : ℕ) (index numbers list index' numbers' memo' list' : List ℕ)
+    (answer : Result ℕ NoRoom) : Type 0 where
+  pub kept : Dictionary index' numbers'
+  pub noted : Noted (raw_step edges) (entries_of index' numbers') memo'
+  pub size : length list' ≡ length list
+  pub answered : Answered graph edges names x (entries_of index numbers) (entries_of index' numbers') list' answer
+
+-- The delays and the name are put behind the ids of steps, whatever steps these are of.
+pub record Finishes (names : List ℕ) (x len : ℕ) (index numbers list index' numbers' list' : List ℕ) (answer : Result ℕ NoRoom)
+    : Type 0 where
+  pub kept : Dictionary index' numbers'
+  pub size : length list' ≡ length list
+  pub grows : Grows (entries_of index numbers) (entries_of index' numbers')
+  pub signed : (held : List (List ℕ)) (steps : List (List ℕ)) → Partial held (entries_of index numbers) steps 128 list len
+      → Signed held (entries_of index' numbers') (name_of names x) (reached_from names x) steps answer
+
+-- The signature of an item.
+pub record Signs (graph edges names : List ℕ) (x : ℕ) (index numbers list index' numbers' memo' list' : List ℕ)
+    (answer : Result ℕ NoRoom) : Type 0 where
+  pub kept : Dictionary index' numbers'
+  pub noted : Noted (raw_step edges) (entries_of index' numbers') memo'
+  pub size : length list' ≡ length list
+  pub grows : Grows (entries_of index numbers) (entries_of index' numbers')
+  pub signed : Signed (entries_of index numbers) (entries_of index' numbers') (name_of names x) (reached_from names x)
+      (steps_from graph edges names x) answer
 
 -- ---- A pass
 
 -- What stands in the place of an id where an item has none.
 abbrev pub no_id : ℕ
 no_id = 65535
+
+-- An answer as a number.
+abbrev pub number_of : Result ℕ NoRoom → ℕ
+number_of (Ok id) = cond (ltb id no_id) id no_id
+number_of (Err _) = no_id
 
 -- The items before k have their ids, or none; the others stand as they were.
 pub record Passing (graph edges names items items' : List ℕ) (held : List (List ℕ)) (k : ℕ) : Type 0 where
@@ -113,6 +172,15 @@ pub record Passing (graph edges names items items' : List ℕ) (held : List (Lis
       (steps_from graph edges names (get_or items j 0))
   pub rest : (j : ℕ) → k ≤ j → get_or items' j 0 ≡ get_or items j 0
   pub first : 0 < k → get_or items' 0 0 ≡ no_id → ⊥
+
+-- A pass has come to item k.
+pub record Signing (graph edges names items list index numbers memo list' items' : List ℕ) (k : ℕ) : Type 0 where
+  pub kept : Dictionary index numbers
+  pub noted : Noted (raw_step edges) (entries_of index numbers) memo
+  pub size : length list' ≡ length list
+  pub passing : Passing graph edges names items items' (entries_of index numbers) k
+  pub empty : k ≡ 0 → entries_of index numbers ≡ []
+  pub within : k ≤ length items
 
 -- After a pass each item has the id of its signature, or none. Which items have none is unspecified: `held` may be full of lists that no
 -- item asks for. Every choice has in common that the first item has an id (`pass-first`), and, in a closed structure, that an item without

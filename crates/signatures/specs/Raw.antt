@@ -23,10 +23,10 @@ unfoldable pub raw_step : (edges raw : List ℕ) → List ℕ
 raw_step edges raw =
     step_list (action_of edges (raw_edge raw)) (denominator_of edges (raw_edge raw)) (raw_branches edges raw 0 (length raw - 1))
 
--- A list is the raw form of an edge from the regions of a class.
-pub record Landed (graph names : List ℕ) (edge class : ℕ) (raw : List ℕ) : Type 0 where
+-- The first numbers of a slice are the raw form of an edge from the regions of a class.
+pub record Landed (graph names : List ℕ) (edge class : ℕ) (raw : List ℕ) (size : ℕ) : Type 0 where
   pub edge-is : raw_edge raw ≡ edge
-  pub size_is : length raw ≡ branch_count graph edge + 1
-  pub few : length raw ≤ 9
+  pub size_is : size ≡ branch_count graph edge + 1
+  pub few : size ≤ 9
   pub names-are : (i : ℕ) → i < branch_count graph edge
       → get_or raw (1 + i) 0 ≡ name_of names (landing_of graph class (branch_slot graph edge i))

@@ -4,7 +4,7 @@ ghost use Rattle.std.specs.Prelude.{ℕ, ◌≤◌, ◌<◌, ◌≡◌, [], leng
 ghost use Rattle.signatures.specs.Book.{room, Told, Grows};
 ghost use Rattle.signatures.specs.Dictionary.{index_size};
 ghost use Rattle.signatures.specs.Memo.{memo_size};
-ghost use Rattle.signatures.specs.Named.{items_in, reached_from, Answered, Signed, Passed, steps_from};
+ghost use Rattle.signatures.specs.Named.{items_in, reached_from, Listed, Signed, Passed, steps_from};
 ghost use Rattle.signatures.specs.Pass.{State, Ready, Keeps};
 ghost use Rattle.signatures.specs.Raw.{raw_step};
 ghost use Rattle.signatures.specs.Steps.{name_of};
@@ -118,7 +118,7 @@ impl<'a> Pass<'a> {
     fn step_ids(&mut self, x: usize) -> Result<ArrayVec<u32, 130>, NoRoom>
         ensures keeps { Keeps self.old self.new }
         ensures grows { Grows self.old.held self.new.held }
-        ensures answered { Answered self.old.graph self.old.edges self.old.names x self.old.held self.new.held result }
+        ensures listed { Listed self.old.graph self.old.edges self.old.names x self.old.held self.new.held result }
     {
         let graph = self.graph;
         let location = graph::location_of(graph, x);

@@ -12,7 +12,7 @@ use slices::at;
 // Returns the raw form of an edge from the regions of a class.
 pub(crate) fn raw_form(edge: usize, class: usize, graph: &[u16], names: &[u16]) -> ArrayVec<u16, 9>
     requires { edge < 128 }
-    ensures { Landed graph.now names.now edge class result.items }
+    ensures { Landed graph.now names.now edge class result.items (length result.items) }
 {
     let mut raw = ArrayVec::new();
     raw.push(edge as u16);

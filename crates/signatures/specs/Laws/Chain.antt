@@ -1,14 +1,42 @@
 -- Laws of a chained index: searching along a bucket, and one list more.
-use Rattle.std.specs.Prelude.{ℕ, zero, suc, ◌≤◌, ◌<◌, ◌≡◌, Bool, true, false, cond, List, eqb}
-use Rattle.std.proofs.Common.{arith, ◌∙◌, ap}
+use Rattle.std.specs.Prelude.{ℕ, zero, suc, ◌+◌, ◌*◌, ◌/◌, ◌%◌, ◌≤◌, ◌<◌, ◌≡◌, Bool, true, false, cond, List, [], ◌∷◌, eqb, length}
+use Rattle.std.specs.Prelude.{get_or, drop}
+use Rattle.std.proofs.Common.{arith, ◌∙◌, ap, add-one, drop_of_length-le, drop-cons}
 use Rattle.std.proofs.Math.Path.{refl, sym}
 use Rattle.std.proofs.lemmas.Bool.{false≢true}
 use borrow.Author.Tests.{eq-eqb, eqb-true, eqb-false}
-use Rattle.signatures.specs.Chain.{buckets, hash_of, last, in_bucket, Chained}
+use Rattle.signatures.specs.Chain.{buckets, mixed, stirred, hash_of, last, in_bucket, Chained}
+
+mixed-below : (h : ℕ) (l : List ℕ) → mixed h l < buckets
+unfolding mixed
+mixed-below h [] = omega arith
+mixed-below h (x ∷ l) = mixed-below ((h + x) * 1540483477 % 4294967296) l
 
 pub hash-below : (l : List ℕ) → hash_of l < buckets
 unfolding hash_of
-hash-below l = omega arith
+hash-below l = mixed-below 0 l
+
+pub hash-is : (l : List ℕ) → hash_of l ≡ stirred 0 l / 524288 % 8192
+unfolding hash_of mixed stirred
+hash-is l = go 0 l
+  where
+    go : (h : ℕ) (l : List ℕ) → mixed h l ≡ stirred h l / 524288 % 8192
+    go h [] = refl
+    go h (x ∷ l) = go ((h + x) * 1540483477 % 4294967296) l
+
+-- A turn of the loop that mixes, its start and its end.
+pub mixed-on : (l : List ℕ) (h i : ℕ) → i < length l
+    → mixed ((h + get_or l i 0) * 1540483477 % 4294967296) (drop (i + 1) l) ≡ mixed h (drop i l)
+unfolding mixed
+mixed-on l h i less = rw (add-one, drop-cons l i 0 less)
+
+pub mixed-start : (l : List ℕ) → mixed 0 (drop 0 l) ≡ hash_of l
+unfolding hash_of
+mixed-start l = refl
+
+pub mixed-end : (l : List ℕ) (h i : ℕ) → length l ≤ i → mixed h (drop i l) ≡ hash_of l → h / 524288 % 8192 ≡ hash_of l
+unfolding mixed
+mixed-end l h i most e = ap (mixed h) (sym (drop_of_length-le l most)) ∙ e
 
 -- ---- The last number that passes a test: it is below n and passes, and none that passes is after it
 

@@ -2,24 +2,27 @@
 use Prim.Native.Nat.{ℕ, zero, suc, ◌+◌, ◌-◌, ◌≤◌, ◌<◌}
 use native.Mathlib.Omega.{arith}
 use Rattle.std.proofs.Common.{eq-or-lt_of_le, add-zero, add-suc, ◌∙◌, subst, inl, inr, ⊎_elim, length-append, length-set, get_or-set_same}
-use Rattle.std.proofs.Common.{get_or-set_other, length-take-le, take-take, drop_at, take-add}
+use Rattle.std.proofs.Common.{get_or-set_other, length-take-le, take-take, drop_at, take-add, ext_get_or}
 use Rattle.std.proofs.Math.Numerals.{add-one}
-use Rattle.std.specs.Prelude.{◌≡◌, refl, ◌⊎◌, length, get_or, set, take, drop, Some, None, Ok, Err, replicate}
+use Rattle.std.specs.Prelude.{◌≡◌, refl, ◌⊎◌, length, get_or, set, take, drop}
 use Rattle.std.proofs.Math.Path.{sym, ap, ap₂}
 use mathlib.Core.List.{List, [], ◌∷◌, ◌++◌}
 use Rattle.std.proofs.Math.ListN.{get_or-append}
 use Rattle.std.proofs.Math.Seq.{slice, paste, length-slice, take-length}
 use Rattle.std.proofs.lemmas.List.Edits.{length-paste, take-paste}
+use Rattle.std.specs.Prelude.{replicate}
 use Rattle.std.proofs.lemmas.List.{take-append-le, get_or-replicate, get_or_past}
 use Rattle.signatures.specs.Laws.Order.{cases}
+use Rattle.std.specs.Prelude.{Some, None}
+use Rattle.std.specs.Prelude.{Result, Ok, Err}
 use Rattle.signatures.specs.declared.dictionary.NoRoom.{NoRoom}
 use Rattle.signatures.specs.Chain.{buckets, hash_of, Chained}
 use Rattle.signatures.specs.Laws.Chain.{hash-below, chained-none, chained_more, Walking, walking_start, walking_on, next-falls}
-use Rattle.signatures.specs.Book.{max_ids, room, Absent, Different, Sound, numbers_in, Fits, Told}
+use Rattle.signatures.specs.Book.{full, max_ids, room, Absent, Different, Sound, numbers_in, Fits, Told}
 use Rattle.signatures.specs.Laws.Book.{at-end, length_more, numbers_more}
 use Rattle.signatures.specs.Book as book
 use Rattle.signatures.specs.Dictionary.{index_size, count_of, head_of, start_of, end_of, link_of, entry_of, listed, entries_of, Dictionary}
-use Rattle.signatures.specs.Dictionary.{Found, entered}
+use Rattle.signatures.specs.Dictionary.{Found, Interns, entered, Empty}
 
 -- ---- The list of the entries
 
@@ -328,10 +331,13 @@ module _ (index numbers list : List ℕ) (d : Dictionary index numbers) (absent 
       apart i j e (inr a) (inr b) = d.different i j a b (sym (entry' i a) ∙ e ∙ entry' j b)
 
 -- Where the answers come from.
-pub told-full : (list index numbers : List ℕ) (e : NoRoom) → Dictionary index numbers → Absent (entries_of index numbers) list
-    → (max_ids ≤ count_of index) ⊎ (room < start_of index (count_of index) + length list)
-    → Told list (entries_of index numbers) (entries_of index numbers) (Err e)
-told-full list index numbers e d a h = (refl, a, λ f. ⊎_elim (λ k. many f k) (λ k. long f k) h)
+pub interned-old : (list index numbers : List ℕ) (i : ℕ) → Dictionary index numbers → book.At (entries_of index numbers) i list
+    → Interns list index numbers index numbers (Ok i)
+interned-old list index numbers i d h = record { kept = d; told = (h, inl refl) }
+
+pub interned-full : (list index numbers : List ℕ) → Dictionary index numbers → Absent (entries_of index numbers) list
+    → (max_ids ≤ count_of index) ⊎ (room < start_of index (count_of index) + length list) → Interns list index numbers index numbers full
+interned-full list index numbers d a h = record { kept = d; told = (refl, a, λ f. ⊎_elim (λ k. many f k) (λ k. long f k) h) }
   where
     many : Fits (entries_of index numbers) list → max_ids ≤ count_of index → ⊥
     many f k = omega (arith, f.0, count-is d)
@@ -339,17 +345,16 @@ told-full list index numbers e d a h = (refl, a, λ f. ⊎_elim (λ k. many f k)
     long : Fits (entries_of index numbers) list → room < start_of index (count_of index) + length list → ⊥
     long f k = omega (arith, f.1, numbers-is d)
 
--- What is made where there is room, in the names of the code.
-pub record Made (list index numbers index' numbers' : List ℕ) (id : ℕ) : Type 0 where
-  pub kept : Dictionary index' numbers'
-  pub told : Told list (entries_of index numbers) (entries_of index' numbers') (Ok id)
+pub fits-here : (list index numbers : List ℕ) → Dictionary index numbers → count_of index < max_ids
+    → start_of index (count_of index) + length list ≤ room → Fits (entries_of index numbers) list
+fits-here list index numbers d a b = (omega (arith, count-is d), omega (arith, numbers-is d))
 
-made-new : (list index numbers index' numbers' : List ℕ) (i : ℕ) → Dictionary index numbers → Absent (entries_of index numbers) list
+pub interned-new : (list index numbers index' numbers' : List ℕ) (i : ℕ) → Dictionary index numbers → Absent (entries_of index numbers) list
     → Fits (entries_of index numbers) list
     → index' ≡ entered index (count_of index) (start_of index (count_of index) + length list) (hash_of list)
     → numbers' ≡ paste numbers (start_of index (count_of index)) list (length list) → i ≡ count_of index
-    → Made list index numbers index' numbers' i
-made-new list index numbers index' numbers' i d a f ei en e =
+    → Interns list index numbers index' numbers' (Ok i)
+interned-new list index numbers index' numbers' i d a f ei en e =
     rw (ei, en)
     (record {
       kept = added index numbers list d a f;
@@ -361,39 +366,63 @@ made-new list index numbers index' numbers' i d a f ei en e =
           );
     })
 
-pub added-told : (list index numbers index' numbers' : List ℕ) (id start bucket : ℕ) → Dictionary index numbers
+pub interned-made : (list index numbers index' numbers' : List ℕ) (id start bucket : ℕ) → Dictionary index numbers
     → Absent (entries_of index numbers) list → id ≡ count_of index → start ≡ start_of index (count_of index) → bucket ≡ hash_of list
     → id < max_ids → start + length list ≤ room → index' ≡ entered index id (start + length list) bucket
-    → numbers' ≡ paste numbers start list (length list) → Made list index numbers index' numbers' id
-added-told list index numbers index' numbers' id start bucket d a ec es eb few enough ei en =
-    made-new list index numbers index' numbers' id d a
-    (omega (arith, count-is d), omega (arith, numbers-is d))
+    → numbers' ≡ paste numbers start list (length list) → Interns list index numbers index' numbers' (Ok id)
+interned-made list index numbers index' numbers' id start bucket d a ec es eb few enough ei en =
+    interned-new list index numbers index' numbers' id d a
+    (fits-here list index numbers d (omega arith) (omega arith))
     (ei ∙ ap (λ (k : ℕ). entered index k (start + length list) bucket) ec
     ∙ ap₂ (λ (s b : ℕ). entered index (count_of index) (s + length list) b) es eb)
     (en ∙ ap (λ (s : ℕ). paste numbers s list (length list)) es) ec
 
--- Where all of the index is 0, nothing is held.
-module _ (index numbers : List ℕ) (is : index ≡ replicate (length index) 0) where
-  zeros : (k : ℕ) → get_or index k 0 ≡ 0
-  zeros k = elim (cases k (length index)) [
-    | inl h ↦ ap (λ (l : List ℕ). get_or l k 0) is ∙ get_or-replicate (length index) k 0 0 h
-    | inr h ↦ get_or_past index k 0 (elim h [ inl e ↦ omega arith | inr l ↦ omega arith ])
-  ]
-
-  pub cleared : length index ≡ index_size → length numbers ≡ room → Dictionary index numbers
-  cleared size roomy =
-      record {
+pub cleared : (index numbers : List ℕ) → length index ≡ index_size → length numbers ≡ room → ((k : ℕ) → k < 8194 → get_or index k 0 ≡ 0)
+    → Empty index numbers
+unfolding entries_of listed
+cleared index numbers size roomy zeros =
+    record {
+      kept = record {
         indexed = size;
         roomy = roomy;
-        few = omega (arith, zeros 0);
-        first = zeros 8193;
-        rising = λ j h. absurd (omega (arith, zeros 0));
-        within = λ j h. omega (arith, zeros (8193 + j));
-        chained = subst (λ (k : ℕ). Chained (entry_of index numbers) (head_of index) (link_of index) k) (sym (zeros 0))
-            (chained-none (λ b h. zeros (1 + b)));
-        different = λ i j h k e. absurd (omega (arith, zeros 0));
-      }
+        few = omega (arith, none);
+        first = zeros 8193 (omega arith);
+        rising = λ j h. absurd (omega (arith, none));
+        within = λ j h. let e : 8193 + j ≡ 8193 = omega (arith, none) in rw e (omega (arith, zeros 8193 (omega arith)));
+        chained = subst (λ (k : ℕ). Chained (entry_of index numbers) (head_of index) (link_of index) k) (sym none)
+            (chained-none (λ b h. zeros (1 + b) (omega arith)));
+        different = λ i j h k e. absurd (omega (arith, none));
+      };
+      none = ap (listed (entry_of index numbers)) none;
+    }
+  where
+    none : count_of index ≡ 0
+    none = zeros 0 (omega arith)
 
-  pub cleared-none : entries_of index numbers ≡ []
-  unfolding entries_of listed
-  cleared-none = ap (listed (entry_of index numbers)) (zeros 0)
+-- All of the index is 0.
+pub zeros-all : (index : List ℕ) → index ≡ replicate (length index) 0 → (k : ℕ) → get_or index k 0 ≡ 0
+zeros-all index is k = elim (cases k (length index)) [
+  | inl h ↦ ap (λ (l : List ℕ). get_or l k 0) is ∙ get_or-replicate (length index) k 0 0 h
+  | inr h ↦ get_or_past index k 0 (elim h [ inl e ↦ omega arith | inr l ↦ omega arith ])
+]
+
+-- An empty dictionary takes any list that is not longer than its room.
+pub empty-takes : (list index numbers index' numbers' : List ℕ) (answer : Result ℕ NoRoom) → Empty index numbers → length list ≤ room
+    → Interns list index numbers index' numbers' answer → answer ≡ full → ⊥
+unfolding numbers_in
+empty-takes list index numbers index' numbers' (Ok i) e h t is = let z : ◌≡◌ {A = ℕ} 0 1 = cc in omega arith
+empty-takes list index numbers index' numbers' (Err _) e h t is =
+    t.told.2 (rw e.none (omega arith, omega arith))
+
+-- One number more is 0.
+pub zeros-on : (index : List ℕ) (i : ℕ) → i < length index → ((k : ℕ) → k < i → get_or index k 0 ≡ 0)
+    → (k : ℕ) → k < i + 1 → get_or (set index i 0) k 0 ≡ 0
+zeros-on index i less zeros k h = let most : k ≤ i = omega arith in go (eq-or-lt_of_le most)
+  where
+    go : (k ≡ i) ⊎ (k < i) → get_or (set index i 0) k 0 ≡ 0
+    go (inl e) = rw e (get_or-set_same index i 0 0 less)
+    go (inr l) = get_or-set_other index i k 0 0 (omega arith) ∙ zeros k l
+
+-- Lists of equal length that agree at every place are equal.
+pub lists_agree : (a b : List ℕ) (i : ℕ) → length a ≡ length b → length a ≤ i → ((k : ℕ) → k < i → get_or a k 0 ≡ get_or b k 0) → a ≡ b
+lists_agree a b i e most same = ext_get_or 0 a b e (λ k h. same k (omega arith))

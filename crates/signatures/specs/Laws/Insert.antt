@@ -1,18 +1,22 @@
--- A number put into a rising list: at its place, or nowhere where it is there already.
-use Prim.Native.Nat.{ℕ, zero, suc, ◌+◌, ◌≤◌, ◌<◌}
+-- A number put into a rising list that stands in the first numbers of a slice.
+use Prim.Native.Nat.{ℕ, zero, suc, ◌+◌, ◌-◌, ◌≤◌, ◌<◌}
 use native.Mathlib.Omega.{arith}
-use Rattle.std.proofs.Common.{◌∙◌, ap, subst, sym, ◌⊎◌, inl, inr, ltb, eqb, take-append-drop, eq-or-lt_of_le}
+use Rattle.std.proofs.Common.{eq-or-lt_of_le, ◌∙◌, subst, inl, inr, ⊎_elim, length-append, take-append-drop, take-take}
 use Rattle.std.proofs.Common.{lt-ltb, le-ltb, eq-eqb, ne_eqb}
-use Rattle.std.specs.Prelude.{◌≡◌, refl, take, Ok, Err}
+use Rattle.std.specs.Prelude.{◌≡◌, refl, ◌⊎◌, take, set}
+use Rattle.std.proofs.Math.Path.{sym, ap}
 use mathlib.Core.List.{List, [], ◌∷◌, ◌++◌, Memᴰ}
-use Rattle.std.proofs.Math.ListN.{length, get_or, drop, length-drop}
-use Rattle.std.proofs.Math.Seq.{get_or-take, get_or-drop, length-take-le}
+use Rattle.std.proofs.Math.ListN.{length, get_or, drop, length-set, length-drop, get_or-append}
+use Rattle.std.proofs.Math.Seq.{get_or-set_same, get_or-set_other, get_or-take, get_or-drop, length-take-le, ext_get_or, get_or-append-add}
+use Rattle.std.proofs.Math.Seq.{get_or-append_seam}
+use Rattle.std.specs.Prelude.{Ok, Err, ltb, eqb}
 use Rattle.std.specs.Ordering.{nat_cmp}
 use Rattle.std.specs.List.{insert}
 use Rattle.std.specs.List.Sorted.{IsBinarySearchResult}
 use Rattle.std.proofs.lemmas.List.Sorted.{searched}
-use Rattle.signatures.specs.Sets.{put_in, set_of, Rising}
 use Rattle.signatures.specs.Laws.Sets.{both}
+use Rattle.signatures.specs.Laws.Order.{cases}
+use Rattle.signatures.specs.Sets.{put_in, Rising, Place, Shifted, Inserted}
 
 -- ---- Places and members
 
@@ -70,22 +74,18 @@ put-size v (x ∷ l) =
       ])
     ]
 
-pub set-size : (l : List ℕ) → length (set_of l) ≤ length l
-set-size [] = omega arith
-set-size (v ∷ l) = omega (arith, put-size v (set_of l), set-size l)
-
 -- ---- What a search in a rising list says
 
 module _ (v : ℕ) (l : List ℕ) (r : Rising l) (i : ℕ) where
   -- The number is there.
-  pub inserted-there : IsBinarySearchResult (λ y. nat_cmp y v) l (Ok i) → l ≡ put_in v l
-  inserted-there s =
+  pub searched-there : IsBinarySearchResult (λ y. nat_cmp y v) l (Ok i) → l ≡ put_in v l
+  searched-there s =
       let at = searched l v (Ok i) s (rising-upto l r) in
       sym (put-again v l r (subst (λ (u : ℕ). Memᴰ u l) at.1 (at_mem l i at.0)))
 
   -- The number is new.
-  pub inserted_new : IsBinarySearchResult (λ y. nat_cmp y v) l (Err i) → insert l i v ≡ put_in v l
-  inserted_new s =
+  pub searched_new : IsBinarySearchResult (λ y. nat_cmp y v) l (Err i) → insert l i v ≡ put_in v l
+  searched_new s =
       let at = searched l v (Err i) s (rising-upto l r) in
       let size : length (take i l) ≡ i = length-take-le i l at.0 in
       sym (ap (put_in v) (sym (take-append-drop i l)) ∙ put-middle v (take i l) (drop i l)
@@ -99,3 +99,142 @@ module _ (v : ℕ) (l : List ℕ) (r : Rising l) (i : ℕ) where
         get_or-drop i l k.0 0,
         at.2 (i + k.0) (omega arith) (omega (arith, k.1, length-drop i l)),
       )))
+
+-- ---- A set in the first numbers of a slice
+
+module _ (v len : ℕ) (list : List ℕ) (room : len < length list) (r : Rising (take len list)) (i : ℕ) (p : Place v len list i) where
+  size_is : length (take len list) ≡ len
+  size_is = length-take-le len list (omega arith)
+
+  -- The number is there.
+  pub inserted-there : 0 < i → get_or list (i - 1) 0 ≡ v → Inserted v len list list len
+  inserted-there some e =
+      record {
+        put = sym (put-again v (take len list) r
+            (subst (λ (u : ℕ). Memᴰ u (take len list)) (get_or-take len list (i - 1) 0 (omega (arith, p.within)) ∙ e)
+            (at_mem (take len list) (i - 1) (omega (arith, size_is, p.within)))));
+        short = omega arith;
+        size = refl;
+      }
+
+  a : List ℕ
+  a = take i list
+
+  b : List ℕ
+  b = drop i (take len list)
+
+  split : take len list ≡ a ++ b
+  unfolding a b
+  split = sym (take-append-drop i (take len list)) ∙ ap (λ (l : List ℕ). l ++ drop i (take len list)) (take-take i len list p.within)
+
+  a-size : length a ≡ i
+  unfolding a
+  a-size = length-take-le i list (omega (arith, p.within))
+
+  b-size : length b ≡ len - i
+  unfolding b
+  b-size = omega (arith, length-drop i (take len list), size_is)
+
+  a_at : (k : ℕ) → k < i → get_or a k 0 ≡ get_or list k 0
+  unfolding a
+  a_at k h = get_or-take i list k 0 h
+
+  b_at : (k : ℕ) → i + k < len → get_or b k 0 ≡ get_or list (i + k) 0
+  unfolding b
+  b_at k h = get_or-drop i (take len list) k 0 ∙ get_or-take len list (i + k) 0 h
+
+  -- The number is new: what is from its place on has moved up, and it stands there.
+  module _ (fresh : 0 < i → get_or list (i - 1) 0 ≡ v → ⊥) (list' : List ℕ) (s : Shifted i len list list') where
+    low : (u : ℕ) → Memᴰ u a → u < v
+    low u m =
+        let k = mem-at u a m in
+        let less : k.0 < i = omega (arith, k.1, a-size) in
+        let e : get_or list k.0 0 ≡ u = sym (a_at k.0 less) ∙ k.2 in
+        let last : get_or list (i - 1) 0 < v = omega (arith, p.below (omega arith), fresh (omega arith)) in
+        ⊎_elim (λ (same : k.0 ≡ i - 1). omega (arith, ap (λ (n : ℕ). get_or list n 0) same))
+        (λ (lt : k.0 < i - 1). omega (arith, rises k.0 (i - 1) lt (omega (arith, p.within))))
+        (let most : k.0 ≤ i - 1 = omega arith in eq-or-lt_of_le most)
+      where
+        rises : (x y : ℕ) → x < y → y < len → get_or list x 0 < get_or list y 0
+        rises x y h k =
+            omega (
+              arith,
+              rising-at (take len list) x y r h (omega (arith, size_is)),
+              get_or-take len list x 0
+                  (omega arith),
+              get_or-take len list y 0 k,
+            )
+
+    high : (u : ℕ) → Memᴰ u b → v < u
+    high u m =
+        let k = mem-at u b m in
+        let less : i + k.0 < len = omega (arith, k.1, b-size, p.within) in
+        omega (arith, b_at k.0 less, k.2, p.above (i + k.0) (omega arith) less)
+
+    new : List ℕ
+    new = set list' i v
+
+    new-size : length (take (len + 1) new) ≡ len + 1
+    unfolding new
+    new-size = length-take-le (len + 1) (set list' i v) (omega (arith, length-set list' i v, s.size))
+
+    goal-size : length (a ++ v ∷ b) ≡ len + 1
+    goal-size = omega (arith, length-append a (v ∷ b), a-size, b-size, p.within)
+
+    agree : (k : ℕ) → k < len + 1 → get_or (take (len + 1) new) k 0 ≡ get_or (a ++ v ∷ b) k 0
+    unfolding new
+    agree k h = get_or-take (len + 1) new k 0 h ∙ go (cases k i)
+      where
+        go : (k < i) ⊎ ((k ≡ i) ⊎ (i < k)) → get_or new k 0 ≡ get_or (a ++ v ∷ b) k 0
+        go (inl l) =
+            get_or-set_other list' i k v 0 (omega arith) ∙ s.low k l ∙ sym (a_at k l)
+            ∙ sym (get_or-append a (v ∷ b) 0 k (omega (arith, a-size)))
+        go (inr (inl e)) =
+            ap (λ (n : ℕ). get_or new n 0) e ∙ get_or-set_same list' i v 0 (omega (arith, s.size, p.within))
+            ∙ sym (get_or-append_seam a v b 0) ∙ ap (λ (n : ℕ). get_or (a ++ v ∷ b) n 0) (a-size ∙ sym e)
+        go (inr (inr l)) =
+            let e : k ≡ length a + suc (k - 1 - i) = omega (arith, a-size) in
+            let f : i + (k - 1 - i) ≡ k - 1 = omega arith in
+            get_or-set_other list' i k v 0 (omega arith) ∙ s.high k l (omega arith)
+            ∙ ap (λ (n : ℕ). get_or list n 0) (sym f) ∙ sym (b_at (k - 1 - i) (omega arith))
+            ∙ sym (ap (λ (n : ℕ). get_or (a ++ v ∷ b) n 0) e ∙ get_or-append-add a (v ∷ b) (suc (k - 1 - i)) 0)
+
+    pub inserted_new : Inserted v len list (set list' i v) (len + 1)
+    unfolding new
+    inserted_new =
+        record {
+          put = ext_get_or 0 (take (len + 1) new) (a ++ v ∷ b) (new-size ∙ sym goal-size) (λ k h. agree k (omega (arith, new-size)))
+              ∙ sym (put-middle v a b low high) ∙ ap (put_in v) (sym split);
+          short = omega arith;
+          size = length-set list' i v ∙ s.size;
+        }
+
+-- ---- A turn of the shift
+
+pub shifting-start : (len : ℕ) (list : List ℕ) → Shifted len len list list
+shifting-start len list = record { low = λ k h. refl; high = λ k h l. absurd (omega arith); size = refl }
+
+pub shifting-on : (j len : ℕ) (list list' : List ℕ) → 0 < j → j ≤ len → len < length list → Shifted j len list list'
+    → Shifted (j - 1) len list (set list' j (get_or list' (j - 1) 0))
+shifting-on j len list list' some most room s =
+    record {
+      low = λ k h. get_or-set_other list' j k (get_or list' (j - 1) 0) 0 (omega arith) ∙ s.low k (omega arith);
+      high = λ k h l. go k l (let m : j ≤ k = omega arith in eq-or-lt_of_le m);
+      size = length-set list' j (get_or list' (j - 1) 0) ∙ s.size;
+    }
+  where
+    go : (k : ℕ) → k ≤ len → (j ≡ k) ⊎ (j < k) → get_or (set list' j (get_or list' (j - 1) 0)) k 0 ≡ get_or list (k - 1) 0
+    go k l (inl e) =
+        ap (λ (n : ℕ). get_or (set list' j (get_or list' (j - 1) 0)) n 0) (sym e)
+        ∙ get_or-set_same list' j (get_or list' (j - 1) 0) 0 (omega (arith, s.size)) ∙ s.low (j - 1) (omega arith)
+        ∙ ap (λ (n : ℕ). get_or list (n - 1) 0) e
+    go k l (inr h) = get_or-set_other list' j k (get_or list' (j - 1) 0) 0 (omega arith) ∙ s.high k h l
+
+-- One number more is above.
+pub above_more : (v len : ℕ) (list : List ℕ) (i : ℕ) → 0 < i → ((k : ℕ) → i ≤ k → k < len → v < get_or list k 0) → v < get_or list (i - 1) 0
+    → (k : ℕ) → i - 1 ≤ k → k < len → v < get_or list k 0
+above_more v len list i some above here k h l = go (eq-or-lt_of_le h)
+  where
+    go : (i - 1 ≡ k) ⊎ (i - 1 < k) → v < get_or list k 0
+    go (inl e) = rw (sym e) here
+    go (inr m) = above k (omega arith) l

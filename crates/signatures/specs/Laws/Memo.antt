@@ -1,20 +1,36 @@
 -- Laws of the memo: what it holds stays right while the dictionary grows, and when a cell is written.
-use Rattle.std.specs.Prelude.{ℕ, ◌+◌, ◌-◌, ◌*◌, ◌≤◌, ◌<◌, ◌≡◌, ◌⊎◌, set, drop}
+use Rattle.std.specs.Prelude.{ℕ, ◌+◌, ◌-◌, ◌*◌, ◌≤◌, ◌<◌, ◌≡◌, Bool, ◌⊎◌, set, drop}
 use native.Mathlib.Omega.{arith}
 use Rattle.std.proofs.Math.Path.{sym, ap}
-use Rattle.std.proofs.Common.{◌∙◌, inl, inr, ⊎_elim, length-set, length-append, get_or-set_same, get_or-set_other, get_or-take}
+use Rattle.std.proofs.Common.{◌∙◌, subst, inl, inr, ⊎_elim, length-set, length-append, get_or-set_same, get_or-set_other, get_or-take}
 use Rattle.std.proofs.Common.{get_or-drop, drop_at}
 use mathlib.Core.List.{List, ◌++◌, append_assoc}
 use Rattle.std.proofs.Math.ListN.{length, get_or, take, length-drop, get_or-append}
 use Rattle.std.proofs.Math.Seq.{length-take-le, ext_get_or, paste, take-length, take-append_seam}
 use Rattle.std.proofs.lemmas.List.Edits.{length-paste, drop-paste}
 use Rattle.signatures.specs.Laws.Order.{decide, cases}
-use Rattle.signatures.specs.Book.{At, Grows}
-use Rattle.signatures.specs.Memo.{cells, memo_size, max_raw, raw_of, id_of, Noted, Holds, written}
+use Rattle.std.specs.Prelude.{Ok}
+use Rattle.signatures.specs.Book.{full, At, Grows}
+use Rattle.signatures.specs.Laws.Book.{told-grows}
+use Rattle.signatures.specs.Dictionary.{Dictionary, Interns, Tells, entries_of}
+use Rattle.signatures.specs.Laws.Dictionary.{interned-old, count-is}
+use Rattle.signatures.specs.Memo.{cells, memo_size, max_raw, raw_of, id_of, Noted, Holds, written, Notes}
 
 pub noted-grows : (meaning : List ℕ → List ℕ) (held held' : List (List ℕ)) (memo : List ℕ) → Grows held held' → Noted meaning held memo
     → Noted meaning held' memo
 noted-grows meaning held held' memo g n = record { size = n.size; short = n.short; right = λ c h k. g.keeps _ _ (n.right c h k) }
+
+-- A hit.
+pub noted-hit : (meaning : List ℕ → List ℕ) (held : List (List ℕ)) (memo : List ℕ) (c : ℕ) (raw : List ℕ) → Noted meaning held memo
+    → c < cells → Holds memo c raw
+    → At held (id_of memo c) (meaning raw)
+noted-hit meaning held memo c raw n h k = subst (λ (r : List ℕ). At held (id_of memo c) (meaning r)) k.is (n.right c h k.some)
+
+-- An empty memo is right.
+pub noted-none : (meaning : List ℕ → List ℕ) (held : List (List ℕ)) (memo : List ℕ) → length memo ≡ memo_size →
+    ((c : ℕ) → c < cells → get_or memo (11 * c) 0 ≡ 0) → Noted meaning held memo
+noted-none meaning held memo size zeros =
+    record { size = size; short = λ c h. omega (arith, zeros c h); right = λ c h k. absurd (omega (arith, zeros c h)) }
 
 -- What a copy does not reach stays; what it reaches is there.
 module _ (l : List ℕ) (at : ℕ) (raw : List ℕ) (fits : at + length raw ≤ length l) where
@@ -149,3 +165,50 @@ module _ (memo : List ℕ) (c : ℕ) (h : c < cells) (size : length memo ≡ mem
     part-raw =
         let e : 11 * c + 2 + (n - 1) - (11 * c + 2) ≡ get_or memo (11 * c) 0 - 1 = omega arith in
         ap (λ (k : ℕ). take k (drop (11 * c + 2) memo)) e
+
+    pub holds-told : (raw : List ℕ) (b : Bool) → Tells b (take (11 * c + 2 + (n - 1) - (11 * c + 2)) (drop (11 * c + 2) memo) ≡ raw)
+        → Tells b (Holds memo c raw)
+    holds-told raw b t =
+        record {
+          holds = λ e. record { some = omega (arith, some); is = sym part-raw ∙ t.holds e };
+          fails = λ e k. t.fails e (part-raw ∙ k.is);
+        }
+
+pub notes-hit : (meaning : List ℕ → List ℕ) (raw index numbers memo : List ℕ) (c id : ℕ) → Dictionary index numbers → Noted meaning
+    (entries_of index numbers) memo → c < cells
+    → Holds memo c raw → id ≡ id_of memo c → Notes meaning raw index numbers index numbers memo (Ok id)
+notes-hit meaning raw index numbers memo c id d n h k e =
+    record {
+      interns = interned-old (meaning raw) index numbers id d (rw e (noted-hit meaning (entries_of index numbers) memo c raw n h k));
+      noted = n;
+    }
+
+pub notes-full : (meaning : List ℕ → List ℕ) (raw index numbers index' numbers' memo : List ℕ) → Noted meaning
+    (entries_of index numbers) memo
+    → Interns (meaning raw) index numbers index' numbers' full → Notes meaning raw index numbers index' numbers' memo full
+notes-full meaning raw index numbers index' numbers' memo n i =
+    record { interns = i; noted = noted-grows meaning _ _ memo (told-grows (meaning raw) _ _ full i.told) n }
+
+pub notes-new : (meaning : List ℕ → List ℕ) (raw index numbers index' numbers' memo memo' : List ℕ) (c id : ℕ) → Noted meaning
+    (entries_of index numbers) memo → c < cells
+    → length raw ≤ max_raw → Interns (meaning raw) index numbers index' numbers' (Ok id) → memo' ≡ written memo c raw id
+    → Notes meaning raw index numbers index' numbers' memo' (Ok id)
+notes-new meaning raw index numbers index' numbers' memo memo' c id n h short i e =
+    record {
+      interns = i;
+      noted = subst (λ (m : List ℕ). Noted meaning (entries_of index' numbers') m) (sym e)
+          (noted-note memo c raw id n.size h short meaning (entries_of index' numbers')
+          (noted-grows meaning _ _ memo (told-grows (meaning raw) _ _ (Ok id) i.told) n) i.told.0);
+    }
+
+pub id-small : (raw index numbers index' numbers' : List ℕ) (id : ℕ) → Interns raw index numbers index' numbers' (Ok id) → id < 8192
+id-small raw index numbers index' numbers' id i = omega (arith, i.told.0.0, count-is i.kept, i.kept.few)
+
+-- One cell more is empty.
+pub empty-on : (memo : List ℕ) (cell : ℕ) → 11 * cell < length memo → ((c : ℕ) → c < cell → get_or memo (11 * c) 0 ≡ 0)
+    → (c : ℕ) → c < cell + 1 → get_or (set memo (11 * cell) 0) (11 * c) 0 ≡ 0
+empty-on memo cell room before c h = go (decide c cell)
+  where
+    go : (c ≡ cell) ⊎ (c ≡ cell → ⊥) → get_or (set memo (11 * cell) 0) (11 * c) 0 ≡ 0
+    go (inl e) = rw e (get_or-set_same memo (11 * cell) 0 0 room)
+    go (inr d) = get_or-set_other memo (11 * cell) (11 * c) 0 0 (omega (arith, d)) ∙ before c (omega (arith, h, d))

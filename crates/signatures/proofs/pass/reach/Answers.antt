@@ -2,7 +2,7 @@
 use Rattle.std.proofs.Common.{arith}
 use Rattle.signatures.specs.Named.{items_in, jump_of}
 use Rattle.signatures.specs.Laws.Insert.{put-size}
-use Rattle.signatures.specs.Laws.Delays.{delays-turn, delays-stop, delays-over}
+use Rattle.signatures.specs.Laws.Delays.{going-turn, going-stop, going-over}
 use Rattle.signatures.proofs.pass.reach.Goals as goal
 
 pub returns-then-n-y : goal.returns-then-n-y
@@ -10,7 +10,7 @@ unfolding items_in
 returns-then-n-y c =
     let args = c.args in
     let loop = c.loop-i in
-    delays-stop args.names.now args.x loop.delays.items loop.y loop._i loop.invariant.0 c.loop-i-test.true c.if-n-y.true
+    going-stop args.names.now args.x loop.delays.items loop.y loop._i loop.invariant.0 c.loop-i-test.true c.if-n-y.true
 
 pub insert-requires : goal.insert-requires
 unfolding items_in
@@ -24,7 +24,7 @@ loop-i-preserved c =
     let args = c.args in
     let loop = c.loop-i in
     rw c.insert.ensures (
-      delays-turn args.names.now args.x loop.delays.items loop.y loop._i loop.invariant.0 c.from.result c.from-y.result
+      going-turn args.names.now args.x loop.delays.items loop.y loop._i loop.invariant.0 c.from.result c.from-y.result
           c.loop-i-test.true (omega arith) c.from.ensures c.from-y.ensures,
       omega (arith, put-size c.from.result loop.delays.items, loop.invariant.1),
     )
@@ -34,4 +34,4 @@ unfolding items_in
 returns c =
     let args = c.args in
     let loop = c.loop-i in
-    delays-over args.names.now args.x loop.delays.items loop.y loop._i loop.invariant.0 c.loop-i-test.false
+    going-over args.names.now args.x loop.delays.items loop.y loop._i loop.invariant.0 c.loop-i-test.false

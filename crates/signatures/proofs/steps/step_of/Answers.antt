@@ -1,10 +1,10 @@
 -- Loop: behind the first number stand the shares of the names so far.
-use Rattle.std.proofs.Common.{ℕ, ◌≡◌, ◌-◌, ◌∙◌, ap, ap₂, List, [], ◌∷◌, ◌++◌, length, take, arith, length-append}
+use Rattle.std.proofs.Common.{ℕ, refl, ◌≡◌, ◌-◌, ◌∙◌, ap, ap₂, List, [], ◌∷◌, ◌++◌, length, take, arith, length-append}
 use Rattle.std.proofs.Math.Seq.{length-take-le, take-length}
 use Rattle.graph.specs.Readers.{action_of, denominator_of}
 use Rattle.signatures.specs.Steps.{mass_of, shares_over}
 use Rattle.signatures.specs.Raw.{raw_branches}
-use Rattle.signatures.specs.Laws.Raw.{shares-on, shares-size, step-made}
+use Rattle.signatures.specs.Laws.Raw.{shares-on, shares-size, step-listed}
 use Rattle.signatures.proofs.steps.step_of.Goals as goal
 
 pub put_share-requires : goal.put_share-requires
@@ -36,7 +36,7 @@ loop-name-preserved c =
     let loop = c.loop-name in
     rw (c.put_share.ensures, c.mass_of.ensures.value)
     (shares-on mass c.denominator_of-denominator.result c.as_slice-name-items.result.now c.push.new.self.items loop.step.items
-    loop.name-index c.loop-name-test.true loop.invariant)
+    loop.name-index _ c.loop-name-test.true refl loop.invariant)
 
 pub returns : goal.returns
 returns c =
@@ -51,6 +51,6 @@ returns c =
     let first : c.push.new.self.items ≡ action ∷ [] =
     c.push.ensures.items ∙ ap (λ (l : List ℕ). l ++ (action ∷ [])) c.new-step.ensures in
     let whole = c.denominator_of-denominator.ensures.0 ∙ ap (denominator_of edges) c.from-edge.ensures in
-    step-made edges raw names loop.step.items action (c.action_of.ensures.0 ∙ ap (action_of edges) c.from-edge.ensures)
+    step-listed edges raw names loop.step.items action (c.action_of.ensures.0 ∙ ap (action_of edges) c.from-edge.ensures)
     (c.as_slice-name-items.ensures.value ∙ c.gather_names-names.ensures)
     (loop.invariant ∙ ap₂ (λ (a b : List ℕ). a ++ b) first (ap₂ (λ (d : ℕ) (l : List ℕ). shares_over mass d l) whole all))

@@ -1,19 +1,19 @@
 -- The steps, the delays and the whole are held one after the other, or one of them is refused.
-use Rattle.std.proofs.Common.{ℕ, ◌≡◌, ◌∙◌, ap, ap₂, List, [], ◌∷◌, ◌++◌, append_assoc, Ok}
+use Rattle.std.proofs.Common.{arith, ℕ, ◌≡◌, ◌∙◌, ap, ap₂, List, [], ◌∷◌, ◌++◌, append_assoc, Ok}
 use Rattle.std.proofs.lemmas.Result.{err_from_is_err_and}
 use Rattle.signatures.specs.Pass.{State}
 use Rattle.signatures.specs.Steps.{name_of}
 use Rattle.signatures.specs.Named.{reached_from}
 use Rattle.signatures.specs.Book.{Told}
 use Rattle.signatures.specs.Laws.Book.{grows_then, told-grows}
-use Rattle.signatures.specs.Laws.Named.{delays-full, whole-told}
+use Rattle.signatures.specs.Laws.Named.{delays-full, whole-listed}
 use Rattle.signatures.proofs.pass.Pass.signature.Goals as goal
 
 pub returns-in_err-whole-clause-signed : goal.returns-in_err-whole-clause-signed
 returns-in_err-whole-clause-signed c =
     let names = c.args.self.now.names in
     let exit = err_from_is_err_and c.from_residual.result c.from_residual.ensures.1 in
-    rw exit.1 (c.in_err-whole.ensures.answered (name_of names c.args.x) (reached_from names c.args.x))
+    rw exit.1 (c.in_err-whole.ensures.listed (name_of names c.args.x) (reached_from names c.args.x))
 
 pub returns-in_err-delays-clause-signed : goal.returns-in_err-delays-clause-signed
 returns-in_err-delays-clause-signed c =
@@ -21,8 +21,8 @@ returns-in_err-delays-clause-signed c =
     let exit = err_from_is_err_and c.from_residual-in_err-delays.result c.from_residual-in_err-delays.ensures.1 in
     let delays = rw c.in_ok-whole.ensures.keeps.stays at c.in_err-delays.ensures in
     rw exit.1
-    (delays-full c.in_ok-whole.ensures.answered (name_of names c.args.x) (reached_from names c.args.x) delays.few
-    c.delay_id.new.self.held c.in_err-delays.field-0.0 delays.told)
+    (delays-full c.in_ok-whole.ensures.listed (omega arith) (name_of names c.args.x) (reached_from names c.args.x)
+    c.delay_id.new.self.held delays.few delays.told)
 
 -- The lists that are held as the whole is put together.
 before : (c : goal.After-intern) → c.self.inside.dictionary ≡ c.delay_id.new.self.held
@@ -54,6 +54,6 @@ returns-clause-signed c =
     c.as_slice.ensures.value ∙ c.push-2.ensures.items
     ∙ ap₂ (λ (l : List ℕ) (d : ℕ). l ++ (d ∷ [])) (c.push.ensures.items ∙ ap (λ (n : ℕ). whole ++ (n ∷ [])) name-is) c.from-2.ensures
     ∙ append_assoc whole (name ∷ []) (delays ∷ []) in
-    whole-told c.in_ok-whole.ensures.answered name (reached_from names x)
-    (rw c.in_ok-whole.ensures.keeps.stays at c.in_ok-delays.ensures.few) c.delay_id.new.self.held delays c.intern.new.self c.intern.result
-    (delayed c) (rw (before c, list-is) at c.intern.ensures.told)
+    whole-listed c.in_ok-whole.ensures.listed name (reached_from names x) c.delay_id.new.self.held delays c.intern.new.self
+    c.intern.result (rw c.in_ok-whole.ensures.keeps.stays at c.in_ok-delays.ensures.few) (delayed c)
+    (rw (before c, list-is) at c.intern.ensures.told)

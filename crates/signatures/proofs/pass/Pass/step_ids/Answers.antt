@@ -1,20 +1,20 @@
 -- Loop: the ids of the steps of the ranks so far are a set.
-use Rattle.std.proofs.Common.{◌≡◌, ◌∙◌, ap, sym, refl, arith}
+use Rattle.std.proofs.Common.{[], ◌≡◌, ◌∙◌, ap, sym, refl, arith}
 use Rattle.std.proofs.lemmas.Result.{err_from_is_err_and}
 use Rattle.graph.specs.Readers.{edge_count, location_of, is_available}
 use Rattle.signatures.specs.Pass.{State}
 use Rattle.signatures.specs.Named.{items_in, steps_from}
 use Rattle.signatures.specs.Laws.Named.{partial-none, partial-rises}
-use Rattle.signatures.specs.Laws.Available.{steps_past, steps-turn, steps-full, steps-end}
+use Rattle.signatures.specs.Laws.Available.{rank-past, rank-turn, rank-full, steps-end}
 use Rattle.signatures.proofs.pass.Pass.step_ids.Goals as goal
 use Rattle.signatures.proofs.pass.Pass.step_ids.Goals.{then-is_available+in_ok-id, else-is_available}
 
 pub loop-rank-init : goal.loop-rank-init
-loop-rank-init c = (refl, rw (← c.self.view_is) c.self.invariant.sound, rw c.new-ids.ensures (partial-none c.args.self.now.held))
+loop-rank-init c = (refl, rw (← c.self.view_is) c.self.invariant.sound, rw c.new-ids.ensures (partial-none c.args.self.now.held []))
 
-pub returns-in_err-id-clause-answered : goal.returns-in_err-id-clause-answered
+pub returns-in_err-id-clause-listed : goal.returns-in_err-id-clause-listed
 unfolding steps_from
-returns-in_err-id-clause-answered c =
+returns-in_err-id-clause-listed c =
     let x = c.args.x in
     let s = c.args.self.now in
     let loop = c.loop-rank in
@@ -25,8 +25,8 @@ returns-in_err-id-clause-answered c =
     ∙ c.if-is_available.true in
     let told = rw loop.invariant.0 at c.in_err-id.ensures.told in
     let exit = err_from_is_err_and c.from_residual.result c.from_residual.ensures.1 in
-    rw exit.1 (steps-full (items_in s.names) s.graph s.edges s.names x loop.invariant.2 c.edge_count-rank-end.result count
-    c.loop-rank-test.true here c.step_id.new.self.held c.in_err-id.field-0.0 told)
+    rw exit.1 (rank-full (items_in s.names) s.graph s.edges s.names x loop.invariant.2 c.edge_count-rank-end.result count
+    c.loop-rank-test.true here c.step_id.new.self.held told)
 
 pub insert-requires : goal.insert-requires
 insert-requires c = let p = c.loop-rank.invariant.2 in (omega arith, (partial-rises p, omega (arith, p.short)))
@@ -45,21 +45,21 @@ loop-rank-preserved c =
         w.in_ok-id.ensures.keeps.stays ∙ ap (λ (p : State). record p { held = w.step_id.new.self.held }) loop.invariant.0,
         w.in_ok-id.ensures.keeps.sound,
         rw (w.insert.ensures, w.from.ensures)
-            (steps-turn (items_in s.names) s.graph s.edges s.names x loop.invariant.2 c.edge_count-rank-end.result count
+            (rank-turn (items_in s.names) s.graph s.edges s.names x loop.invariant.2 c.edge_count-rank-end.result count
             c.loop-rank-test.true (is ∙ w.if-is_available.true) w.step_id.new.self.held w.in_ok-id.id
             (rw loop.invariant.0 at w.in_ok-id.ensures.told)),
       )
       | else-is_available w ↦ rw (w.self-is, w.ids-is) (
         loop.invariant.0,
         loop.invariant.1,
-        steps_past (items_in s.names) s.graph s.edges s.names x loop.invariant.2 c.edge_count-rank-end.result count
+        rank-past (items_in s.names) s.graph s.edges s.names x loop.invariant.2 c.edge_count-rank-end.result count
             c.loop-rank-test.true (is ∙ w.if-is_available.false),
       )
     ]
 
-pub returns-clause-answered : goal.returns-clause-answered
+pub returns-clause-listed : goal.returns-clause-listed
 unfolding steps_from
-returns-clause-answered c =
+returns-clause-listed c =
     let x = c.args.x in
     let s = c.args.self.now in
     let loop = c.loop-rank in

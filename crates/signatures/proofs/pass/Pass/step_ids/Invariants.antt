@@ -1,5 +1,5 @@
 -- Loop: the ids of the steps of the ranks so far are a set.
-use Rattle.std.proofs.Common.{◌≡◌}
+use Rattle.std.proofs.Common.{◌≡◌, length}
 use Rattle.signatures.specs.Book.{Sound}
 use Rattle.signatures.specs.Signatures.{steps_below}
 use Rattle.signatures.specs.Structure.{structure_of}
@@ -12,3 +12,4 @@ invariant-loop-rank l =
     (l.self ≡ record s { held = l.self.held })
     × Sound l.self.held
     × Partial s.held l.self.held (steps_below (structure_of (items_in s.names) s.graph s.edges) s.names l.x l.rank) l.rank l.ids.items
+    (length l.ids.items)
