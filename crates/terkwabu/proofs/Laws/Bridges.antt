@@ -1,7 +1,7 @@
 -- From what a C host sees of a call that refused nothing, the five numbers answered and what was left in what was lent, back to what the
 -- layer beneath promises: `Accepted` of the graph call, `Reduced` and `Left` of the partition call, `Reduced` and `Left` of the pair call
 -- too, which leaves the same, and the region's number of the state call.
-use Rattle.std.specs.Prelude.{ℕ, ◌<◌, ◌≡◌, ◌↔◌, Bool, length, Result, Ok}
+use Rattle.std.specs.Prelude.{ℕ, ◌<◌, ◌≡◌, ◌↔◌, Bool, length, Ok}
 use Rattle.std.proofs.Common.{arith, sym, ◌∙◌, subst}
 use Rattle.std.proofs.Math.Path.{refl, ap, ap₂}
 use mathlib.Core.Logic.Iff
@@ -27,7 +27,6 @@ use Rattle.states.specs.StateCall.{asked, is_not_taken, own_state, numbered, pla
 use Rattle.bisimulation.specs.Finite.{Finite, block_count, rounds}
 use Rattle.partition.specs.Instances.{region_of, lands_at, graph}
 use Rattle.partition.specs.Laws.Delays.{delays-are}
-use Rattle.partition.specs.Passed.{Refusal}
 use Rattle.partition.specs.Calls.{Accepted, refuses, counts, reduce_of, pair_of}
 use Rattle.partition.specs.Promises.{Reduced, Paired}
 use Rattle.partition.specs.Left.{Left}
@@ -36,7 +35,6 @@ use Rattle.partition.specs.Laws.Success.{one_found}
 use Rattle.partition.specs.Laws.Left.{reduced-first, reduced-second}
 use Rattle.partition.specs.Laws.Promised.{paired-model, pair-leaves, pair-as-first, pair-as-second}
 use Rattle.table.specs.declared.refusals.Reason.TheVariants.{BadState, Unreached}
-use Rattle.partition.specs.declared.calls.Reduction.{Reduction}
 use Rattle.terkwabu.specs.Answers.{of_placing, of_reduction, one_if, of_pairing}
 use Rattle.terkwabu.specs.Calls.{GraphCall, PlaceCall, ReduceCall, PairCall}
 use Rattle.terkwabu.proofs.Laws.Rows.{placed_in, place_after}

@@ -33,7 +33,7 @@ use Rattle.partition.specs.Laws.Bisimilar.{accepted-iff}
 use Rattle.listing.specs.Printed.{refusal_line}
 use Rattle.listing.specs.Parts.{text_from, text_of, fitted, buffer_after, part_from, part_of}
 use Rattle.listing.specs.declared.parts.Part.TheVariants as T
-use Rattle.terkwabu.specs.Answers.{refused_as, result_as, of_refusal, of, told_number, told_counts, told_sharing, told_acceptance}
+use Rattle.terkwabu.specs.Answers.{result_as, of, told_number, told_counts, told_sharing, told_acceptance}
 use Rattle.terkwabu.specs.Answers.{of_graph, of_placing, of_reduction, of_pairing, of_judgement, told_part, of_part}
 use Rattle.terkwabu.specs.Calls.{GraphCall, PlaceCall, ReduceCall, PairCall, JudgeCall, PartCall, LineCall}
 use Rattle.terkwabu.specs.Rows.{Stopped, row-1-13, row-14, row-15, GraphHeld, ByList, stopped, went_on}
