@@ -1,7 +1,7 @@
 // The lines of the listing that need no graph: the first line, a region's, a block's first, a refusal's.
 #![tactic(auto, using(text::specs::Laws::Writer::writing))]
 
-ghost use Rattle.std.specs.Prelude.{[]};
+ghost use Rattle.std.specs.Prelude.{◌≤◌, []};
 ghost use Rattle.text.specs.Text.{each};
 ghost use Rattle.text.specs.Writing.{Puts};
 ghost use Rattle.listing.specs.Printed.{rank_text, clock_field, clocks_at, record_of, first_line, refusal_line, region_line, block_line};
@@ -58,19 +58,18 @@ fn put_clock(whole: u8, rank: u8, text: &mut Writer)
 
 // The first n clocks of a region.
 fn put_clocks(n: u8, region: &Region, text: &mut Writer)
+    requires { n ≤ 4 }
     ensures { Puts text.old text.new (each clock_field (clocks_at n region.now)) }
 {
-    for i in 0..usize::from(n) {
-        put_clock(
-            slices::at(&region.whole, i, 0),
-            slices::at(&region.rank, i, 0),
-            text,
-        );
+    let clocks = region.whole.iter().zip(&region.rank);
+    for (whole, rank) in clocks.take(usize::from(n)) {
+        put_clock(*whole, *rank, text);
     }
 }
 
 // The line of a region. (No label is printed there.)
 pub(crate) fn put_region(number: u64, block: u64, clocks: u8, region: &Region, text: &mut Writer)
+    requires { clocks ≤ 4 }
     ensures { Puts text.old text.new (region_line (record_of number 0 block clocks region.now)) }
 {
     text.put_named(b"region", number);

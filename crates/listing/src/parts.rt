@@ -17,6 +17,7 @@ use crate::labels::{label_blocks, label_regions};
 use crate::lines::{put_block, put_first, put_refusal, put_region};
 use crate::steps::{put_delay, put_steps};
 use partition::Refusal;
+use std::cmp::Ordering;
 use text::Writer;
 
 const MOST_REGIONS: u64 = 4096;
@@ -37,10 +38,10 @@ fn deliver(text: &[u8], buffer: &mut [u8]) -> Part
     ensures value { result ≡ fitted text.now (length buffer.old) }
     ensures buffer_after { buffer.new ≡ buffer_after text.now buffer.old }
 {
-    let k = text.len();
-    if k == 0 {
+    if text.is_empty() {
         return Part::End;
     }
+    let k = text.len();
     if buffer.len() < k {
         return Part::Short(k);
     }
@@ -214,18 +215,14 @@ impl Listed<'_> {
             → Gives (line_part m (listed self.entry.entries.now (length self.entry.partition.list.now)) self.entry.partition.list.now
             self.entry.partition.count x) buffer.old result buffer.new }
     {
-        let regions = self.partition.list.len() as u64;
-        if x < regions {
+        let Some(b) = x.checked_sub(self.partition.list.len() as u64) else {
             return self.region_part(x as usize, buffer);
+        };
+        match b.cmp(&self.partition.count) {
+            Ordering::Less => self.block_part(b, buffer),
+            Ordering::Equal => self.totals_part(buffer),
+            Ordering::Greater => Part::End,
         }
-        let b = x - regions;
-        if b < self.partition.count {
-            return self.block_part(b, buffer);
-        }
-        if b == self.partition.count {
-            return self.totals_part(buffer);
-        }
-        Part::End
     }
 
     // A part.

@@ -1,28 +1,10 @@
--- A text in a buffer: one byte more of a copy, and what is said where it fits and where it does not.
-use Rattle.std.specs.Prelude.{ℕ, suc, ◌+◌, ◌≤◌, ◌<◌, ◌≡◌, List, [], ◌∷◌, ◌++◌, leb, length, take, drop, get_or, set}
-use Rattle.std.proofs.Common.{add-one, arith, sym, ◌∙◌, ap, length-take-le, take-suc, drop-cons, le-leb}
-use Rattle.std.proofs.Math.Seq.{length_front, append_snoc}
-use Rattle.std.proofs.lemmas.List.{set_at}
+-- A text in a buffer: what is said where it fits and where it does not, and what the buffer then holds.
+use Rattle.std.specs.Prelude.{ℕ, ◌≤◌, ◌<◌, ◌≡◌, List, [], ◌∷◌, ◌++◌, leb, length, drop}
+use Rattle.std.proofs.Common.{arith, le-leb}
 use Rattle.std.proofs.lemmas.Bool.{lt-leb}
 use Rattle.partition.specs.Passed.{cond_yes, cond_no}
 use Rattle.listing.specs.Parts.{fitted, buffer_after}
 use Rattle.listing.specs.declared.parts.Part.TheVariants as P
-
--- ---- The first i bytes of a text at the front of a buffer
-
-pub copied-length : (text buffer : List ℕ) (i : ℕ) → i ≤ length text → i ≤ length buffer
-    → length (take i text ++ drop i buffer) ≡ length buffer
-copied-length text buffer i p q =
-    length_front buffer (take i text) i (length-take-le i text p ∙ sym (length-take-le i buffer q))
-
-pub copied_on : (text buffer : List ℕ) (i : ℕ) → i < length text → i < length buffer
-    → set (take i text ++ drop i buffer) i (get_or text i 0) ≡ take (i + 1) text ++ drop (i + 1) buffer
-copied_on text buffer i p q =
-    ap (λ (l : List ℕ). set (take i text ++ l) i (get_or text i 0)) (drop-cons buffer i 0 q)
-    ∙ set_at (take i text) (get_or buffer i 0) (drop (suc i) buffer) (get_or text i 0) i (length-take-le i text (omega (arith, p)))
-    ∙ sym (append_snoc (take i text) (get_or text i 0) (drop (suc i) buffer))
-    ∙ ap (λ (l : List ℕ). l ++ drop (suc i) buffer) (sym (take-suc text i 0 p))
-    ∙ ap (λ (k : ℕ). take k text ++ drop k buffer) (sym (add-one i))
 
 -- ---- What is said, and what the buffer then holds
 

@@ -26,7 +26,6 @@ use Rattle.listing.specs.Parts.{bytes_told, buffer_after, part_from, part_of, mo
 use Rattle.text.specs.Laws.Texts.{upto-same, upto_add, each-upto}
 use Rattle.totals.specs.Laws.Counts.{totals-some}
 use Rattle.listing.specs.Laws.Buffers.{fitted-written}
-use Rattle.listing.specs.Laws.Parts.{borne-none}
 use Rattle.listing.specs.declared.parts.Part.{Part}
 use Rattle.listing.specs.declared.parts.Part.TheVariants as P
 
@@ -290,7 +289,7 @@ unfolding text_of
 refused-parts table entries list part = by_answer (read_table table)
   where
     none : is_borne 0 0 (length entries) (length list) ≡ false
-    none = sym (borne-none 0 0 (length entries) (length list) (omega arith) (omega arith) (omega arith) (omega arith))
+    none = rw (le-leb 0 (length entries) (omega arith), le-leb 0 (length list) (omega arith)) refl
 
     by_answer : (a : Answer) → text_from a entries list 0 0 0 part ≡ []
     by_answer (refusal reason place) = refl

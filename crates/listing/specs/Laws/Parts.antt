@@ -4,7 +4,7 @@ use Rattle.std.specs.Prelude.{ℕ, zero, suc, ◌+◌, ◌-◌, ◌*◌, ◌≤�
 use Rattle.std.specs.Prelude.{get_or, take, drop, replicate, Option, Some, None, Result, Ok, Err, IfOk}
 use Rattle.std.proofs.Common.{arith, ◌∙◌, ap₂, length-append, take_at, eq-eqb, ne_eqb, lt-ltb, le-ltb, le-leb, leb-true, ltb-true}
 use Rattle.std.proofs.Math.Path.{sym, ap, subst}
-use Rattle.std.proofs.lemmas.Bool.{false≢true, lt-leb}
+use Rattle.std.proofs.lemmas.Bool.{false≢true}
 use mathlib.Core.List.{List, [], ◌∷◌, ◌++◌, append-nil}
 use Rattle.std.proofs.Math.ListN.{length, length-replicate}
 use Rattle.partition.specs.Passed.{Model, Region, Finite, Answer, refusal, accepted, read_table, entry_bytes, max_entries, listed}
@@ -217,27 +217,28 @@ module _ (m : Model) (found : List Region) (list : List ℕ) (blocks : ℕ) wher
   pub line-region : (n x : ℕ) → n ≡ length found → x < n → region_line (region_record m found list x) ≡ line_part m found list blocks x
   line-region n x e h = rw (lt-ltb x (length found) (omega (arith, e, h))) refl
 
-  pub line-block : (n x : ℕ) → n ≡ length found → n ≤ x → x - n < blocks
-      → block_lines (block_record (graph m found) list blocks (x - n)) ≡ line_part m found list blocks x
-  line-block n x e h less =
-      ap (λ (k : ℕ). block_lines (block_record (graph m found) list blocks (x - k))) e
-      ∙ rw (le-ltb x (length found) (omega (arith, e, h)), lt-ltb (x - length found) blocks (omega (arith, e, less))) refl
+  pub line-block : (n x b : ℕ) → n ≡ length found → (n ≤ x) × (b ≡ x - n) → b < blocks
+      → block_lines (block_record (graph m found) list blocks b) ≡ line_part m found list blocks x
+  line-block n x b e h less =
+      let past : x - length found ≡ b = omega (arith, e, h.1) in
+      ap (λ (k : ℕ). block_lines (block_record (graph m found) list blocks k)) (sym past)
+      ∙ rw (le-ltb x (length found) (omega (arith, e, h.0)), lt-ltb (x - length found) blocks (omega (arith, past, less))) refl
 
-  pub line-totals : (n x : ℕ) → n ≡ length found → n ≤ x → x - n ≡ blocks
+  pub line-totals : (n x b : ℕ) → n ≡ length found → (n ≤ x) × (b ≡ x - n) → b ≡ blocks
       → totals_text (region_records m found list) (block_records m found list blocks) ≡ line_part m found list blocks x
-  line-totals n x e h same =
+  line-totals n x b e h same =
       rw (
-        le-ltb x (length found) (omega (arith, e, h)),
-        le-ltb (x - length found) blocks (omega (arith, e, same)),
-        eq-eqb (x - length found) blocks (omega (arith, e, same)),
+        le-ltb x (length found) (omega (arith, e, h.0)),
+        le-ltb (x - length found) blocks (omega (arith, e, h.1, same)),
+        eq-eqb (x - length found) blocks (omega (arith, e, h.1, same)),
       ) refl
 
-  pub line-end : (n x : ℕ) → n ≡ length found → n ≤ x → blocks < x - n → [] ≡ line_part m found list blocks x
-  line-end n x e h past =
+  pub line-end : (n x b : ℕ) → n ≡ length found → (n ≤ x) × (b ≡ x - n) → blocks < b → [] ≡ line_part m found list blocks x
+  line-end n x b e h past =
       rw (
-        le-ltb x (length found) (omega (arith, e, h)),
-        le-ltb (x - length found) blocks (omega (arith, e, past)),
-        ne_eqb (x - length found) blocks (λ same. omega (arith, e, past, same)),
+        le-ltb x (length found) (omega (arith, e, h.0)),
+        le-ltb (x - length found) blocks (omega (arith, e, h.1, past)),
+        ne_eqb (x - length found) blocks (λ same. omega (arith, e, h.1, past, same)),
       ) refl
 
   pub part-first : (n rounds part : ℕ) → n ≡ length found → part ≡ 0
@@ -251,36 +252,6 @@ module _ (m : Model) (found : List Region) (list : List ℕ) (blocks : ℕ) wher
 -- ---- Counts that what is lent can hold
 
 module _ (regions blocks entries list : ℕ) where
-  pub borne-many : max_entries < regions → false ≡ is_borne regions blocks entries list
-  borne-many h = rw (lt-leb regions max_entries h) refl
-
-  module _ (a : regions ≤ max_entries) where
-    pub borne-entries : entries < entry_bytes * regions → false ≡ is_borne regions blocks entries list
-    borne-entries h = rw (le-leb regions max_entries a, lt-leb (entry_bytes * regions) entries h) refl
-
-    module _ (b : entry_bytes * regions ≤ entries) where
-      pub borne-list : list < regions → false ≡ is_borne regions blocks entries list
-      borne-list h = rw (le-leb regions max_entries a, le-leb (entry_bytes * regions) entries b, lt-leb regions list h) refl
-
-      module _ (c : regions ≤ list) where
-        pub borne-none : blocks ≤ 0 → false ≡ is_borne regions blocks entries list
-        borne-none h =
-            rw (
-              le-leb regions max_entries a,
-              le-leb (entry_bytes * regions) entries b,
-              le-leb regions list c,
-              le-ltb 0 blocks h,
-            ) refl
-
-        pub borne-rest : 0 < blocks → leb blocks regions ≡ is_borne regions blocks entries list
-        borne-rest h =
-            rw (
-              le-leb regions max_entries a,
-              le-leb (entry_bytes * regions) entries b,
-              le-leb regions list c,
-              lt-ltb 0 blocks h,
-            ) refl
-
   and_both : (x y : Bool) → x && y ≡ true → (x ≡ true) × (y ≡ true)
   and_both true y e = (refl, e)
   and_both false y e = absurd (false≢true e)
@@ -322,8 +293,8 @@ past-text m entries list regions blocks rounds part h = go (is_borne regions blo
     go true e =
         let (few, _, _, fewer, _) = borne-parts regions blocks (length entries) (length list) e in
         let n = listed-length entries regions in
-        line-end m (listed entries regions) (take regions list) blocks regions (part - 1) (sym n) (omega (arith, few, h))
-        (omega (arith, few, fewer, h))
+        line-end m (listed entries regions) (take regions list) blocks regions (part - 1) (part - 1 - regions) (sym n)
+        (omega (arith, few, h), refl) (omega (arith, few, fewer, h))
         ∙ part-line m (listed entries regions) (take regions list) blocks rounds part (omega (arith, h))
     go false e = refl
 

@@ -2,7 +2,7 @@
 use Rattle.std.specs.Prelude.{ℕ, zero, suc, ◌+◌, ◌*◌, ◌≤◌, ◌<◌, ◌⊎◌, ◌≡◌, refl, Bool, true, false, cond, ◌||◌}
 use Rattle.std.specs.Prelude.{eqb, ltb, length, get_or, take, set, replicate}
 use Rattle.std.proofs.Math.Decide.{ℕ_discrete}
-use Rattle.std.proofs.Common.{add-one, arith, inl, inr, sym, ◌∙◌, ap, ap₂, subst, length-append, length-set, take-suc, take_all}
+use Rattle.std.proofs.Common.{add-one, arith, inl, inr, sym, ◌∙◌, ap, ap₂, subst, length-append, length-set, take-suc}
 use Rattle.std.proofs.Common.{get_or-set_same, get_or-set_other, eq-eqb, ne_eqb, ltb-true, ltb-false, append-nil}
 use mathlib.Core.List.Memᴰ
 use mathlib.Core.List.{List, [], ◌∷◌, ◌++◌, map, Memᴰ}
@@ -76,10 +76,6 @@ counts-on labels counts i h small c =
         let this : one x label ≡ 0 = rw (ne_eqb x label (λ e. other (sym e))) refl in
         let kept = get_or-set_other counts x label (get_or counts x 0 + 1) 0 other in
         omega (arith, kept, c.holds label below, this, now label)
-
--- All labels are counted.
-pub counts_all : (labels counts : List ℕ) (i : ℕ) → length labels ≤ i → LabelCounts (take i labels) counts → LabelCounts labels counts
-counts_all labels counts i h c = subst (λ (l : List ℕ). LabelCounts l counts) (take_all i labels h) c
 
 -- What a count comes to is at most how many labels are counted.
 pub counts-most : (labels counts : List ℕ) (label : ℕ) → label < 256 → LabelCounts labels counts → get_or counts label 0 ≤ length labels

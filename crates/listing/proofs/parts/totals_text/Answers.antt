@@ -1,5 +1,5 @@
 -- 9,728 bytes hold the totals.
-use Rattle.std.proofs.Common.{ℕ, ◌<◌, ◌∙◌, ap, arith, get_or, replicate, length-take-le}
+use Rattle.std.proofs.Common.{ℕ, ◌≡◌, ◌<◌, ◌∙◌, ap, arith, length, take, get_or, replicate, length-take-le}
 use Rattle.std.proofs.lemmas.List.{length-replicate}
 use Rattle.listing.specs.Labels.{block_labels}
 use Rattle.listing.specs.Laws.Labels.{totals-room}
@@ -10,7 +10,8 @@ pub returns : goal.returns
 returns c =
     let blocks = c.args.blocks in
     let labels = c.args.labels.now in
-    let room = length-take-le blocks.count (replicate 4096 0) (omega (arith, blocks.few, blocks.within, length-replicate {A = ℕ} 4096 0)) in
+    let room : length (take blocks.count (replicate {A = ℕ} 4096 0)) ≡ blocks.count =
+    length-take-le blocks.count (replicate 4096 0) (omega (arith, blocks.few, blocks.within, length-replicate {A = ℕ} 4096 0)) in
     let is = c.label_blocks.ensures ∙ ap (block_labels labels blocks.list.now) room in
     let bytes : (i : ℕ) → get_or labels i 0 < 256 = λ i. omega (arith, c.type_inv.labels i) in
     let fits = totals-room labels blocks.list.now blocks.count bytes c.requires blocks.within blocks.few in

@@ -12,7 +12,7 @@ pub returns : goal.returns
 returns c =
     let list = c.args.self.list.now in
     subst (λ (r : Option ℕ). Next (λ b. is_among list b c.args.regions.now) c.args.from c.args.self.count r)
-    (sym (sym (option_map_id _) ∙ min_from_yields_List _ _ c.min.ensures.ran
+    (sym (sym (option_map_id c.min.result) ∙ min_from_yields_List _ _ c.min.ensures.ran
     (YieldsList-from_filter _ (in_range c.args.from c.args.self.count)
     (YieldsList-at c.filter.ensures.source
     (YieldsList-from_map _ (λ x. get_or list x 0)

@@ -1,45 +1,42 @@
 -- Each branch is a case of the definition.
-use Rattle.std.proofs.Common.{sym, arith, length}
+use Rattle.std.proofs.Common.{sym, rules, length}
 use Rattle.partition.specs.Passed.{listed}
 use Rattle.partition.specs.Laws.View.{listed-length}
 use Rattle.listing.specs.Laws.Parts.{gives_same, gives-end, line-region, line-block, line-totals, line-end}
 use Rattle.listing.proofs.parts.Listed.line_part.Goals as goal
 
-pub returns-then-x-regions : goal.returns-then-x-regions
-returns-then-x-regions c = λ m read clocks.
+pub returns-in_default : goal.returns-in_default
+returns-in_default c = λ m read clocks.
     let entries = c.args.self.entries.now in
     let list = c.args.self.partition.list.now in
-    let count = sym (listed-length entries (length list)) in
     gives_same c.args.buffer.now _ _
-    (line-region m (listed entries (length list)) list c.args.self.partition.count (length list) c.args.x count c.if-x-regions.true)
+    (line-region m (listed entries (length list)) list c.args.self.partition.count (length list) c.args.x
+    (sym (listed-length entries (length list))) (search rules))
     (c.region_part.ensures m clocks)
 
-pub returns-then-b-self : goal.returns-then-b-self
-returns-then-b-self c = λ m read clocks.
+pub returns-in-Less : goal.returns-in-Less
+returns-in-Less c = λ m read clocks.
     let entries = c.args.self.entries.now in
     let list = c.args.self.partition.list.now in
-    let count = sym (listed-length entries (length list)) in
     gives_same c.args.buffer.now _ _
-    (line-block m (listed entries (length list)) list c.args.self.partition.count (length list) c.args.x count c.if-x-regions.false
-    c.if-b-self.true)
+    (line-block m (listed entries (length list)) list c.args.self.partition.count (length list) c.args.x c.in-Some.b
+    (sym (listed-length entries (length list))) c.in-Some.ensures (search rules))
     (c.block_part.ensures m read)
 
-pub returns-then-b-self-2 : goal.returns-then-b-self-2
-returns-then-b-self-2 c = λ m read clocks.
+pub returns-in-Equal : goal.returns-in-Equal
+returns-in-Equal c = λ m read clocks.
     let entries = c.args.self.entries.now in
     let list = c.args.self.partition.list.now in
-    let count = sym (listed-length entries (length list)) in
     gives_same c.args.buffer.now _ _
-    (line-totals m (listed entries (length list)) list c.args.self.partition.count (length list) c.args.x count c.if-x-regions.false
-    c.if-b-self-2.true)
+    (line-totals m (listed entries (length list)) list c.args.self.partition.count (length list) c.args.x c.in-Some.b
+    (sym (listed-length entries (length list))) c.in-Some.ensures (search rules))
     (c.totals_part.ensures m read)
 
-pub returns : goal.returns
-returns c = λ m read clocks.
+pub returns-in-Greater : goal.returns-in-Greater
+returns-in-Greater c = λ m read clocks.
     let entries = c.args.self.entries.now in
     let list = c.args.self.partition.list.now in
-    let count = sym (listed-length entries (length list)) in
     gives_same c.args.buffer.now _ _
-    (line-end m (listed entries (length list)) list c.args.self.partition.count (length list) c.args.x count c.if-x-regions.false
-    (omega (arith, c.if-b-self.false, c.if-b-self-2.false)))
+    (line-end m (listed entries (length list)) list c.args.self.partition.count (length list) c.args.x c.in-Some.b
+    (sym (listed-length entries (length list))) c.in-Some.ensures (search rules))
     (gives-end c.args.buffer.now)
