@@ -5,6 +5,9 @@
 --   Keys     numbers that are equal for items that the next round relates
 -- Laws on these stand in Laws.
 pub mod Held
+pub mod Walks
+pub mod Graphs
+pub mod Shares
 pub mod Compare
 pub mod Twins
 pub mod Keys

@@ -1,16 +1,23 @@
 // Codes of edges: a number for each edge at an item under a block list, of its action and of where it leads. Edges that are alike have
 // equal codes, so that an answer to an edge is looked for among the edges of its code alone. The codes of one item stay on a shelf from
 // comparison to comparison, and an edge that is paired with itself has one code at both items.
-ghost use Rattle.std.specs.Prelude.{ℕ, ◌≤◌, ◌<◌, ◌≡◌, true, cond, ◌&&◌, length, get_or, set};
-ghost use Rattle.comparison.specs.Held.{most_items, most_edges, count_at, is_open, Opened};
-ghost use Rattle.comparison.specs.Compare.{Gathered, edges_alike, answers, some_answers, edges_answered};
-ghost use Rattle.comparison.specs.Keys.{scatter, divisor, share_of, cube, mixed, is_first_into, block_code};
-ghost use Rattle.comparison.specs.Keys.{landed_by, landed, joined, code_of, Coded, ToldBy, Told, Own, Found, Met};
-ghost use Rattle.comparison.specs.Keys.{Shelved, KeptPast};
+ghost use Rattle.std.specs.Prelude.{ℕ, ◌≤◌, ◌<◌, ◌≡◌, true, ◌&&◌, IsTrue, length, get_or};
+ghost use Rattle.comparison.specs.Held.{most_items, most_edges};
+ghost use Rattle.comparison.specs.Keys.{scatter, share_of, cube, mixed, joined, KeptPast};
+ghost use Rattle.comparison.specs.Graphs.{count, is_open, Opened, edges_alike, answers, some_answers, edges_answered};
+ghost use Rattle.comparison.specs.Graphs.{is_first_into, block_code, landed_by, landed, code_of};
+ghost use Rattle.comparison.specs.Graphs.{Coded, ToldBy, Told, Own, Found, Met, Shelved};
 
-use crate::compare::set_mark;
 use crate::held::Graph;
-use crate::slices::{at16, at64, is_set, put64};
+use crate::shares::Landing;
+use slices::{at, put};
+
+// An item, and the codes of the edges that are available there, each at the place of its edge.
+#[derive(Clone, Copy)]
+pub(crate) struct Side<'a> {
+    pub(crate) item: usize,
+    pub(crate) codes: &'a [u64],
+}
 
 // What the number of a block is scattered to.
 pub(crate) fn scatter_of(v: usize) -> u64
@@ -21,18 +28,12 @@ pub(crate) fn scatter_of(v: usize) -> u64
     ((w + 77) * ((w + 1003) * (w + 2001))) % 1048573
 }
 
-fn divisor_of(whole: usize) -> u64
-    ensures { (result ≡ divisor whole) × (0 < result) }
-{
-    if whole == 0 { 1 } else { whole as u64 }
-}
-
 // The share of a weight, in parts of 2 to the 31st.
 fn share_of(weight: u64, whole: usize) -> u64
     requires { weight < 4294967296 }
     ensures { (result ≡ share_of weight whole) × (result < 9223372036854775808) }
 {
-    weight * 2147483648 / divisor_of(whole)
+    weight * 2147483648 / whole.max(1) as u64
 }
 
 fn cube_of(t: u64) -> u64
@@ -57,111 +58,85 @@ fn joined_of(action: usize, sum: u64) -> u64
     ensures { (result ≡ joined action sum) × (result < 1099511627689) }
 {
     let part = sum % 2147483629;
-    (part * part + (action as u64) * 40503001) % 1099511627689
+    (part * part + action as u64 * 40503001) % 1099511627689
 }
 
-// Sets a mark, or leaves it.
-fn mark_if(marked: bool, e: usize, marks: &mut [u8])
-    ensures marks_len_unchanged { length marks.new ≡ length marks.old }
-    ensures marks_after { marks.new ≡ cond marked (set marks.old e 1) marks.old }
-{
-    if marked {
-        set_mark(e, marks);
-    }
-}
-
-impl Graph<'_> {
-    // Does no branch of edge e at item x below branch i lead to the block with number v? The promise speaks of any c whose
-    // number in the list is v.
-    fn is_first_into(self, v: u64, x: usize, e: usize, i: usize, list: &[u64], got: &[u64]) -> bool
-        requires { (x < most_items) × (e < most_edges) × (i < 65536) }
-        ensures { (c : ℕ) → v ≡ get_or list.now c 0 → i < count_at self.entry.rows.now e
-            → Gathered x e list.now self.entry.resets.now self.entry.spots.now self.entry.rows.now got.now
-            → result ≡ is_first_into list.now self.entry.resets.now self.entry.spots.now self.entry.rows.now c x e i }
+impl Landing<'_> {
+    // Does no branch below branch i lead to the block with number v? The promise speaks of any c whose number in the list is v.
+    fn is_first_into(&self, v: u64, i: usize) -> bool
+        requires { i < 65536 }
+        ensures { let l = self.now in (c : ℕ) → v ≡ get_or l.list.now c 0 → i < count l.graph l.e
+            → result ≡ is_first_into l.graph l.list.now c l.x l.e i }
     {
-        let mut j = 0;
-        while j < i {
-            if self.number_at(x, e, j, list, got) == v {
-                return false;
-            }
-            j = j + 1;
-        }
-        true
+        !(0..i).any(|j| self.number(j) == v)
     }
 
-    // What the block with number v adds to the code of edge e at item x. The promise speaks of any c whose number in the list is v.
-    fn block_code(self, v: u64, x: usize, e: usize, list: &[u64], got: &[u64]) -> u64
-        requires { (x < most_items) × (e < most_edges) }
+    // What the block with number v adds to the code. The promise speaks of any c whose number in the list is v.
+    fn block_code(&self, v: u64) -> u64
         ensures upper_bound { result < 2147483629 }
-        ensures by_index { (c : ℕ) → v ≡ get_or list.now c 0
-            → Gathered x e list.now self.entry.resets.now self.entry.spots.now self.entry.rows.now got.now
-            → result ≡ block_code list.now self.entry.resets.now self.entry.spots.now self.entry.rows.now c x e }
+        ensures value { let l = self.now in (c : ℕ) → v ≡ get_or l.list.now c 0
+            → result ≡ block_code l.graph l.list.now c l.x l.e }
     {
-        let weight = self.weigh(v, x, e, list, got);
-        if weight == 0 {
-            return 0;
+        match self.weigh(v) {
+            0 => 0,
+            weight => mix_of(
+                (v % 4096) as usize,
+                share_of(weight, self.graph.whole(self.e)),
+            ),
         }
-        let share = share_of(weight, at16(self.rows, 32 * e + 1));
-        mix_of((v % 4096) as usize, share)
     }
 
-    // What branch i of edge e at item x adds: where it is the first into its block, what the block adds.
-    fn land_one(self, x: usize, e: usize, i: usize, list: &[u64], got: &[u64]) -> u64
-        requires { (x < most_items) × (e < most_edges) × (i < 65536) }
+    // What branch i adds: where it is the first into its block, what the block adds.
+    fn branch_code(&self, i: usize) -> u64
+        requires { i < 65536 }
         ensures upper_bound { result < 2147483629 }
-        ensures value { i < count_at self.entry.rows.now e
-            → Gathered x e list.now self.entry.resets.now self.entry.spots.now self.entry.rows.now got.now
-            → result ≡ landed_by list.now self.entry.resets.now self.entry.spots.now self.entry.rows.now x e i }
+        ensures value { let l = self.now in i < count l.graph l.e
+            → result ≡ landed_by l.graph l.list.now l.x l.e i }
     {
-        let v = self.number_at(x, e, i, list, got);
-        if self.is_first_into(v, x, e, i, list, got) {
-            return self.block_code(v, x, e, list, got);
+        let v = self.number(i);
+        if self.is_first_into(v, i) {
+            self.block_code(v)
+        } else {
+            0
         }
-        0
     }
 
-    // The sum over the branches, whose blocks' numbers are kept in `got`.
-    fn land_all(self, x: usize, e: usize, list: &[u64], got: &[u64]) -> u64
-        requires { (x < most_items) × (e < most_edges) }
-        ensures { Gathered x e list.now self.entry.resets.now self.entry.spots.now self.entry.rows.now got.now
-            → result ≡ landed list.now self.entry.resets.now self.entry.spots.now self.entry.rows.now x e }
+    // The sum over the branches.
+    fn landed(&self) -> u64
+        ensures { let l = self.now in result ≡ landed l.graph l.list.now l.x l.e }
     {
-        let count = at16(self.rows, 32 * e + 2);
-        let mut total = 0u64;
-        let mut i = 0;
-        while i < count {
-            total = total + self.land_one(x, e, i, list, got);
-            i = i + 1;
+        let mut total = 0;
+        for i in 0..self.graph.count(self.e) {
+            total += self.branch_code(i);
         }
         total
     }
 
-    // The code of edge e at item x: of its action and of where it leads.
+    // The code of the edge: of its action and of where it leads.
+    fn code(&self) -> u64
+        ensures { let l = self.now in (result ≡ code_of l.graph l.list.now l.x l.e) × (result < 1099511627689) }
+    {
+        joined_of(self.graph.action(self.e), self.landed())
+    }
+}
+
+impl Graph<'_> {
     fn code_of(self, x: usize, e: usize, list: &[u64]) -> u64
         requires { (x < most_items) × (e < most_edges) }
-        ensures { (result ≡ code_of list.now self.entry.resets.now self.entry.spots.now self.entry.rows.now x e)
-            × (result < 1099511627689) }
+        ensures { (result ≡ code_of self.entry list.now x e) × (result < 1099511627689) }
     {
-        // An edge has at most 8 branches; any past them would be looked up anew.
-        let mut got = [0u64; 8];
-        self.gather(x, e, list, &mut got);
-        let sum = self.land_all(x, e, list, &got);
-        joined_of(at16(self.rows, 32 * e), sum)
+        Landing::new(self, list, x, e).code()
     }
 
-    // The codes of the edges that are available at x.
+    // Lists the codes of the edges that are available at x.
     pub(crate) fn list_codes(self, x: usize, list: &[u64], codes: &mut [u64])
         requires { (self.k ≤ most_edges) × (x < most_items) }
-        ensures codes_len_unchanged { length codes.new ≡ length codes.old }
-        ensures by_index { (n : ℕ) → Opened n self.entry.k self.entry.flags.now → x < n → most_edges ≤ length codes.old
-            → Coded self.entry.k x list.now self.entry.flags.now self.entry.resets.now self.entry.spots.now self.entry.rows.now
-            codes.new }
-        ensures by_index_2 { (i : ℕ) → self.entry.k ≤ i → get_or codes.new i 0 ≡ get_or codes.old i 0 }
+        ensures coded { Opened self.entry → x < self.entry.n → most_edges ≤ length codes.old
+            → Coded self.entry x list.now codes.new }
+        ensures kept_past { (i : ℕ) → self.entry.k ≤ i → get_or codes.new i 0 ≡ get_or codes.old i 0 }
     {
-        let mut e = self.open_below(x, self.k);
-        while 0 < e {
-            put64(e - 1, self.code_of(x, e - 1, list), codes);
-            e = self.open_below(x, e - 1);
+        for e in self.open(x) {
+            put(codes, e, self.code_of(x, e, list));
         }
     }
 
@@ -170,307 +145,176 @@ impl Graph<'_> {
     // Is edge f at y alike to edge e at x? Where the two are paired no share needs to be weighed.
     fn is_answer(self, x: usize, e: usize, y: usize, f: usize, list: &[u64]) -> bool
         requires { (x < most_items) × (e < most_edges) × (y < most_items) × (f < most_edges) }
-        ensures { result ≡ edges_alike list.now self.entry.resets.now self.entry.spots.now self.entry.rows.now x e y f }
+        ensures { result ≡ edges_alike self.entry list.now x e y f }
     {
-        if self.is_paired(x, e, y, f, list) {
-            return true;
-        }
-        self.edges_alike(x, e, y, f, list)
+        self.is_paired(x, e, y, f, list) || self.edges_alike(x, e, y, f, list)
     }
 
-    // Looks for an edge at y that answers to edge e at x: the number after it, and 0 where there is none. Only edges with the code given
-    // are compared with it.
-    fn find_answer(
-        self,
-        x: usize,
-        e: usize,
-        y: usize,
-        code: u64,
-        list: &[u64],
-        codes: &[u64],
-    ) -> usize
-        requires { (self.k ≤ most_edges) × (x < most_items) × (e < self.k) × (y < most_items) }
-        ensures { (n : ℕ) → Opened n self.entry.k self.entry.flags.now → y < n
-            → Coded self.entry.k y list.now self.entry.flags.now self.entry.resets.now self.entry.spots.now self.entry.rows.now
-            codes.now
-            → ToldBy self.entry.k list.now self.entry.flags.now self.entry.resets.now self.entry.spots.now self.entry.rows.now x e y
-            code
-            → Found self.entry.k list.now self.entry.flags.now self.entry.resets.now self.entry.spots.now self.entry.rows.now x e y
-            result }
+    // Looks for an edge of the other side that answers to edge e at x. Only edges with the code given are compared with it.
+    fn find_answer(self, x: usize, e: usize, code: u64, other: Side, list: &[u64]) -> Option<usize>
+        requires { (self.k ≤ most_edges) × (x < most_items) × (e < self.k) × (other.item < most_items) }
+        ensures { Opened self.entry → other.entry.item < self.entry.n
+            → Coded self.entry other.entry.item list.now other.entry.codes.now
+            → ToldBy self.entry list.now x e other.entry.item code
+            → Found self.entry list.now x e other.entry.item result }
     {
-        let mut f = self.open_below(y, self.k);
-        while 0 < f {
-            if at64(codes, f - 1) == code {
-                if self.is_answer(x, e, y, f - 1, list) {
-                    return f;
-                }
+        for f in self.open(other.item) {
+            if at(other.codes, f, 0) == code && self.is_answer(x, e, other.item, f, list) {
+                return Some(f);
             }
-            f = self.open_below(y, f - 1);
         }
-        0
+        None
     }
 
     // Is edge e available at y too, and paired with itself at x? Nothing is said where the answer is no.
     fn is_own_pair(self, x: usize, e: usize, y: usize, list: &[u64]) -> bool
         requires { (x < most_items) × (e < most_edges) × (y < most_items) }
-        ensures { result ≡ true → (n k : ℕ) → Opened n k self.entry.flags.now → y < n → e < k
-            → answers list.now self.entry.flags.now self.entry.resets.now self.entry.spots.now
-            self.entry.rows.now x e y e ≡ true }
+        ensures { IsTrue result → answers self.entry list.now x e y e ≡ true }
     {
-        if self.open_below(y, e + 1) != e + 1 {
-            return false;
-        }
-        self.is_paired(x, e, y, e, list)
+        self.is_open(y, e) && self.is_paired(x, e, y, e, list)
     }
 
-    // The code of edge e at item y. Where the edge is paired with itself at an item whose codes are given, it is borrowed from there.
-    fn borrow_code(self, paired: bool, y: usize, e: usize, list: &[u64], ones: &[u64]) -> u64
-        requires { (y < most_items) × (e < most_edges) }
-        ensures { (paired ≡ true → get_or ones.now e 0
-            ≡ code_of list.now self.entry.resets.now self.entry.spots.now self.entry.rows.now y e)
-            → result ≡ code_of list.now self.entry.resets.now self.entry.spots.now self.entry.rows.now y e }
-    {
-        if paired {
-            return at64(ones, e);
-        }
-        self.code_of(y, e, list)
-    }
-
-    // The codes of the edges that are available at y, where those at x are given. An edge that is paired with itself has the code that it
-    // has at x, and is marked in `own`.
+    // Lists the codes of the edges that are available at y, by those of another side. An edge that is paired with itself has the code that
+    // it has there, and is marked in `own`.
     pub(crate) fn borrow_codes(
         self,
-        x: usize,
+        one: Side,
         y: usize,
         list: &[u64],
-        ones: &[u64],
         codes: &mut [u64],
         own: &mut [u8],
     )
-        requires { (self.k ≤ most_edges) × (x < most_items) × (y < most_items) }
-        ensures codes_len_unchanged { (length codes.new ≡ length codes.old) × (length own.new ≡ length own.old) }
-        ensures by_index { (n : ℕ) → Opened n self.entry.k self.entry.flags.now → x < n → y < n → most_edges ≤ length codes.old
-            → Coded self.entry.k x list.now self.entry.flags.now self.entry.resets.now self.entry.spots.now self.entry.rows.now
-            ones.now
-            → Told self.entry.k list.now self.entry.flags.now self.entry.resets.now self.entry.spots.now self.entry.rows.now y x
-            → Own self.entry.k list.now self.entry.flags.now self.entry.resets.now self.entry.spots.now self.entry.rows.now x y
-            own.old
-            → Coded self.entry.k y list.now self.entry.flags.now self.entry.resets.now self.entry.spots.now self.entry.rows.now
-            codes.new
-            × Own self.entry.k list.now self.entry.flags.now self.entry.resets.now self.entry.spots.now self.entry.rows.now x y
-            own.new }
+        requires { (self.k ≤ most_edges) × (one.item < most_items) × (y < most_items) }
+        ensures { Opened self.entry → one.entry.item < self.entry.n → y < self.entry.n → most_edges ≤ length codes.old
+            → Coded self.entry one.entry.item list.now one.entry.codes.now
+            → Told self.entry list.now y one.entry.item
+            → Own self.entry list.now one.entry.item y own.old
+            → Coded self.entry y list.now codes.new × Own self.entry list.now one.entry.item y own.new }
     {
-        let mut e = self.open_below(y, self.k);
-        while 0 < e {
-            let paired = self.is_own_pair(y, e - 1, x, list);
-            put64(e - 1, self.borrow_code(paired, y, e - 1, list, ones), codes);
-            mark_if(paired, e - 1, own);
-            e = self.open_below(y, e - 1);
+        for e in self.open(y) {
+            if self.is_own_pair(y, e, one.item, list) {
+                put(codes, e, at(one.codes, e, 0));
+                put(own, e, 1);
+            } else {
+                put(codes, e, self.code_of(y, e, list));
+            }
         }
     }
 
-    // The codes of the edges that are available at x are put on the shelf, unless they are there.
+    // Puts the codes of the edges that are available at x on the shelf, unless they are there.
     pub(crate) fn shelve(self, x: usize, list: &[u64], shelf: &mut [u64])
         requires { (self.k ≤ most_edges) × (x < most_items) }
-        ensures shelf_len_unchanged { length shelf.new ≡ length shelf.old }
-        ensures by_index { (n : ℕ) → Opened n self.entry.k self.entry.flags.now → x < n
-            → Shelved self.entry.k list.now self.entry.flags.now self.entry.resets.now self.entry.spots.now self.entry.rows.now
-            shelf.old
-            → Shelved self.entry.k list.now self.entry.flags.now self.entry.resets.now self.entry.spots.now self.entry.rows.now
-            shelf.new
-            × Coded self.entry.k x list.now self.entry.flags.now self.entry.resets.now self.entry.spots.now self.entry.rows.now
-            shelf.new }
+        ensures shelved { Opened self.entry → x < self.entry.n → Shelved self.entry list.now shelf.old
+            → Shelved self.entry list.now shelf.new × Coded self.entry x list.now shelf.new }
         ensures kept_past { KeptPast shelf.old shelf.new }
     {
-        let after = (x as u64) + 1;
-        if at64(shelf, 128) == after {
+        let after = x as u64 + 1;
+        if at(shelf, 128, 0) == after {
             return;
         }
         self.list_codes(x, list, shelf);
-        put64(128, after, shelf);
+        put(shelf, 128, after);
     }
 
-    // The number after an edge at y that answers to edge e at x, and 0 where there is none. Where edge e is marked as its own pair, it is
-    // itself the answer.
+    // Looks for an edge of the other side that answers to edge e of one side. Where edge e is marked as its own pair, it is itself the
+    // answer.
     fn seek_answer(
         self,
-        x: usize,
+        one: Side,
         e: usize,
-        y: usize,
+        other: Side,
         list: &[u64],
-        ones: &[u64],
-        others: &[u64],
         own: &[u8],
-    ) -> usize
-        requires { (self.k ≤ most_edges) × (x < most_items) × (e < self.k) × (y < most_items) }
-        ensures { (n : ℕ) → Opened n self.entry.k self.entry.flags.now → y < n → is_open self.entry.flags.now x e ≡ true
-            → Coded self.entry.k x list.now self.entry.flags.now self.entry.resets.now self.entry.spots.now self.entry.rows.now
-            ones.now
-            → Coded self.entry.k y list.now self.entry.flags.now self.entry.resets.now self.entry.spots.now self.entry.rows.now
-            others.now
-            → Told self.entry.k list.now self.entry.flags.now self.entry.resets.now self.entry.spots.now self.entry.rows.now x y
-            → Own self.entry.k list.now self.entry.flags.now self.entry.resets.now self.entry.spots.now self.entry.rows.now x y
-            own.now
-            → Found self.entry.k list.now self.entry.flags.now self.entry.resets.now self.entry.spots.now self.entry.rows.now x e y
-            result }
+    ) -> Option<usize>
+        requires { (self.k ≤ most_edges) × (one.item < most_items) × (e < self.k) × (other.item < most_items) }
+        ensures { Opened self.entry → other.entry.item < self.entry.n → is_open self.entry one.entry.item e ≡ true
+            → Coded self.entry one.entry.item list.now one.entry.codes.now
+            → Coded self.entry other.entry.item list.now other.entry.codes.now
+            → Told self.entry list.now one.entry.item other.entry.item
+            → Own self.entry list.now one.entry.item other.entry.item own.now
+            → Found self.entry list.now one.entry.item e other.entry.item result }
     {
-        if is_set(own, e) {
-            return e + 1;
+        if at(own, e, 0) == 1 {
+            return Some(e);
         }
-        self.find_answer(x, e, y, at64(ones, e), list, others)
+        self.find_answer(one.item, e, at(one.codes, e, 0), other, list)
     }
 
-    // Has each edge available at x an answer at y? The codes are given, and which edges are their own pairs. The edges at y that are
-    // found to answer are marked in `met`.
-    fn edges_match(
-        self,
-        x: usize,
-        y: usize,
-        list: &[u64],
-        ones: &[u64],
-        others: &[u64],
-        own: &[u8],
-        met: &mut [u8],
-    ) -> bool
-        requires { (self.k ≤ most_edges) × (x < most_items) × (y < most_items) }
-        ensures met_len_unchanged { length met.new ≡ length met.old }
-        ensures by_index { (n : ℕ) → Opened n self.entry.k self.entry.flags.now → x < n → y < n
-            → Coded self.entry.k x list.now self.entry.flags.now self.entry.resets.now self.entry.spots.now self.entry.rows.now
-            ones.now
-            → Coded self.entry.k y list.now self.entry.flags.now self.entry.resets.now self.entry.spots.now self.entry.rows.now
-            others.now
-            → Told self.entry.k list.now self.entry.flags.now self.entry.resets.now self.entry.spots.now self.entry.rows.now x y
-            → Own self.entry.k list.now self.entry.flags.now self.entry.resets.now self.entry.spots.now self.entry.rows.now x y
-            own.now
-            → Met self.entry.k list.now self.entry.flags.now self.entry.resets.now self.entry.spots.now self.entry.rows.now y x
-            met.old
-            → (result ≡ edges_answered self.entry.k list.now self.entry.flags.now self.entry.resets.now self.entry.spots.now
-            self.entry.rows.now x y)
-            × Met self.entry.k list.now self.entry.flags.now self.entry.resets.now self.entry.spots.now self.entry.rows.now y x
-            met.new }
+    // Has each edge that is available on one side an answer on the other? The edges that are found to answer are marked in `met`.
+    fn edges_match(self, one: Side, other: Side, list: &[u64], own: &[u8], met: &mut [u8]) -> bool
+        requires { (self.k ≤ most_edges) × (one.item < most_items) × (other.item < most_items) }
+        ensures { Opened self.entry → one.entry.item < self.entry.n → other.entry.item < self.entry.n
+            → Coded self.entry one.entry.item list.now one.entry.codes.now
+            → Coded self.entry other.entry.item list.now other.entry.codes.now
+            → Told self.entry list.now one.entry.item other.entry.item
+            → Own self.entry list.now one.entry.item other.entry.item own.now
+            → Met self.entry list.now other.entry.item one.entry.item met.old
+            → (result ≡ edges_answered self.entry list.now one.entry.item other.entry.item)
+            × Met self.entry list.now other.entry.item one.entry.item met.new }
     {
-        let mut e = self.open_below(x, self.k);
-        while 0 < e {
-            let f = self.seek_answer(x, e - 1, y, list, ones, others, own);
-            if f == 0 {
-                return false;
+        for e in self.open(one.item) {
+            match self.seek_answer(one, e, other, list, own) {
+                Some(f) => put(met, f, 1),
+                None => return false,
             }
-            set_mark(f - 1, met);
-            e = self.open_below(x, e - 1);
         }
         true
     }
 
     // Are all edges that are available at x marked? Nothing is said where the answer is no.
     fn are_all_met(self, x: usize, met: &[u8]) -> bool
-        requires { (self.k ≤ most_edges) × (x < most_items) }
-        ensures { result ≡ true → (n : ℕ) → Opened n self.entry.k self.entry.flags.now → x < n
-            → (e : ℕ) → e < self.entry.k → is_open self.entry.flags.now x e ≡ true → get_or met.now e 0 ≡ 1 }
+        requires { self.k ≤ most_edges }
+        ensures { IsTrue result → Opened self.entry → x < self.entry.n
+            → (e : ℕ) → e < self.entry.k → is_open self.entry x e ≡ true → get_or met.now e 0 ≡ 1 }
     {
-        let mut e = self.open_below(x, self.k);
-        while 0 < e {
-            if !is_set(met, e - 1) {
-                return false;
-            }
-            e = self.open_below(x, e - 1);
-        }
-        true
+        self.open(x).all(|e| at(met, e, 0) == 1)
     }
 
-    // Has edge e, which is available at x, an answer at y? It has where it is marked.
-    fn is_met(
-        self,
-        x: usize,
-        e: usize,
-        y: usize,
-        list: &[u64],
-        ones: &[u64],
-        others: &[u64],
-        met: &[u8],
-    ) -> bool
-        requires { (self.k ≤ most_edges) × (x < most_items) × (e < self.k) × (y < most_items) }
-        ensures { (n : ℕ) → Opened n self.entry.k self.entry.flags.now → x < n → y < n → is_open self.entry.flags.now x e ≡ true
-            → Coded self.entry.k x list.now self.entry.flags.now self.entry.resets.now self.entry.spots.now
-            self.entry.rows.now ones.now
-            → Coded self.entry.k y list.now self.entry.flags.now self.entry.resets.now self.entry.spots.now
-            self.entry.rows.now others.now
-            → Told self.entry.k list.now self.entry.flags.now self.entry.resets.now self.entry.spots.now self.entry.rows.now x y
-            → Met self.entry.k list.now self.entry.flags.now self.entry.resets.now self.entry.spots.now self.entry.rows.now x y
-            met.now
-            → result ≡ some_answers self.entry.k list.now self.entry.flags.now self.entry.resets.now self.entry.spots.now
-            self.entry.rows.now x e y }
+    // Has edge e of one side an answer on the other? It has where it is marked.
+    fn is_met(self, one: Side, e: usize, other: Side, list: &[u64], met: &[u8]) -> bool
+        requires { (self.k ≤ most_edges) × (one.item < most_items) × (e < self.k) × (other.item < most_items) }
+        ensures { Opened self.entry → one.entry.item < self.entry.n → other.entry.item < self.entry.n
+            → is_open self.entry one.entry.item e ≡ true
+            → Coded self.entry one.entry.item list.now one.entry.codes.now
+            → Coded self.entry other.entry.item list.now other.entry.codes.now
+            → Told self.entry list.now one.entry.item other.entry.item
+            → Met self.entry list.now one.entry.item other.entry.item met.now
+            → result ≡ some_answers self.entry list.now one.entry.item e other.entry.item }
     {
-        if is_set(met, e) {
-            return true;
-        }
-        let code = at64(ones, e);
-        0 < self.find_answer(x, e, y, code, list, others)
+        at(met, e, 0) == 1
+            || self
+                .find_answer(one.item, e, at(one.codes, e, 0), other, list)
+                .is_some()
     }
 
-    // Has each edge available at x an answer at y? Those that are marked have.
-    fn rest_match(
-        self,
-        x: usize,
-        y: usize,
-        list: &[u64],
-        ones: &[u64],
-        others: &[u64],
-        met: &[u8],
-    ) -> bool
-        requires { (self.k ≤ most_edges) × (x < most_items) × (y < most_items) }
-        ensures { (n : ℕ) → Opened n self.entry.k self.entry.flags.now → x < n → y < n
-            → Coded self.entry.k x list.now self.entry.flags.now self.entry.resets.now self.entry.spots.now
-            self.entry.rows.now ones.now
-            → Coded self.entry.k y list.now self.entry.flags.now self.entry.resets.now self.entry.spots.now
-            self.entry.rows.now others.now
-            → Told self.entry.k list.now self.entry.flags.now self.entry.resets.now self.entry.spots.now self.entry.rows.now x y
-            → Met self.entry.k list.now self.entry.flags.now self.entry.resets.now self.entry.spots.now self.entry.rows.now x y
-            met.now
-            → result ≡ edges_answered self.entry.k list.now self.entry.flags.now self.entry.resets.now self.entry.spots.now
-            self.entry.rows.now x y }
+    // Has each edge that is available on one side an answer on the other? Those that are marked have.
+    fn rest_match(self, one: Side, other: Side, list: &[u64], met: &[u8]) -> bool
+        requires { (self.k ≤ most_edges) × (one.item < most_items) × (other.item < most_items) }
+        ensures { Opened self.entry → one.entry.item < self.entry.n → other.entry.item < self.entry.n
+            → Coded self.entry one.entry.item list.now one.entry.codes.now
+            → Coded self.entry other.entry.item list.now other.entry.codes.now
+            → Told self.entry list.now one.entry.item other.entry.item
+            → Met self.entry list.now one.entry.item other.entry.item met.now
+            → result ≡ edges_answered self.entry list.now one.entry.item other.entry.item }
     {
-        let mut e = self.open_below(x, self.k);
-        while 0 < e {
-            if !self.is_met(x, e - 1, y, list, ones, others, met) {
-                return false;
-            }
-            e = self.open_below(x, e - 1);
-        }
-        true
+        self.open(one.item)
+            .all(|e| self.is_met(one, e, other, list, met))
     }
 
-    // Has each edge available at x an answer at y, and each one at y one at x? The codes are given, and which edges are their own pairs.
-    pub(crate) fn edges_agree(
-        self,
-        x: usize,
-        y: usize,
-        list: &[u64],
-        ones: &[u64],
-        others: &[u64],
-        own: &[u8],
-    ) -> bool
-        requires { (self.k ≤ most_edges) × (x < most_items) × (y < most_items) }
-        ensures { (n : ℕ) → Opened n self.entry.k self.entry.flags.now → x < n → y < n
-            → Coded self.entry.k x list.now self.entry.flags.now self.entry.resets.now self.entry.spots.now self.entry.rows.now
-            ones.now
-            → Coded self.entry.k y list.now self.entry.flags.now self.entry.resets.now self.entry.spots.now self.entry.rows.now
-            others.now
-            → Told self.entry.k list.now self.entry.flags.now self.entry.resets.now self.entry.spots.now self.entry.rows.now x y
-            → Told self.entry.k list.now self.entry.flags.now self.entry.resets.now self.entry.spots.now self.entry.rows.now y x
-            → Own self.entry.k list.now self.entry.flags.now self.entry.resets.now self.entry.spots.now self.entry.rows.now x y
-            own.now
-            → result ≡ (edges_answered self.entry.k list.now self.entry.flags.now self.entry.resets.now self.entry.spots.now
-            self.entry.rows.now x y
-            && edges_answered self.entry.k list.now self.entry.flags.now self.entry.resets.now self.entry.spots.now self.entry.rows.now
-            y x) }
+    // Has each edge that is available on either side an answer on the other? It is given which edges are their own pairs.
+    pub(crate) fn edges_agree(self, one: Side, other: Side, list: &[u64], own: &[u8]) -> bool
+        requires { (self.k ≤ most_edges) × (one.item < most_items) × (other.item < most_items) }
+        ensures { Opened self.entry → one.entry.item < self.entry.n → other.entry.item < self.entry.n
+            → Coded self.entry one.entry.item list.now one.entry.codes.now
+            → Coded self.entry other.entry.item list.now other.entry.codes.now
+            → Told self.entry list.now one.entry.item other.entry.item
+            → Told self.entry list.now other.entry.item one.entry.item
+            → Own self.entry list.now one.entry.item other.entry.item own.now
+            → result ≡ (edges_answered self.entry list.now one.entry.item other.entry.item
+            && edges_answered self.entry list.now other.entry.item one.entry.item) }
     {
         let mut met = [0u8; 128];
-        if !self.edges_match(x, y, list, ones, others, own, &mut met) {
-            return false;
-        }
-        if self.are_all_met(y, &met) {
-            return true;
-        }
-        self.rest_match(y, x, list, others, ones, &met)
+        self.edges_match(one, other, list, own, &mut met)
+            && (self.are_all_met(other.item, &met) || self.rest_match(other, one, list, &met))
     }
 }

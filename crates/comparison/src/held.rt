@@ -1,9 +1,13 @@
 // A finite structure in slices.
-ghost use Rattle.std.specs.Prelude.{ℕ, ◌<◌, ◌≤◌, ◌≡◌, true, false};
-ghost use Rattle.comparison.specs.Held.{most_items, most_edges, target_at, is_inside, target_of};
-ghost use Rattle.comparison.specs.Held.{open_below, is_open, Opened, told_at, open_edge};
+ghost use Rattle.std.specs.Prelude.{ℕ, ◌+◌, ◌*◌, ◌<◌, ◌≤◌, ◌≡◌, ◌↔◌, IsTrue, true, false, Some, length, List, [], IsSome};
+ghost use Rattle.std.specs.Iterator.{YieldsFirst, item_count, at_most};
+ghost use Rattle.comparison.specs.Held.{most_items, most_edges};
+ghost use Rattle.comparison.specs.Held.{told_at, open_edge};
+ghost use Rattle.comparison.specs.Walks.{flags_below, OpenStep, delays_left};
+ghost use Rattle.comparison.specs.Graphs.{after, chain, is_open, action, whole, count, weight, target_at, target_of};
 
-use crate::slices::{at16, byte_at};
+use crate::numbers::byte_at;
+use slices::at;
 
 // A finite structure with `n` items and `k` edges, in slices: of each item its label, and what follows it by delay (`nexts`); at each item
 // and edge, the number after the last available edge up to there (`flags`); of each edge, one row. The target of a branch is found in two
@@ -20,35 +24,144 @@ pub struct Graph<'a> {
     pub rows: &'a [u16],
 }
 
-// Is there an item x, an edge e and a branch i, by the most that there may be?
-fn is_inside(x: usize, e: usize, i: usize) -> bool
-    ensures { result ≡ is_inside x e i }
-{
-    if 4096 <= x {
-        return false;
-    }
-    if 128 <= e {
-        return false;
-    }
-    i < 65536
+// The available edges of an item, from the last down. What is left are the flags of the edges before the one that was met last.
+#[derive(Drop)]
+pub struct Open<'a> {
+    pub flags: &'a [u8],
 }
 
-// Are x and y items, of so many items and edges as there may be?
-pub(crate) fn are_items(n: usize, k: usize, x: usize, y: usize) -> bool
-    ensures k_le_most_edges { result ≡ true → (k ≤ most_edges) × (x < most_items) × (y < most_items) }
-    ensures value { n ≤ most_items → k ≤ most_edges → x < n → y < n → result ≡ true }
-    ensures value_2 { (n ≤ x → result ≡ false) × (n ≤ y → result ≡ false) }
-{
-    if 4096 < n {
-        return false;
+impl Iterator for Open<'_> {
+    type Item = usize;
+
+    ghost next_gives = { λ s r t. OpenStep s.flags.now r t.flags.now };
+
+    ghost remaining = { λ s. at_most (length s.flags.now) };
+
+    fn next(&mut self) -> Option<usize> {
+        let after = usize::from(*self.flags.last()?);
+        if self.flags.len() < after {
+            return None;
+        }
+        let e = after.checked_sub(1)?;
+        self.flags = &self.flags[..e];
+        Some(e)
     }
-    if 128 < k {
-        return false;
+}
+
+// An item and what it reaches by delay, one after the other.
+#[derive(Drop)]
+pub struct Delays<'a> {
+    pub n: usize,
+    pub nexts: &'a [u16],
+    pub next: Option<usize>,
+    pub left: usize,
+}
+
+impl Iterator for Delays<'_> {
+    type Item = usize;
+
+    ghost next_gives = { YieldsFirst (λ s. delays_left s.n s.nexts.now s.left s.next) };
+
+    ghost remaining = { item_count (λ s. delays_left s.n s.nexts.now s.left s.next) };
+
+    fn next(&mut self) -> Option<usize> {
+        let item = self.next?;
+        self.next = match self.left.checked_sub(1) {
+            Some(left) => {
+                self.left = left;
+                let next = usize::from(at(self.nexts, item, 0));
+                (next < self.n).then_some(next)
+            }
+            None => None,
+        };
+        Some(item)
     }
-    if n <= x {
-        return false;
+}
+
+impl<'a> Graph<'a> {
+    // Are x and y items, of so many items and edges as there may be?
+    pub(crate) fn has(self, x: usize, y: usize) -> bool
+        ensures { IsTrue result ↔ ((self.entry.n ≤ most_items) × (self.entry.k ≤ most_edges)
+            × (x < self.entry.n) × (y < self.entry.n)) }
+    {
+        self.n <= 4096 && self.k <= 128 && x < self.n && y < self.n
     }
-    y < n
+
+    // Tells what follows item x by delay, if anything does.
+    pub fn after(self, x: usize) -> Option<usize>
+        ensures { result ≡ after self.entry x }
+    {
+        let next = usize::from(at(self.nexts, x, 0));
+        if next < self.n { Some(next) } else { None }
+    }
+
+    // Goes over item x and what it reaches by delay.
+    pub fn delays(self, x: usize) -> Delays<'a>
+        ensures { delays_left result.n result.nexts.now result.left result.next ≡ chain self.entry x }
+    {
+        Delays {
+            n: self.n,
+            nexts: self.nexts,
+            next: Some(x),
+            left: self.n,
+        }
+    }
+
+    // Goes over the edges that are available at item x, from the last down.
+    pub fn open(self, x: usize) -> Open<'a>
+        ensures { (result.flags.now ≡ flags_below self.entry.flags.now x self.entry.k) × (length result.flags.now ≤ self.entry.k) }
+    {
+        self.open_before(x, self.k)
+    }
+
+    // The same for those before edge e.
+    pub fn open_before(self, x: usize, e: usize) -> Open<'a>
+        ensures { (result.flags.now ≡ flags_below self.entry.flags.now x e) × (length result.flags.now ≤ e) }
+    {
+        let start = x.saturating_mul(128).min(self.flags.len());
+        let flags = &self.flags[start..];
+        Open {
+            flags: flags.get(..e).unwrap_or(&[]),
+        }
+    }
+
+    // Is edge e available at item x?
+    pub(crate) fn is_open(self, x: usize, e: usize) -> bool
+        requires { (x < most_items) × (e < most_edges) }
+        ensures { result ≡ is_open self.entry x e }
+    {
+        usize::from(at(self.flags, 128 * x + e, 0)) == e + 1
+    }
+
+    pub fn action(self, e: usize) -> usize
+        requires { e < most_edges }
+        ensures { (result ≡ action self.entry e) × (result < 65536) }
+    {
+        usize::from(at(self.rows, 32 * e, 0))
+    }
+
+    // The denominator of the shares of edge e.
+    pub fn whole(self, e: usize) -> usize
+        requires { e < most_edges }
+        ensures { (result ≡ whole self.entry e) × (result < 65536) }
+    {
+        usize::from(at(self.rows, 32 * e + 1, 0))
+    }
+
+    // How many branches edge e has.
+    pub fn count(self, e: usize) -> usize
+        requires { e < most_edges }
+        ensures { (result ≡ count self.entry e) × (result < 65536) }
+    {
+        usize::from(at(self.rows, 32 * e + 2, 0))
+    }
+
+    pub fn weight(self, e: usize, i: usize) -> usize
+        requires { (e < most_edges) × (i < 65536) }
+        ensures { (result ≡ weight self.entry e i) × (result < 65536) }
+    {
+        usize::from(at(self.rows, 32 * e + 3 + 3 * i, 0))
+    }
 }
 
 impl Graph<'_> {
@@ -59,19 +172,6 @@ impl Graph<'_> {
     {
         let last = byte_at(self.flags, 128 * x + (e - 1));
         if last <= e { last } else { 0 }
-    }
-
-    // The number after the last edge below e that is available at item x, and 0 where none is.
-    pub(crate) fn open_below(self, x: usize, e: usize) -> usize
-        requires { (x < most_items) × (e ≤ most_edges) }
-        ensures upper_bound { result ≤ e }
-        ensures by_index { (n k : ℕ) → Opened n k self.entry.flags.now → x < n → e ≤ k
-            → result ≡ open_below (is_open self.entry.flags.now x) e }
-    {
-        if e == 0 {
-            return 0;
-        }
-        self.told_at(x, e)
     }
 
     // The same for all numbers and all flags (`open_edge`): 0 past the items and edges that there may be, and where the number that stands
@@ -94,21 +194,22 @@ impl Graph<'_> {
     // Where branch i of edge e leads from item x.
     pub(crate) fn target_at(self, x: usize, e: usize, i: usize) -> usize
         requires { (x < most_items) × (e < most_edges) × (i < 65536) }
-        ensures { result ≡ target_at self.entry.resets.now self.entry.spots.now self.entry.rows.now x e i }
+        ensures { result ≡ target_at self.entry x e i }
     {
-        let mask = at16(self.rows, 32 * e + 4 + 3 * i);
-        let spot = at16(self.rows, 32 * e + 5 + 3 * i);
-        let clocks = at16(self.resets, 16 * x + mask);
-        at16(self.spots, 64 * clocks + spot)
+        let mask = usize::from(at(self.rows, 32 * e + 4 + 3 * i, 0));
+        let spot = usize::from(at(self.rows, 32 * e + 5 + 3 * i, 0));
+        let clocks = usize::from(at(self.resets, 16 * x + mask, 0));
+        usize::from(at(self.spots, 64 * clocks + spot, 0))
     }
 
     // The same for all numbers: 0 past the items, edges and branches that there may be.
     pub fn target_of(self, x: usize, e: usize, i: usize) -> usize
-        ensures { result ≡ target_of self.entry.resets.now self.entry.spots.now self.entry.rows.now x e i }
+        ensures { result ≡ target_of self.entry x e i }
     {
-        if !is_inside(x, e, i) {
-            return 0;
+        if x < 4096 && e < 128 && i < 65536 {
+            self.target_at(x, e, i)
+        } else {
+            0
         }
-        self.target_at(x, e, i)
     }
 }

@@ -8,9 +8,10 @@ mod compare;
 mod held;
 mod keys;
 mod next;
-mod slices;
+mod numbers;
+mod shares;
 mod twins;
 
 pub use held::Graph;
 pub use keys::forget_keys;
-pub use slices::{at16, at64, index_at, is_clear, is_set};
+pub use numbers::{at16, at64, index_at, is_clear, is_set};

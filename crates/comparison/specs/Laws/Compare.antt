@@ -295,7 +295,7 @@ product_small a b h k =
 -- ---- Shares at the targets
 
 -- Related items have the same shares.
-sum_same : (list : List ℕ) (t c : ℕ) → related list t c ≡ true → (l : List (Branch ℕ)) → sum list t l ≡ sum list c l
+pub sum_same : (list : List ℕ) (t c : ℕ) → related list t c ≡ true → (l : List (Branch ℕ)) → sum list t l ≡ sum list c l
 sum_same list t c e l = go l
   where
     same : get_or list t 0 ≡ get_or list c 0

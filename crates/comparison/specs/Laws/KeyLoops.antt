@@ -2,7 +2,7 @@
 use Rattle.std.specs.Prelude.{ℕ, zero, suc, ◌+◌, ◌*◌, ◌-◌, ◌%◌, ◌≤◌, ◌<◌, ◌≡◌, Bool, true, false, ◌&&◌}
 use Rattle.std.specs.Prelude.{◌||◌, List, [], ◌∷◌, ◌⊎◌, ltb, length, get_or, set, replicate}
 use Rattle.std.proofs.Common.{arith, mul-le-mul, mod-lt, mod-eq_of_lt, add-one, ◌∙◌, ap₂, subst, inl, inr, length-set, get_or-set_same}
-use Rattle.std.proofs.Common.{get_or-set_other, eq-eqb, ne_eqb, lt-ltb, eqb-true, ltb-true, ltb-false}
+use Rattle.std.proofs.Common.{get_or-set_other, eq-eqb, ne_eqb, eqb-true, ltb-true, ltb-false}
 use Rattle.std.proofs.Math.Path.{refl, sym, ap}
 use Rattle.std.proofs.Math.Bool.{cond, not}
 use Rattle.std.proofs.Math.Dec.{eqb}
@@ -13,7 +13,7 @@ use Rattle.comparison.specs.Held.{most_items, chain, open_below, is_open}
 use Rattle.comparison.specs.Keys.{sum_below, scatter, delay_room, delay_mark, is_reached, delay_key, code_of, is_new, key_of}
 use Rattle.comparison.specs.Keys.{Known, AskedFor, BothAsked, Coded}
 use Rattle.comparison.specs.Keys.{ForgottenAt, Forgotten, keys_after}
-use Rattle.comparison.specs.Laws.Compare.{some-agree, any_here, any_none, any_last}
+use Rattle.comparison.specs.Laws.Compare.{some-agree}
 use Rattle.comparison.specs.Laws.Keys.{sum-agree, sum-flip, sum-most, code_bound, code-small}
 use Rattle.comparison.specs.Laws.Down.{Down, none_open, down-on}
 use Rattle.comparison.specs.Laws.Steps.{below_one, cond_yes, cond_no, zeros-at}
@@ -94,11 +94,11 @@ count_of marks u = cond (is_marked marks u) (scatter u) 0
 abbrev pub mark_sum : List ℕ → ℕ
 mark_sum marks = sum_below delay_room (count_of marks)
 
--- With so many steps left, at an item: the blocks that x reaches are those that are marked and those that are still to be met.
-pub record Marking (n : ℕ) (list nexts : List ℕ) (x : ℕ) (marks : List ℕ) (total left at : ℕ) : Type 0 where
+-- With these items left: the blocks that x reaches are those that are marked and those that are still to be met.
+pub record Marking (n : ℕ) (list nexts : List ℕ) (x : ℕ) (marks : List ℕ) (total : ℕ) (left : List ℕ) : Type 0 where
   pub room : length marks ≡ delay_room
   pub counted : total ≡ mark_sum marks
-  pub reached : (u : ℕ) → (is_marked marks u || any_of (is_in list u) (chain n nexts left at)) ≡ is_reached n list nexts x u
+  pub reached : (u : ℕ) → (is_marked marks u || any_of (is_in list u) left) ≡ is_reached n list nexts x u
 
 marks-small : (marks : List ℕ) → mark_sum marks ≤ 536868864
 marks-small marks = sum-most delay_room 1048572 (count_of marks) (λ u _. go u (is_marked marks u))
@@ -156,76 +156,49 @@ marks-on marks v total w room h counted added = go (both (is_marked marks v))
         let some : w ≡ scatter v = added ∙ cond_no (is_marked marks v) 0 (scatter v) f in
         rw (counted, some) (sym (sum-flip delay_room (is_marked marks) (is_marked (set marks v 1)) scatter v h f here other))
 
-module _ (n : ℕ) (nexts : List ℕ) (p : ℕ → Bool) where
-  any-on : (left x y : ℕ) → 0 < left → y ≡ get_or nexts x 0 → y < n
-      → any_of p (chain n nexts left x) ≡ (p x || any_of p (chain n nexts (left - 1) y))
-  any-on zero x y h q k = absurd (omega arith)
-  any-on (suc left) x y h q k = let less : suc left - 1 ≡ left = omega arith in rw (← q, lt-ltb y n k, less) refl
-
-  any-off : (left x y : ℕ) → 0 < left → y ≡ get_or nexts x 0 → n ≤ y → any_of p (chain n nexts left x) ≡ p x
-  any-off left x y h q k = go (both (p x))
-    where
-      go : (p x ≡ true) ⊎ (p x ≡ false) → any_of p (chain n nexts left x) ≡ p x
-      go (inl t) = any_here n nexts p left x t ∙ sym t
-      go (inr f) = any_none n nexts p left x y h f q k ∙ sym f
-
 module _ (n : ℕ) (list nexts : List ℕ) (x : ℕ) where
-  pub marking-none : (marks : List ℕ) → length marks ≡ delay_room → Clear marks → Marking n list nexts x marks 0 n x
+  pub marking-none : (marks left : List ℕ) → length marks ≡ delay_room → Clear marks → left ≡ chain n nexts n x
+      → Marking n list nexts x marks 0 left
   unfolding is_reached
-  marking-none marks room clear =
+  marking-none marks left room clear all =
       record {
         room = room;
         counted = sym (marks-none marks clear);
-        reached = λ u. ap (λ (b : Bool). b || any_of (is_in list u) (chain n nexts n x)) (clear u);
+        reached = λ u. rw all (ap (λ (b : Bool). b || any_of (is_in list u) (chain n nexts n x)) (clear u));
       }
 
-  pub marking-small : (marks : List ℕ) (total left at : ℕ) → Marking n list nexts x marks total left at → total ≤ 536868864
-  marking-small marks total left at marking = let small = marks-small marks in let e = marking.counted in omega arith
+  module _ (marks : List ℕ) (total : ℕ) (left : List ℕ) (marking : Marking n list nexts x marks total left) where
+    pub marking-small : total ≤ 536868864
+    marking-small = let small = marks-small marks in let e = marking.counted in omega arith
 
-  module _ (marks : List ℕ) (total left at v w : ℕ) (marking : Marking n list nexts x marks total left at)
-      (hv : v < delay_room) (ev : v ≡ delay_mark list at) (ew : w ≡ cond (is_marked marks v) 0 (scatter v)) where
-    inside : v < length marks
-    inside = let room = marking.room in omega arith
-
-    added : total + w ≡ mark_sum (set marks v 1)
-    added = marks-on marks v total w marking.room hv marking.counted ew
-
-    pub marked-small : total + w < 4294967296
-    marked-small = let small = marks-small (set marks v 1) in let e = added in omega arith
-
-    pub marking-on : (y : ℕ) → 0 < left → y ≡ get_or nexts at 0 → y < n
-        → Marking n list nexts x (set marks v 1) (total + w) (left - 1) y
-    marking-on y h q k =
+    -- One more item is met, in block v, which counts w.
+    pub marking-on : (at : ℕ) (left' : List ℕ) (v w : ℕ) → left ≡ at ∷ left' → v < delay_room → v ≡ delay_mark list at
+        → w ≡ cond (is_marked marks v) 0 (scatter v) → Marking n list nexts x (set marks v 1) (total + w) left'
+    marking-on at left' v w step hv ev ew =
+        let room = marking.room in
+        let inside : v < length marks = omega arith in
         record {
           room = length-set marks v 1 ∙ marking.room;
-          counted = added;
+          counted = marks-on marks v total w marking.room hv marking.counted ew;
           reached =
               λ u.
-              ap (λ (b : Bool). b || any_of (is_in list u) (chain n nexts (left - 1) y)) (marked-test marks v inside u)
-              ∙ or_assoc (is_marked marks u) (eqb u v) (any_of (is_in list u) (chain n nexts (left - 1) y))
-              ∙ ap (λ (m : ℕ). is_marked marks u || (eqb u m || any_of (is_in list u) (chain n nexts (left - 1) y))) ev
-              ∙ ap (λ (b : Bool). is_marked marks u || b) (sym (any-on n nexts (is_in list u) left at y h q k))
+              ap (λ (b : Bool). b || any_of (is_in list u) left') (marked-test marks v inside u)
+              ∙ or_assoc (is_marked marks u) (eqb u v) (any_of (is_in list u) left')
+              ∙ ap (λ (m : ℕ). is_marked marks u || (eqb u m || any_of (is_in list u) left')) ev
+              ∙ ap (λ (l : List ℕ). is_marked marks u || any_of (is_in list u) l) (sym step)
               ∙ marking.reached u;
         }
 
-    -- The chain ends here.
-    over : ((u : ℕ) → any_of (is_in list u) (chain n nexts left at) ≡ eqb u (delay_mark list at))
-        → total + w ≡ delay_key n list nexts x
+    -- All items were met.
+    pub marking-over : left ≡ [] → total ≡ delay_key n list nexts x
     unfolding delay_key
-    over end =
-        added
-        ∙ sum-agree delay_room (count_of (set marks v 1)) (λ u. cond (is_reached n list nexts x u) (scatter u) 0)
+    marking-over end =
+        marking.counted
+        ∙ sum-agree delay_room (count_of marks) (λ u. cond (is_reached n list nexts x u) (scatter u) 0)
         (λ u _. ap (λ (b : Bool). cond b (scatter u) 0)
-        (marked-test marks v inside u
-        ∙ ap (λ (m : ℕ). is_marked marks u || eqb u m) ev
-        ∙ ap (λ (b : Bool). is_marked marks u || b) (sym (end u))
+        (sym (or_no (is_marked marks u) false refl)
+        ∙ ap (λ (l : List ℕ). is_marked marks u || any_of (is_in list u) l) (sym end)
         ∙ marking.reached u))
-
-    pub marking-off : (y : ℕ) → 0 < left → y ≡ get_or nexts at 0 → n ≤ y → total + w ≡ delay_key n list nexts x
-    marking-off y h q k = over (λ u. any-off n nexts (is_in list u) left at y h q k)
-
-    pub marking-last : left ≤ 0 → total + w ≡ delay_key n list nexts x
-    marking-last h = over (λ u. any_last n nexts (is_in list u) left at h)
 
 -- ---- Edges
 

@@ -1,22 +1,17 @@
--- `share_of` meets its contract. Assumes nothing.
-use Prim.Native.Nat.{ℕ, ◌*◌, ◌/◌}
-use native.Mathlib.Omega.{arith}
-use native.Mathlib.Nat.{div-le_self}
-use mathlib.Core.Path.{ap}
-use Rattle.comparison.specs.Keys.{share_of}
+-- `share_of` divides by the denominator, or by 1 where it is 0.
+use Rattle.std.proofs.Common.{arith, ap, sym, ◌∙◌, ne_eqb, ℕ, zero, suc, ◌*◌, ◌/◌, ◌≡◌, max, cond, Bool, refl}
+use Rattle.std.proofs.Math.Nat.{div-le_self}
+use Rattle.comparison.specs.Keys.{share_of, divisor}
 use Rattle.comparison.proofs.codes.share_of.Goals as goal
+
+divisor-is : (w : ℕ) → max w 1 ≡ divisor w
+divisor-is zero = refl
+divisor-is (suc w) =
+    let same : max (suc w) 1 ≡ suc w = omega arith in
+    same ∙ sym (ap (λ (b : Bool). cond b 1 (suc w)) (ne_eqb (suc w) 0 (λ z. absurd (omega arith))))
 
 pub returns : goal.returns
 unfolding share_of
 returns c =
-    let args = c.args in
-    let divisor-of = c.divisor_of in
-    let pre = c.requires in (
-      ap (λ (d : ℕ). (args.weight * 2147483648) / d) divisor-of.ensures.0,
-      omega (
-        arith,
-        pre,
-        div-le_self (args.weight *
-            2147483648) divisor-of.result,
-      ),
-    )
+    let most = div-le_self (c.args.weight * 2147483648) c.max.result in
+    (ap (λ (d : ℕ). c.args.weight * 2147483648 / d) (c.max.ensures ∙ divisor-is c.args.whole), omega arith)

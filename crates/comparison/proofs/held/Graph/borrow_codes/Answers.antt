@@ -1,101 +1,70 @@
--- `borrow_codes` meets its contract. Assumes nothing.
-use Prim.Native.Nat.{◌-◌, ◌<◌}
-use native.Mathlib.Omega.{arith}
-use mathlib.Core.Path.{◌≡◌, refl, ◌∙◌, ap}
-use mathlib.Core.Bool.{true}
-use lib.ListN.{length, length-set}
-use Rattle.comparison.specs.Held.{is_open}
-use Rattle.comparison.specs.Compare.{answers}
-use Rattle.comparison.specs.Laws.Down.{down-first, down-over}
+-- `borrow_codes` keeps the code of each edge that it meets, borrowed or computed.
+use Rattle.std.proofs.Common.{arith, ap, ◌∙◌, refl, length, length-set, true}
+use Rattle.comparison.specs.Graphs.{code_of}
 use Rattle.comparison.specs.Laws.Codes.{own_on, own-told}
-use Rattle.comparison.specs.Laws.KeyLoops.{KeptAt, kept_on}
+use Rattle.comparison.proofs.Laws.Walks.{past-first, past-at, past-over}
+use Rattle.comparison.proofs.Laws.Opens.{past-put}
 use Rattle.comparison.proofs.held.Graph.borrow_codes.Goals as goal
 
 pub loop-e-init : goal.loop-e-init
 loop-e-init c =
-    let open-below = c.open_below-e in
-    let args = c.args in (
-      open-below.ensures.upper_bound,
-      refl,
-      refl,
-      λ n opened hx hy room coded told own. (
-        down-first (is_open args.self.flags.now args.y)
-            (KeptAt args.y args.list.now args.self.resets.now args.self.spots.now args.self.rows.now args.codes.now) args.self.k
-            open-below.result
-            (open-below.ensures.by_index n args.self.k opened hy (omega arith)),
+    let began = c.into_iter-e-iterator.ensures.into_iter_gives in
+    record {
+      few = rw began c.open-e-items.ensures.1;
+      room = refl;
+      kept = λ opened hx hy room coded told own. (
+        past-first opened hy (omega arith) (ap (λ s. s.flags.now) began ∙ c.open-e-items.ensures.0),
         own,
-      ),
-    )
+      );
+    }
 
-pub is_own_pair-paired-requires : goal.is_own_pair-paired-requires
-is_own_pair-paired-requires c =
-    let pre = c.requires in
+pub loop-e-preserved-then-is_own_pair : goal.loop-e-preserved-then-is_own_pair
+loop-e-preserved-then-is_own_pair c =
+    let g = c.args.self in
+    let list = c.args.list.now in
+    let one = c.args.one.item in
+    let y = c.args.y in
     let loop = c.loop-e in
-    let loop-test = c.loop-e-test in
-    (pre.2, omega (arith, loop.invariant.0, pre.0, loop-test.true), pre.1)
-
-pub borrow_code-requires : goal.borrow_code-requires
-borrow_code-requires c =
-    let pre = c.requires in
-    let loop = c.loop-e in
-    let loop-test = c.loop-e-test in
-    (pre.2, omega (arith, loop.invariant.0, pre.0, loop-test.true))
+    let step = c.in-Some.ensures.steps in
+    let e = c.in-Some.e in
+    let answer = c.is_own_pair.ensures c.if-is_own_pair.true in
+    record {
+      few = omega arith;
+      room = ap length c.put.ensures ∙ length-set loop.codes e c.at.result ∙ loop.invariant.room;
+      kept = λ opened hx hy room coded told own.
+          let (past, own') = loop.invariant.kept opened hx hy room coded told own in
+          let ready = past-at past step in (
+            rw c.put.ensures
+                (past-put (code_of g list y) loop.codes c.at.result past step
+                (c.at.ensures
+                ∙ own-told g.k list g.flags.now g.resets.now g.spots.now g.rows.now one y e c.args.one.codes.now coded told (omega arith)
+                ready answer)
+                (omega (arith, loop.invariant.room, loop.invariant.few, room))),
+            rw c.put-then-is_own_pair.ensures
+                (own_on g.k list g.flags.now g.resets.now g.spots.now g.rows.now one y e true loop.own own' ready (λ _. answer)),
+          );
+    }
 
 pub loop-e-preserved : goal.loop-e-preserved
 loop-e-preserved c =
     let loop = c.loop-e in
-    let args = c.args in
-    let loop-test = c.loop-e-test in
-    let open-below2 = c.open_below-e-in-loop-e in
-    let put64 = c.put64 in
-    let borrow-code = c.borrow_code in
-    let mark-if = c.mark_if in
-    let is-own-pair = c.is_own_pair-paired in
-    let pre = c.requires in
-    let below : loop.e - 1 < args.self.k = omega (arith, loop.invariant.0, loop-test.true) in (
-      omega (arith, open-below2.ensures.upper_bound, loop.invariant.0),
-      ap length put64.ensures ∙ length-set loop.codes (loop.e - 1) borrow-code.result ∙ loop.invariant.1,
-      mark-if.ensures.marks_len_unchanged ∙ loop.invariant.2,
-      λ n opened hx hy room coded told own.
-          let (down, own') = loop.invariant.3 n opened hx hy room coded told own in
-          let ready = down.at loop-test.true in
-          let answer : is-own-pair.result ≡ true → answers args.list.now args.self.flags.now args.self.resets.now
-          args.self.spots.now args.self.rows.now
-          args.y (loop.e - 1) args.x (loop.e - 1) ≡ true =
-          λ t. is-own-pair.ensures t n args.self.k opened hx below in (
-            rw put64.ensures (kept_on args.self.k args.y loop.e open-below2.result borrow-code.result args.list.now
-                args.self.flags.now
-                args.self.resets.now args.self.spots.now args.self.rows.now
-                loop.codes loop-test.true (omega (arith, loop.invariant.0, loop.invariant.1, pre.0, room)) down
-                (borrow-code.ensures (λ t. own-told args.self.k args.list.now args.self.flags.now args.self.resets.now
-                args.self.spots.now args.self.rows.now args.x
-                args.y (loop.e - 1) args.ones.now coded told below ready (answer t)))
-                (open-below2.ensures.by_index n args.self.k opened hy (omega (arith, loop.invariant.0)))),
-            rw mark-if.ensures.marks_after (own_on args.self.k args.list.now args.self.flags.now args.self.resets.now
-                args.self.spots.now args.self.rows.now args.x
-                args.y
-                (loop.e - 1) is-own-pair.result loop.own own' ready answer),
-          ),
-    )
-
-pub shape_of-codes : goal.shape_of-codes
-shape_of-codes c = c.loop-e.invariant.1
-
-pub shape_of-own : goal.shape_of-own
-shape_of-own c = c.loop-e.invariant.2
-
-pub returns : goal.returns
-returns c =
-    let loop = c.loop-e in
-    let args = c.args in
-    let loop-test = c.loop-e-test in
+    let step = c.in-Some.ensures.steps in
+    let e = c.in-Some.e in
+    let put = c.put-else-is_own_pair.ensures in
     record {
-      codes_len_unchanged = (loop.invariant.1, loop.invariant.2);
-      by_index = λ n opened hx hy room coded told own.
-          let (down, own') = loop.invariant.3 n opened hx hy room coded told own in (
-            down-over (is_open args.self.flags.now args.y) (KeptAt args.y args.list.now args.self.resets.now args.self.spots.now
-                args.self.rows.now loop.codes)
-                args.self.k loop.e loop-test.false down,
+      few = omega arith;
+      room = ap length put ∙ length-set loop.codes e c.code_of.result ∙ loop.invariant.room;
+      kept = λ opened hx hy room coded told own.
+          let (past, own') = loop.invariant.kept opened hx hy room coded told own in (
+            rw put
+                (past-put (code_of c.args.self c.args.list.now c.args.y) loop.codes c.code_of.result past step c.code_of.ensures.0
+                (omega (arith, loop.invariant.room, loop.invariant.few, room))),
             own',
           );
     }
+
+pub returns : goal.returns
+returns c =
+    λ opened hx hy room coded told own.
+    let (past, own') = c.loop-e.invariant.kept opened hx hy room coded told own in
+    (past-over past c.in-None.ensures.steps, own')

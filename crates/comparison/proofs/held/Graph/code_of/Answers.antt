@@ -1,16 +1,13 @@
--- `code_of` meets its contract. Assumes nothing.
-use Prim.Native.Nat.{ℕ}
-use mathlib.Core.Path.{◌∙◌, ap₂}
-use Rattle.comparison.specs.Keys.{joined, code_of}
+-- `code_of` is the code of a landing of this graph, list and edge.
+use Rattle.std.proofs.Common.{◌∙◌, ◌≡◌}
+use Rattle.comparison.specs.Graphs.{code_of}
 use Rattle.comparison.proofs.held.Graph.code_of.Goals as goal
 
 pub returns : goal.returns
-unfolding code_of
 returns c =
-    let Joined-of = c.joined_of in
-    let at16 = c.at16 in
-    let land-all = c.land_all-sum in
-    let gather = c.gather in (
-      Joined-of.ensures.0 ∙ ap₂ (λ (a m : ℕ). joined a m) at16.ensures.0 (land-all.ensures gather.ensures.gathered),
-      Joined-of.ensures.1,
-    )
+    let one = c.new.ensures in
+    let at = c.new.result in
+    let args = c.args in
+    let same : code_of at.graph at.list.now at.x at.e ≡ code_of args.self args.list.now args.x args.e =
+    λ i. code_of (one.0 i) (one.1 i).now (one.2 i) (one.3 i) in
+    (c.code.ensures.0 ∙ same, c.code.ensures.1)

@@ -1,24 +1,17 @@
--- `edges_match` meets its contract. Assumes nothing.
-use Prim.Native.Nat.{ℕ, ◌≤◌, ◌<◌}
-use mathlib.Core.Path.{◌≡◌}
-use lib.ListN.{length}
-use Rattle.comparison.specs.Held.{is_open, Opened}
-use Rattle.comparison.specs.Keys.{Coded, Told, Own, Met}
-use Rattle.comparison.specs.Laws.Down.{Down}
-use Rattle.comparison.specs.Laws.Codes.{HasAnswer}
+-- The edges that were met have an answer, and those that are marked.
+use Rattle.std.proofs.Common.{◌≤◌, ◌<◌, ◌≡◌, length, true}
+use Rattle.comparison.specs.Graphs.{Opened, Coded, Told, Own, Met, some_answers}
+use Rattle.comparison.proofs.Laws.Walks.{Past}
 use Rattle.comparison.proofs.held.Graph.edges_match.Given as goal
 
 abbrev pub invariant-loop-e : goal.invariant-loop-e
 invariant-loop-e l =
-    (l.e ≤ l.self.k) × (length l.met ≡ length l.initial.met) × ((n : ℕ) → Opened n l.self.k l.self.flags.now → l.x < n → l.y < n
-    → Coded l.self.k l.x l.list l.self.flags.now l.self.resets.now l.self.spots.now l.self.rows.now l.ones →
-    Coded l.self.k l.y l.list l.self.flags.now l.self.resets.now l.self.spots.now l.self.rows.now l.others →
-    Told l.self.k l.list l.self.flags.now l.self.resets.now l.self.spots.now l.self.rows.now l.x l.y → Own l.self.k l.list
-    l.self.flags.now l.self.resets.now l.self.spots.now l.self.rows.now l.x l.y l.own
-    → Met l.self.k l.list l.self.flags.now l.self.resets.now l.self.spots.now l.self.rows.now l.y l.x l.initial.met
-    → Down (is_open l.self.flags.now l.x) (HasAnswer l.self.k l.list l.self.flags.now l.self.resets.now l.self.spots.now
-    l.self.rows.now l.x l.y) l.self.k l.e
-    × Met l.self.k l.list l.self.flags.now l.self.resets.now l.self.spots.now l.self.rows.now l.y l.x l.met)
-
-abbrev pub decreases-loop-e : goal.decreases-loop-e
-decreases-loop-e l = l.e
+    record {
+      few : length l.e-iterator.flags.now ≤ l.self.k;
+      answered : Opened l.self → l.one.item < l.self.n → l.other.item < l.self.n
+          → Coded l.self l.one.item l.list l.one.codes.now → Coded l.self l.other.item l.list l.other.codes.now
+          → Told l.self l.list l.one.item l.other.item → Own l.self l.list l.one.item l.other.item l.own
+          → Met l.self l.list l.other.item l.one.item l.initial.met
+          → Past l.self l.one.item l.self.k (λ e. some_answers l.self l.list l.one.item e l.other.item ≡ true) l.e-iterator.flags.now
+          × Met l.self l.list l.other.item l.one.item l.met;
+    }

@@ -1,25 +1,18 @@
--- `is_met` meets its contract. Assumes nothing.
-use mathlib.Core.Path.{sym, ◌∙◌}
-use borrow.Author.Tests.{eqb-true}
-use Rattle.comparison.specs.Laws.Codes.{told_at_lem, found-tells}
+-- `is_met` tells whether the edge is marked, and else whether a search finds an answer.
+use Rattle.std.proofs.Common.{◌∙◌}
+use Rattle.comparison.specs.Laws.Codes.{told_at_lem}
+use Rattle.comparison.proofs.Laws.Shares.{found-tells}
 use Rattle.comparison.proofs.held.Graph.is_met.Goals as goal
 
-pub returns-then-is_set : goal.returns-then-is_set
-returns-then-is_set c =
+pub returns-else-at-eq1 : goal.returns-else-at-eq1
+returns-else-at-eq1 c =
+    let g = c.args.self in
     let args = c.args in
-    let is_set = c.is_set in
-    let if1 = c.if-is_set in
-    λ n opened hx hy ready one other told met. sym (met args.e (eqb-true _ 1 (sym is_set.ensures ∙ if1.true)))
-
-pub returns : goal.returns
-returns c =
-    let args = c.args in
-    let find-answer = c.find_answer in
-    let at64 = c.at64-code in
-    let pre = c.requires in
-    λ n opened hx hy ready one other told met. found-tells args.self.k args.list.now args.self.flags.now args.self.resets.now
-    args.self.spots.now
-    args.self.rows.now args.x args.e args.y find-answer.result
-    (find-answer.ensures n opened hy other (told_at_lem args.self.k args.list.now args.self.flags.now args.self.resets.now
-    args.self.spots.now args.self.rows.now
-    args.x args.y args.e at64.result args.ones.now told one pre.2 ready at64.ensures))
+    let one = args.one in
+    let other = args.other.item in
+    λ opened hx hy ready coded coded' told met.
+    c.is_some.ensures
+    ∙ found-tells g args.list.now one.item args.e other c.find_answer.result
+    (c.find_answer.ensures opened hy coded'
+    (told_at_lem g.k args.list.now g.flags.now g.resets.now g.spots.now g.rows.now one.item other args.e c.at-else-at-eq1.result
+    one.codes.now told coded c.requires.2 ready c.at-else-at-eq1.ensures))

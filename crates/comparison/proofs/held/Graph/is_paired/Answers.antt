@@ -1,79 +1,18 @@
--- `is_paired` meets its contract. Assumes nothing.
-use Prim.Native.Nat.{ℕ}
-use native.Mathlib.Omega.{arith}
-use mathlib.Core.Path.{refl, sym, ◌∙◌, ap₂}
-use Rattle.bisimulation.specs.Finite.{related}
-use Rattle.bisimulation.proofs.Laws.Tests.{clash}
-use Rattle.comparison.specs.Held.{count_at}
-use Rattle.comparison.specs.Laws.Steps.{each_none, each_on, each_over}
-use Rattle.comparison.specs.Laws.Twins.{Lead, both-alike}
+-- `is_paired` compares the rows, and where each branch leads.
+use Rattle.std.proofs.Common.{rules, ℕ, sym, ◌∙◌, ap}
+use Rattle.bisimulation.specs.Finite.{related, all_below}
+use Rattle.bisimulation.proofs.Laws.Tests.{all-below}
+use Rattle.comparison.specs.Graphs.{count, target_at}
+use Rattle.comparison.specs.Laws.Twins.{both-alike}
+use Rattle.comparison.proofs.Laws.Runs.{all-range}
 use Rattle.comparison.proofs.held.Graph.is_paired.Goals as goal
 
-pub same_row-requires : goal.same_row-requires
-same_row-requires c =
-    let pre = c.requires in
-    (pre.1, pre.3)
-
-pub returns-then-not-same_row : goal.returns-then-not-same_row
-returns-then-not-same_row c = λ t. absurd (clash t refl)
-
-pub loop-i-init : goal.loop-i-init
-loop-i-init c =
-    let args = c.args in (
-      omega arith,
-      each_none (λ (j : ℕ). Lead args.list.now args.self.resets.now args.self.spots.now args.self.rows.now args.x
-          args.e args.y args.f j),
-    )
-
-pub target_at-one-requires : goal.target_at-one-requires
-target_at-one-requires c =
-    let pre = c.requires in
-    let loop-test = c.loop-i-test in
-    let at16 = c.at16-count in
-    (pre.0, pre.1, omega (arith, loop-test.true, at16.ensures.1))
-
-pub target_at-other-requires : goal.target_at-other-requires
-target_at-other-requires c =
-    let pre = c.requires in
-    let loop-test = c.loop-i-test in
-    let at16 = c.at16-count in
-    (pre.2, pre.3, omega (arith, loop-test.true, at16.ensures.1))
-
-pub returns-then-not-is_related : goal.returns-then-not-is_related
-returns-then-not-is_related c = λ t. absurd (clash t refl)
-
-pub overflow_add-i : goal.overflow_add-i
-overflow_add-i c =
-    let loop-test = c.loop-i-test in
-    let at16 = c.at16-count in
-    omega (arith, loop-test.true, at16.ensures.1)
-
-pub loop-i-preserved : goal.loop-i-preserved
-loop-i-preserved c =
+pub returns-then-has_same_row : goal.returns-then-has_same_row
+returns-then-has_same_row c =
+    let g = c.args.self in
     let args = c.args in
-    let loop = c.loop-i in
-    let loop-test = c.loop-i-test in
-    let target_at = c.target_at-one in
-    let target-at2 = c.target_at-other in
-    let is-related = c.is_related in
-    let if2 = c.if-not-is_related in (
-      omega (arith, loop-test.true),
-      each_on (λ (j : ℕ). Lead args.list.now args.self.resets.now args.self.spots.now args.self.rows.now args.x args.e args.y
-          args.f j) loop.i
-          loop.invariant.1 (ap₂ (λ (a b : ℕ). related args.list.now a b) (sym target_at.ensures) (sym target-at2.ensures)
-          ∙ sym is-related.ensures ∙ if2.false),
-    )
-
-pub returns : goal.returns
-returns c =
-    let args = c.args in
-    let same_row = c.same_row in
-    let if1 = c.if-not-same_row in
-    let loop = c.loop-i in
-    let loop-test = c.loop-i-test in
-    let at16 = c.at16-count in
-    λ _. both-alike args.list.now args.self.resets.now args.self.spots.now args.self.rows.now args.x args.e args.y args.f
-    (same_row.ensures if1.false)
-    (each_over (λ (j : ℕ). Lead args.list.now args.self.resets.now args.self.spots.now args.self.rows.now args.x args.e args.y
-    args.f j)
-    (count_at args.self.rows.now args.e) loop.i (omega (arith, loop-test.false, at16.ensures.0)) loop.invariant.1)
+    let test = λ (i : ℕ). related args.list.now (target_at g args.x args.e i) (target_at g args.y args.f i) in
+    let told = all-range test _ _ _ _ (λ x b q h k. search rules) c.all.ensures.ran in
+    λ t. both-alike args.list.now g.resets.now g.spots.now g.rows.now args.x args.e args.y args.f
+    (c.has_same_row.ensures c.if-has_same_row.true)
+    ((all-below (count g args.e) test).0 (sym (told ∙ ap (λ (n : ℕ). all_below n test) c.count.ensures.0) ∙ t))

@@ -1,19 +1,16 @@
--- `list_codes` meets its contract. Assumes nothing.
-use Prim.Native.Nat.{ℕ, ◌≤◌, ◌<◌}
-use mathlib.Core.Path.{◌≡◌}
-use lib.ListN.{length, get_or}
-use Rattle.comparison.specs.Held.{most_edges, is_open, Opened}
-use Rattle.comparison.specs.Laws.Down.{Down}
-use Rattle.comparison.specs.Laws.KeyLoops.{KeptAt}
+-- The codes of the edges that were met are kept, and what stands past the edges stays.
+use Rattle.std.proofs.Common.{ℕ, ◌≤◌, ◌<◌, ◌≡◌, length, get_or}
+use Rattle.comparison.specs.Held.{most_edges}
+use Rattle.comparison.specs.Graphs.{Opened, code_of}
+use Rattle.comparison.proofs.Laws.Walks.{Past}
 use Rattle.comparison.proofs.held.Graph.list_codes.Given as goal
 
 abbrev pub invariant-loop-e : goal.invariant-loop-e
-invariant-loop-e l = (l.e ≤ l.self.k)
-    × (length l.codes ≡ length l.initial.codes)
-    × ((n : ℕ) → Opened n l.self.k l.self.flags.now → l.x < n → most_edges ≤ length l.initial.codes
-    → Down (is_open l.self.flags.now l.x) (KeptAt l.x l.list l.self.resets.now l.self.spots.now l.self.rows.now l.codes) l.self.k
-    l.e)
-    × ((i : ℕ) → l.self.k ≤ i → get_or l.codes i 0 ≡ get_or l.initial.codes i 0)
-
-abbrev pub decreases-loop-e : goal.decreases-loop-e
-decreases-loop-e l = l.e
+invariant-loop-e l =
+    record {
+      few : length l.e-iterator.flags.now ≤ l.self.k;
+      room : length l.codes ≡ length l.initial.codes;
+      kept : Opened l.self → l.x < l.self.n → most_edges ≤ length l.initial.codes
+          → Past l.self l.x l.self.k (λ f. get_or l.codes f 0 ≡ code_of l.self l.list l.x f) l.e-iterator.flags.now;
+      stays : (i : ℕ) → l.self.k ≤ i → get_or l.codes i 0 ≡ get_or l.initial.codes i 0;
+    }

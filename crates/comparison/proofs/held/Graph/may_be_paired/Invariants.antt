@@ -1,9 +1,6 @@
--- `may_be_paired` meets its contract. Assumes nothing.
-use Prim.Native.Nat.{◌≤◌}
+-- Both iterators have edges below k left.
+use Rattle.std.proofs.Common.{◌≤◌, length}
 use Rattle.comparison.proofs.held.Graph.may_be_paired.Given as goal
 
 abbrev pub invariant-loop-e : goal.invariant-loop-e
-invariant-loop-e l = (l.e ≤ l.self.k) × (l.f ≤ l.self.k)
-
-abbrev pub decreases-loop-e : goal.decreases-loop-e
-decreases-loop-e l = l.e
+invariant-loop-e l = (length l.e-iterator.flags.now ≤ l.self.k) × (length l.others.flags.now ≤ l.self.k)

@@ -1,11 +1,7 @@
--- `run_end` meets its contract. Assumes nothing.
-use Prim.Native.Nat.{◌<◌}
-use Rattle.comparison.specs.Held.{Onward}
-use Rattle.comparison.specs.Twins.{RunTo}
+-- The last item so far stands in for x.
+use Rattle.std.proofs.Common.{◌<◌}
+use Rattle.comparison.specs.Graphs.{Onward, RunTo}
 use Rattle.comparison.proofs.held.Graph.run_end.Given as goal
 
-abbrev pub invariant-loop-left : goal.invariant-loop-left
-invariant-loop-left l = Onward l.self.n l.self.nexts.now → l.x < l.self.n → RunTo l.self.n l.list l.self.nexts.now l.x l.at
-
-abbrev pub decreases-loop-left : goal.decreases-loop-left
-decreases-loop-left l = l.left
+abbrev pub invariant-loop : goal.invariant-loop
+invariant-loop l = Onward l.self → l.x < l.self.n → RunTo l.self l.list l.x l.last

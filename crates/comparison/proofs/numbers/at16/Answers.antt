@@ -1,0 +1,10 @@
+-- `at16` meets its contract. Assumes nothing.
+use native.Mathlib.Omega.{arith}
+use mathlib.Core.Path.{sym}
+use lib.ListN.{get_or-eq_default}
+use Rattle.comparison.proofs.numbers.at16.Goals as goal
+
+pub returns-else-i-list : goal.returns-else-i-list
+returns-else-i-list c =
+    let args = c.args in
+    (sym (get_or-eq_default args.list.now 0 c.if-i-list.false), omega arith)

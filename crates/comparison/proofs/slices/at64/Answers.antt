@@ -1,9 +1,0 @@
--- `at64` meets its contract. Assumes nothing.
-use mathlib.Core.Path.{sym}
-use lib.ListN.{get_or-eq_default}
-use Rattle.comparison.proofs.slices.at64.Goals as goal
-
-pub returns-else-i-list : goal.returns-else-i-list
-returns-else-i-list c =
-    let args = c.args in
-    sym (get_or-eq_default args.list.now 0 c.if-i-list.false)
