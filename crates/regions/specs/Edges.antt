@@ -1,7 +1,7 @@
 -- The edges of a model by number and by source, as exploring uses them.
 use Rattle.std.specs.Prelude.{ℕ, suc, ◌≤◌, ◌<◌, ◌≡◌, refl, Bool, true, false, cond, List, []}
-use Rattle.std.specs.Prelude.{◌∷◌, map, eqb, length, get_or, set, drop, replicate}
-use Rattle.std.proofs.Common.{arith, sym, ◌∙◌, subst, length-set, drop_of_length-le, drop-cons}
+use Rattle.std.specs.Prelude.{◌∷◌, map, eqb, length, get_or, set, take, drop, replicate}
+use Rattle.std.proofs.Common.{arith, sym, ◌∙◌, subst, length-set, length-take, get_or-take, drop_of_length-le, drop-cons}
 use Rattle.std.proofs.Common.{get_or-set_same, get_or-set_other, eq-eqb, eqb-true}
 use Rattle.std.proofs.Math.Path.{ap}
 use Rattle.std.proofs.lemmas.List.{length-replicate}
@@ -9,14 +9,30 @@ use Rattle.std.proofs.lemmas.List.Edits.{sets}
 use Rattle.std.proofs.lemmas.Bool.{eqb-false}
 use Rattle.table.specs.Model.{Model, Edge}
 use Rattle.table.specs.Sound.{Sound}
-use Rattle.table.specs.Access.{no_edge}
-use Rattle.table.specs.Reads.{edge_of}
+use Rattle.table.specs.Access.{no_edge, no_edge_struct, edge_struct}
+use Rattle.table.specs.Reads.{Lists, edge_of}
+use Rattle.table.specs.declared.model.Edge.{Edge as EdgeStruct}
 use Rattle.table.proofs.Laws.Reads.{place-listed}
-use Rattle.regions.specs.Lists.{zeros-at}
+use Rattle.regions.specs.Lists.{same-at}
 
 -- A list holds the places of the edges, by number.
 abbrev pub Placed : Model → List ℕ → Type 0
 Placed m places = (e : ℕ) → e < length m.edges → get_or places e 0 ≡ (edge_of m e).place
+
+-- A list has the edges, and no more.
+pub record ListsAll (m : Model) (list : List EdgeStruct) : Type 0 where
+  pub long : length list ≡ length m.edges
+  pub each : (e : ℕ) → e < length list → get_or list e no_edge_struct ≡ edge_struct (edge_of m e)
+
+-- The edges at the front of an edge list.
+pub lists-front : (m : Model) (list : List EdgeStruct) (n : ℕ) → Lists m list → n ≤ length list → n ≡ length m.edges
+    → ListsAll m (take n list)
+lists-front m list n lists room all =
+    let long : length (take n list) ≡ n = simp length-take (omega arith) in
+    record {
+      long = long ∙ all;
+      each = λ e h. get_or-take n list e no_edge_struct (omega (arith, h, long)) ∙ lists e;
+    }
 
 -- Where 128 numbers were filled with the places of the edges, they hold them.
 pub placed-filled : (m : Model) → Sound m → (old places : List ℕ) → length old ≡ 128
@@ -100,7 +116,7 @@ linked-none m starts follows zeroed room e all =
     record {
       long = ap length zeroed ∙ length-replicate {A = ℕ} 256 0;
       room = room;
-      start = λ l h. ap (λ x. get_or x l 0) zeroed ∙ zeros-at 256 l ∙ sym (link-over m l e (omega (arith, all)));
+      start = λ l h. ap (λ x. get_or x l 0) zeroed ∙ same-at {A = ℕ} 0 256 l ∙ sym (link-over m l e (omega (arith, all)));
       follow = λ k h less. absurd (omega (arith, h, less, all));
     }
 

@@ -77,7 +77,7 @@ region-same es es' j same =
     )
 
 -- A list of four is its four bytes.
-four-whole : (l : List ℕ) → length l ≡ 4 → four_from l 0 ≡ l
+pub four-whole : (l : List ℕ) → length l ≡ 4 → four_from l 0 ≡ l
 four-whole [] e = absurd (omega arith)
 four-whole (a ∷ []) e = absurd (omega arith)
 four-whole (a ∷ b ∷ []) e = absurd (omega arith)

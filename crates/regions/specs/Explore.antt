@@ -1,5 +1,5 @@
 -- Exploring into entries: the regions listed so far, what meeting regions does to them, and laws to put such steps together.
-use Rattle.std.specs.Prelude.{ℕ, zero, suc, ◌+◌, ◌-◌, ◌*◌, ◌≤◌, ◌<◌, ◌≡◌, refl, Bool, true}
+use Rattle.std.specs.Prelude.{Option, Some, None, is_some, Result, Ok, Err, ℕ, zero, suc, ◌+◌, ◌-◌, ◌*◌, ◌≤◌, ◌<◌, ◌≡◌, refl, Bool, true}
 use Rattle.std.specs.Prelude.{false, ◌&&◌, eqb, ltb, length, get_or, take, drop}
 use Rattle.std.proofs.Common.{arith, add-one, ◌∙◌, ap₂, length-append, take-append-drop, take-suc}
 use Rattle.std.proofs.Common.{take_all, eqb-true, eq-eqb, ltb-true, ltb-false}
@@ -7,12 +7,14 @@ use Rattle.std.proofs.Math.Path.{sym, ap}
 use mathlib.Core.List.{List, [], ◌∷◌, ◌++◌, append_assoc, append-nil}
 use Rattle.std.proofs.Math.ListN.{get_or-append}
 use Rattle.std.proofs.lemmas.List.{get_or_at}
-use Rattle.regions.specs.Entries.{entry_bytes, max_entries, region_at}
-use Rattle.regions.specs.Index.{Index, Added}
+use Rattle.regions.specs.Entries.{entry_bytes, region_at}
+use Rattle.regions.specs.Index.{Found as FoundAt}
 use Rattle.regions.specs.Graph.{gather}
 use Rattle.regions.specs.Worklist.{Found, complete, full, and_then, known, meet, explore_from, explore}
 use Rattle.regions.specs.Laws.Worklist.{meet-known, meet-new, meet-full, meet-append, known_at, known-nowhere, turn, over, begin, no_room}
-use Rattle.regions.specs.declared.explore.Met.{Met}
+use Rattle.regions.specs.declared.explore.Full.{Full}
+use Rattle.regions.specs.declared.index.Listed.{Listed}
+use Rattle.regions.specs.declared.index.Listing.{Listing}
 use Rattle.clocks.specs.declared.region.Region.{Region}
 
 -- ---- Are two regions the same?
@@ -87,28 +89,36 @@ listed_at es (suc n) j d h = side (ltb j n) refl (listed_at es n j d)
         let last : n ≡ j = omega (arith, ltb-false j n e) in
         get_or_at (listed es n) (region_at es n) [] d j (listed-length es n ∙ last) ∙ ap (region_at es) last
 
+-- Entries that the code has listed: the regions, region x, and how many there are.
+abbrev pub regions_of : Listed → List Region
+regions_of l = listed l.entries.now l.links.now.count
+
+abbrev pub region_of : Listed → ℕ → Region
+region_of l x = region_at l.entries.now x
+
+abbrev pub size_of : Listed → ℕ
+size_of l = l.links.now.count
+
+-- And entries that it is listing: the regions so far.
+abbrev pub so_far : Listing → List Region
+so_far l = listed l.entries.now l.links.count
+
 -- ---- Meeting regions
 
 -- Meeting does not ask what regions lead to.
 pub no_next : Region → List Region
 no_next r = []
 
--- The entries and their index have room for up to `cap` regions, of which n are listed.
-pub record Room (cap : ℕ) (es heads nexts : List ℕ) (n : ℕ) : Type 0 where
-  pub index : Index es heads nexts n
-  pub room : n ≤ cap
-  pub few : cap ≤ max_entries
-  pub fits : entry_bytes * cap ≤ length es
-  pub links : cap ≤ length nexts
+-- The entries are those that were lent.
+abbrev pub SameSlice : (before after : Listing) → Type 0
+SameSlice l l' = l'.entries.ghost_name ≡ l.entries.ghost_name
 
--- Some were listed, from n on to `count`: there is room as before, and the bytes after the entries stay.
-pub record Kept (cap n : ℕ) (es heads nexts es' heads' nexts' : List ℕ) (count : ℕ) : Type 0 where
-  pub room : Room cap es' heads' nexts' count
-  pub entries : length es' ≡ length es
-  pub buckets : length heads' ≡ length heads
-  pub links : length nexts' ≡ length nexts
-  pub more : n ≤ count
-  pub after : (k : ℕ) → entry_bytes * count ≤ k → get_or es' k 0 ≡ get_or es k 0
+-- Some were listed: there is room for as many as before, and the bytes after the entries stay.
+pub record Kept (l l' : Listing) : Type 0 where
+  pub cap : l'.cap ≡ l.cap
+  pub entries : length l'.entries.now ≡ length l.entries.now
+  pub more : l.links.count ≤ l'.links.count
+  pub after : (k : ℕ) → entry_bytes * l'.links.count ≤ k → get_or l'.entries.now k 0 ≡ get_or l.entries.now k 0
 
 -- The bytes after the first entries stay, and so does the length.
 pub record Left (es es' : List ℕ) (count : ℕ) : Type 0 where
@@ -116,91 +126,79 @@ pub record Left (es es' : List ℕ) (count : ℕ) : Type 0 where
   pub fits : entry_bytes * count ≤ length es
   pub after : (k : ℕ) → entry_bytes * count ≤ k → get_or es' k 0 ≡ get_or es k 0
 
-abbrev pub found_of : Bool → List Region → Found Region
-found_of true l = full l
-found_of false l = complete l
+-- What the code found, where it answers whether there was room.
+abbrev pub found_of : {A : Type 0} → Result A Full → List Region → Found Region
+found_of (Ok x) l = complete l
+found_of (Err e) l = full l
 
--- The regions of a list were met, after n were listed.
-abbrev pub AllMet : ℕ → ℕ → List Region → List ℕ → List ℕ → Met → Type 0
-AllMet cap n qs es es' r = meet same_region cap (listed es n) qs ≡ found_of r.full (listed es' r.count)
+-- How many regions are listed then.
+abbrev pub count_of : ℕ → Result ℕ Full → ℕ
+count_of cap (Ok n) = n
+count_of cap (Err e) = cap
 
-pub kept-none : (cap n : ℕ) (es heads nexts : List ℕ) → Room cap es heads nexts n → Kept cap n es heads nexts es heads nexts n
-kept-none cap n es heads nexts room =
-    record { room = room; entries = refl; buckets = refl; links = refl; more = omega arith; after = λ k h. refl }
+-- The regions of a list were met.
+abbrev pub AllMet : List Region → (before after : Listing) → Result Unit Full → Type 0
+AllMet qs l l' r = meet same_region l.cap (so_far l) qs ≡ found_of r (so_far l')
 
-pub kept_on : (cap n : ℕ) (es heads nexts es' heads' nexts' es'' heads'' nexts'' : List ℕ) (j k : ℕ)
-    → Kept cap n es heads nexts es' heads' nexts' j → Kept cap j es' heads' nexts' es'' heads'' nexts'' k
-    → Kept cap n es heads nexts es'' heads'' nexts'' k
-kept_on cap n es heads nexts es' heads' nexts' es'' heads'' nexts'' j k a b =
+pub kept-none : (l : Listing) → Kept l l
+kept-none l = record { cap = refl; entries = refl; more = omega arith; after = λ k h. refl }
+
+pub kept_on : (l l' l'' : Listing) → Kept l l' → Kept l' l'' → Kept l l''
+kept_on l l' l'' a b =
     record {
-      room = b.room;
+      cap = b.cap ∙ a.cap;
       entries = b.entries ∙ a.entries;
-      buckets = b.buckets ∙ a.buckets;
-      links = b.links ∙ a.links;
       more = omega (arith, a.more, b.more);
-      after = λ i h. b.after i h ∙ a.after i (omega (arith, b.more));
+      after = λ k h. b.after k h ∙ a.after k (omega (arith, b.more));
     }
 
--- One more list of regions is met.
-pub met-on : (cap n j : ℕ) (qs qs' : List Region) (es es' es'' : List ℕ) (r : Met)
-    → AllMet cap n qs es es' (record { full = false; count = j }) → AllMet cap j qs' es' es'' r → AllMet cap n (qs ++ qs') es es'' r
-met-on cap n j qs qs' es es' es'' r a b =
-    meet-append same_region no_next cap (listed es n) qs qs' ∙ ap (and_then (λ more. meet same_region cap more qs')) a ∙ b
+module _ (cap : ℕ) (found : List Region) (qs qs' : List Region) where
+  -- One more list of regions is met.
+  pub met-on : (more : List Region) (f : Found Region) → meet same_region cap found qs ≡ complete more
+      → meet same_region cap more qs' ≡ f → meet same_region cap found (qs ++ qs') ≡ f
+  met-on more f a b =
+      meet-append same_region no_next cap found qs qs' ∙ ap (and_then (λ l. meet same_region cap l qs')) a ∙ b
 
--- There was no room already.
-pub met-full : (cap n : ℕ) (qs qs' : List Region) (es es' : List ℕ) (r : Met) → r.full ≡ true → AllMet cap n qs es es' r
-    → AllMet cap n (qs ++ qs') es es' r
-met-full cap n qs qs' es es' r e a =
-    let stop : meet same_region cap (listed es n) qs ≡ full (listed es' r.count) =
-    a ∙ ap (λ b. found_of b (listed es' r.count)) e in
-    meet-append same_region no_next cap (listed es n) qs qs'
-    ∙ ap (and_then (λ more. meet same_region cap more qs')) stop
-    ∙ sym (ap (λ b. found_of b (listed es' r.count)) e)
+  -- There was no room already.
+  pub met-full : (more : List Region) → meet same_region cap found qs ≡ full more
+      → meet same_region cap found (qs ++ qs') ≡ full more
+  met-full more a = meet-append same_region no_next cap found qs qs' ∙ ap (and_then (λ l. meet same_region cap l qs')) a
 
 -- ---- Meeting one region, by what the index says of it
 
-module _ (cap n : ℕ) (es heads nexts : List ℕ) (room : Room cap es heads nexts n) (q : Region) where
-  pub one_known : (j : ℕ) → j < n → region_at es j ≡ q → AllMet cap n (q ∷ []) es es (record { full = false; count = n })
+module _ (cap : ℕ) (es : List ℕ) (n : ℕ) (q : Region) where
+  pub one_known : (j : ℕ) → j < n → region_at es j ≡ q → meet same_region cap (listed es n) (q ∷ []) ≡ complete (listed es n)
   one_known j h e =
       meet-known same_region no_next cap (listed es n) q []
       (known_at same_region no_next same_true same_refl q (listed es n) q j (rw listed-length h) (listed_at es n j q h ∙ e))
 
-  new : ((j : ℕ) → j < n → region_at es j ≡ q → ⊥) → known same_region q (listed es n) ≡ false
-  new none =
-      known-nowhere same_region no_next same_true same_refl q (listed es n) q
-      (λ j h e. let k : j < n = rw listed-length at h in none j k (sym (listed_at es n j q k) ∙ e))
+  -- What a search answers.
+  pub one_found : (o : Option ℕ) → FoundAt es n q o → is_some o ≡ true
+      → meet same_region cap (listed es n) (q ∷ []) ≡ complete (listed es n)
+  one_found (Some j) h e = one_known j h.0 h.1
+  one_found None h e = absurd (let z : ◌≡◌ {A = ℕ} 0 1 = cc in omega arith)
 
-  pub one-full : ((j : ℕ) → j < n → region_at es j ≡ q → ⊥) → cap ≤ n
-      → AllMet cap n (q ∷ []) es es (record { full = true; count = n })
-  one-full none h = meet-full same_region no_next cap (listed es n) q [] (new none) (rw listed-length h)
+  pub not_found : (o : Option ℕ) → FoundAt es n q o → is_some o ≡ false → (j : ℕ) → j < n → region_at es j ≡ q → ⊥
+  not_found (Some j) h e = absurd (let z : ◌≡◌ {A = ℕ} 0 1 = cc in omega arith)
+  not_found None h e = h
 
-  pub one-new : ((j : ℕ) → j < n → region_at es j ≡ q → ⊥) → n < cap → (es' heads' nexts' : List ℕ)
-      → Added q n es heads nexts es' heads' nexts' → AllMet cap n (q ∷ []) es es' (record { full = false; count = n + 1 })
-  unfolding listed
-  one-new none h es' heads' nexts' added =
-      meet-new same_region no_next cap (listed es n) q [] (new none) (rw listed-length h)
-      ∙ ap complete
-      (ap₂ (λ (l : List Region) (x : Region). l ++ (x ∷ [])) (sym (listed_same es es' n added.before)) (sym added.entry)
-      ∙ sym (ap (listed es') (add-one n)))
+  module _ (none : (j : ℕ) → j < n → region_at es j ≡ q → ⊥) where
+    new : known same_region q (listed es n) ≡ false
+    new =
+        known-nowhere same_region no_next same_true same_refl q (listed es n) q
+        (λ j h e. let k : j < n = rw listed-length at h in none j k (sym (listed_at es n j q k) ∙ e))
 
-  pub one_kept : n < cap → (es' heads' nexts' : List ℕ) → Added q n es heads nexts es' heads' nexts'
-      → Kept cap n es heads nexts es' heads' nexts' (n + 1)
-  one_kept h es' heads' nexts' added =
-      record {
-        room =
-            record {
-              index = added.index;
-              room = omega arith;
-              few = room.few;
-              fits = rw added.entries room.fits;
-              links = rw added.links room.links;
-            };
-        entries = added.entries;
-        buckets = added.buckets;
-        links = added.links;
-        more = omega arith;
-        after = λ k i. added.after k (omega arith);
-      }
+    pub one-full : cap ≤ n → meet same_region cap (listed es n) (q ∷ []) ≡ full (listed es n)
+    one-full h = meet-full same_region no_next cap (listed es n) q [] new (rw listed-length h)
+
+    pub one-new : n < cap → (es' : List ℕ) → ((j : ℕ) → j < n → region_at es' j ≡ region_at es j) → region_at es' n ≡ q
+        → (n' : ℕ) → n' ≡ n + 1 → meet same_region cap (listed es n) (q ∷ []) ≡ complete (listed es' n')
+    unfolding listed
+    one-new h es' before entry n' is =
+        meet-new same_region no_next cap (listed es n) q [] new (rw listed-length h)
+        ∙ ap complete
+        (ap₂ (λ (l : List Region) (x : Region). l ++ (x ∷ [])) (sym (listed_same es es' n before)) (sym entry)
+        ∙ sym (ap (listed es') (is ∙ add-one n)))
 
 -- ---- A loop over a list whose items each give some regions to meet
 
@@ -219,39 +217,37 @@ module _ {A : Type 0} (g : A → List Region) (l : List A) (i : ℕ) (d : A) whe
   gather-split : i < length l → gather g l ≡ gather g (take (i + 1) l) ++ gather g (drop (i + 1) l)
   gather-split h = sym (ap (gather g) (take-append-drop (i + 1) l)) ∙ gather_append (take (i + 1) l) (drop (i + 1) l)
 
-  module _ (cap n k : ℕ) (es es' : List ℕ) (all : AllMet cap n (gather g (take i l)) es es' (record { full = false; count = k })) where
+  module _ (cap : ℕ) (found found' : List Region) (all : meet same_region cap found (gather g (take i l)) ≡ complete found') where
     -- Item i was met too.
-    pub loop-on : i < length l → (es'' : List ℕ) (met : Met) → met.full ≡ false → AllMet cap k (g (get_or l i d)) es' es'' met
-        → AllMet cap n (gather g (take (i + 1) l)) es es'' (record { full = false; count = met.count })
-    loop-on h es'' met room one =
-        ap (meet same_region cap (listed es n)) (gather-next h)
-        ∙ met-on cap n k (gather g (take i l)) (g (get_or l i d)) es es' es'' met all one
-        ∙ ap (λ b. found_of b (listed es'' met.count)) room
+    pub loop-on : i < length l → (found'' : List Region) → meet same_region cap found' (g (get_or l i d)) ≡ complete found''
+        → meet same_region cap found (gather g (take (i + 1) l)) ≡ complete found''
+    loop-on h found'' one =
+        ap (meet same_region cap found) (gather-next h)
+        ∙ met-on cap found (gather g (take i l)) (g (get_or l i d)) found' (complete found'') all one
 
     -- Item i gives nothing.
     pub loop-past : i < length l → g (get_or l i d) ≡ []
-        → AllMet cap n (gather g (take (i + 1) l)) es es' (record { full = false; count = k })
-    loop-past h nothing =
-        loop-on h es' (record { full = false; count = k }) refl (ap (meet same_region cap (listed es' k)) nothing)
+        → meet same_region cap found (gather g (take (i + 1) l)) ≡ complete found'
+    loop-past h nothing = loop-on h found' (ap (meet same_region cap found') nothing)
 
     -- There was no room for what item i gives.
-    pub loop-full : i < length l → (es'' : List ℕ) (met : Met) → met.full ≡ true → AllMet cap k (g (get_or l i d)) es' es'' met
-        → AllMet cap n (gather g l) es es'' met
-    loop-full h es'' met none one =
-        ap (meet same_region cap (listed es n)) (gather-split h ∙ ap (λ x. x ++ gather g (drop (i + 1) l)) (gather-next h))
-        ∙ met-full cap n (gather g (take i l) ++ g (get_or l i d)) (gather g (drop (i + 1) l)) es es'' met none
-        (met-on cap n k (gather g (take i l)) (g (get_or l i d)) es es' es'' met all one)
+    pub loop-full : i < length l → (found'' : List Region) → meet same_region cap found' (g (get_or l i d)) ≡ full found''
+        → meet same_region cap found (gather g l) ≡ full found''
+    loop-full h found'' one =
+        ap (meet same_region cap found) (gather-split h ∙ ap (λ x. x ++ gather g (drop (i + 1) l)) (gather-next h))
+        ∙ met-full cap found (gather g (take i l) ++ g (get_or l i d)) (gather g (drop (i + 1) l)) found''
+        (met-on cap found (gather g (take i l)) (g (get_or l i d)) found' (full found'') all one)
 
     -- All items were met.
-    pub loop-over : length l ≤ i → AllMet cap n (gather g l) es es' (record { full = false; count = k })
-    loop-over h = ap (λ x. meet same_region cap (listed es n) (gather g x)) (sym (take_all i l h)) ∙ all
+    pub loop-over : length l ≤ i → meet same_region cap found (gather g l) ≡ complete found'
+    loop-over h = ap (λ x. meet same_region cap found (gather g x)) (sym (take_all i l h)) ∙ all
 
 -- ---- Exploring: one turn of the loop over the regions, in number order
 
 module _ (next : Region → List Region) (cap : ℕ) (d : Region) (es : List ℕ) (n i : ℕ) (inside : i < n) (room : n ≤ cap)
-    (es' : List ℕ) (met : Met) (all : AllMet cap n (next (region_at es i)) es es' met) where
+    (f : Found Region) (all : meet same_region cap (listed es n) (next (region_at es i)) ≡ f) where
   turned : explore_from same_region next (suc cap - i) cap d (listed es n) i
-      ≡ and_then (λ more. explore_from same_region next (cap - i) cap d more (suc i)) (found_of met.full (listed es' met.count))
+      ≡ and_then (λ more. explore_from same_region next (cap - i) cap d more (suc i)) f
   turned =
       let fuel : suc cap - i ≡ suc (cap - i) = omega arith in
       ap (λ k. explore_from same_region next k cap d (listed es n) i) fuel
@@ -262,54 +258,39 @@ module _ (next : Region → List Region) (cap : ℕ) (d : Region) (es : List ℕ
       ∙ ap (and_then (λ more. explore_from same_region next (cap - i) cap d more (suc i))) all
 
   -- There was no room.
-  pub turn-full : met.full ≡ true
-      → explore_from same_region next (suc cap - i) cap d (listed es n) i ≡ found_of met.full (listed es' met.count)
-  turn-full none =
-      turned
-      ∙ ap (λ b. and_then (λ more. explore_from same_region next (cap - i) cap d more (suc i)) (found_of b (listed es' met.count))) none
-      ∙ sym (ap (λ b. found_of b (listed es' met.count)) none)
+  pub turn-full : (found : List Region) → f ≡ full found
+      → explore_from same_region next (suc cap - i) cap d (listed es n) i ≡ full found
+  turn-full found none = turned ∙ ap (and_then (λ more. explore_from same_region next (cap - i) cap d more (suc i))) none
 
   -- The next region is taken.
-  pub turn_on : met.full ≡ false → explore_from same_region next (suc cap - i) cap d (listed es n) i
-      ≡ explore_from same_region next (suc cap - (i + 1)) cap d (listed es' met.count) (i + 1)
-  turn_on some =
+  pub turn_on : (found : List Region) → f ≡ complete found → explore_from same_region next (suc cap - i) cap d (listed es n) i
+      ≡ explore_from same_region next (suc cap - (i + 1)) cap d found (i + 1)
+  turn_on found some =
       let fuel : cap - i ≡ suc cap - (i + 1) = omega arith in
       turned
-      ∙ ap (λ b. and_then (λ more. explore_from same_region next (cap - i) cap d more (suc i)) (found_of b (listed es' met.count))) some
-      ∙ ap₂ (λ k j. explore_from same_region next k cap d (listed es' met.count) j) fuel (sym (add-one i))
+      ∙ ap (and_then (λ more. explore_from same_region next (cap - i) cap d more (suc i))) some
+      ∙ ap₂ (λ k j. explore_from same_region next k cap d found j) fuel (sym (add-one i))
 
 -- All regions were taken.
 pub turn-over : (next : Region → List Region) (cap : ℕ) (d : Region) (es : List ℕ) (n i : ℕ) → n ≤ i
     → explore_from same_region next (suc cap - i) cap d (listed es n) i ≡ complete (listed es n)
 turn-over next cap d es n i h = over same_region next (suc cap - i) cap d (listed es n) i (rw listed-length h)
 
--- The first region is listed in an index of no entry.
-pub first-listed : (cap : ℕ) (es heads nexts es' heads' nexts' : List ℕ) (q : Region) → 0 < cap → cap ≤ max_entries
-    → entry_bytes * cap ≤ length es → cap ≤ length nexts → Added q 0 es heads nexts es' heads' nexts'
-    → Room cap es' heads' nexts' 1 × (listed es' 1 ≡ q ∷ [])
+-- The first region is listed.
+pub first-listed : (es : List ℕ) (q : Region) → region_at es 0 ≡ q → listed es 1 ≡ q ∷ []
 unfolding listed
-first-listed cap es heads nexts es' heads' nexts' q some few fits links added = (
-  record {
-    index = added.index;
-    room = some;
-    few = few;
-    fits = rw added.entries fits;
-    links = rw added.links links;
-  },
-  ap (λ r. r ∷ []) added.entry,
-)
+first-listed es q e = ap (λ r. r ∷ []) e
 
 -- Exploring from a start that is listed.
-pub explored : (next : Region → List Region) (cap : ℕ) (start : Region) (es es' : List ℕ) (met : Met) → 0 < cap
-    → listed es 1 ≡ start ∷ []
-    → explore_from same_region next (suc cap) cap start (listed es 1) 0 ≡ found_of met.full (listed es' met.count)
-    → explore same_region next cap start ≡ found_of met.full (listed es' met.count)
-explored next cap start es es' met some one e =
+pub explored : (next : Region → List Region) (cap : ℕ) (start : Region) (found : List Region) (f : Found Region) → 0 < cap
+    → found ≡ start ∷ [] → explore_from same_region next (suc cap) cap start found 0 ≡ f
+    → explore same_region next cap start ≡ f
+explored next cap start found f some one e =
     begin same_region next (suc cap) cap start some (omega arith)
     ∙ ap (λ l. explore_from same_region next (suc cap) cap start l 0) (sym one)
     ∙ e
 
 pub explored-none : (next : Region → List Region) (start : Region) (es : List ℕ)
-    → explore same_region next 0 start ≡ found_of true (listed es 0)
+    → explore same_region next 0 start ≡ full (listed es 0)
 unfolding listed
 explored-none next start es = no_room same_region next start

@@ -1,13 +1,12 @@
 -- How the slices of the graph are filled: what is in place after some steps. A loop stores one number after the other, or one block
 -- of numbers after the other. Sets of clocks stand in a list of entries of their own, as regions at location 0; the number of a set
 -- is that of its entry.
-use Rattle.std.specs.Prelude.{ℕ, ◌+◌, ◌*◌, ◌≤◌, ◌<◌, ◌≡◌, List, length, get_or, set}
+use Rattle.std.specs.Prelude.{ℕ, ◌+◌, ◌*◌, ◌≤◌, ◌<◌, ◌≡◌, Bool, true, false, List, length, get_or, set}
 use Rattle.table.specs.Model.{Model, Edge}
 use Rattle.table.specs.Access.{no_branch}
 use Rattle.table.specs.Reads.{edge_of}
 use Rattle.clocks.specs.Packed.{after_reset}
-use Rattle.regions.specs.Entries.{entry_bytes, max_entries, region_at}
-use Rattle.regions.specs.Index.{Index}
+use Rattle.regions.specs.Entries.{region_at}
 use Rattle.clocks.specs.declared.region.Bounds.{Bounds}
 use Rattle.clocks.specs.declared.region.Region.{Region}
 
@@ -62,19 +61,19 @@ pub data InUse (rows : List ℕ) (k : ℕ) : ℕ → Type 0 where
   by-branch : (e i : ℕ) → e < k → i < get_or rows (32 * e + 2) 0 → InUse rows k (get_or rows (32 * e + 4 + 3 * i) 0)
 
 -- Flags that are set stay set, and the length.
-pub record Still (l l' : List ℕ) : Type 0 where
+pub record Still (l l' : List Bool) : Type 0 where
   pub as_long : length l' ≡ length l
-  pub kept : (k : ℕ) → get_or l k 0 ≡ 1 → get_or l' k 0 ≡ 1
+  pub kept : (k : ℕ) → get_or l k false ≡ true → get_or l' k false ≡ true
 
 -- The masks of the first i branches of the row at a place are flagged, where there is room for them.
-abbrev pub RowFlagged : (rows : List ℕ) → (at i : ℕ) → (used : List ℕ) → Type 0
+abbrev pub RowFlagged : (rows : List ℕ) → (at i : ℕ) → (used : List Bool) → Type 0
 RowFlagged rows at i used =
-    (j : ℕ) → j < i → get_or rows (at + 4 + 3 * j) 0 < length used → get_or used (get_or rows (at + 4 + 3 * j) 0) 0 ≡ 1
+    (j : ℕ) → j < i → get_or rows (at + 4 + 3 * j) 0 < length used → get_or used (get_or rows (at + 4 + 3 * j) 0) false ≡ true
 
 -- The masks in use are flagged.
-pub record Flagged (rows : List ℕ) (k : ℕ) (used : List ℕ) : Type 0 where
+pub record Flagged (rows : List ℕ) (k : ℕ) (used : List Bool) : Type 0 where
   pub as_long : length used ≡ 16
-  pub first : get_or used 0 0 ≡ 1
+  pub first : get_or used 0 false ≡ true
   pub row : (e : ℕ) → e < k → RowFlagged rows (32 * e) (get_or rows (32 * e + 2) 0) used
 
 -- ---- Sets of clocks
@@ -93,33 +92,21 @@ pub record Distinct (es : List ℕ) (n : ℕ) : Type 0 where
   pub low : (x : ℕ) → x < n → (region_at es x).location < 64
 
 -- A region is in a list of n entries, or was put there: it is entry `at`, and now there are `count`.
-pub record Classed (q : Region) (n : ℕ) (es heads links es' heads' links' : List ℕ) (at count : ℕ) : Type 0 where
-  pub index : Index es' heads' links' count
+pub record Classed (q : Region) (es : List ℕ) (n : ℕ) (es' : List ℕ) (count at : ℕ) : Type 0 where
   pub inside : at < count
   pub is : region_at es' at ≡ q
   pub more : n ≤ count
   pub few : count ≤ n + 1
   pub before : (j : ℕ) → j < n → region_at es' j ≡ region_at es j
   pub apart : Apart es n → Apart es' count
-  pub entries : length es' ≡ length es
-  pub buckets : length heads' ≡ length heads
-  pub linked : length links' ≡ length links
 
 -- The first x regions have their sets of clocks in the list, and stand in `spots` by set and location.
-pub record Grouped (es : List ℕ) (n x : ℕ) (sets heads links spots : List ℕ) (count : ℕ) : Type 0 where
-  pub index : Index sets heads links count
+pub record Grouped (es : List ℕ) (n x : ℕ) (sets : List ℕ) (count : ℕ) (spots : List ℕ) : Type 0 where
   pub few : count ≤ x
   pub apart : Apart sets count
   pub covered : (y : ℕ) → y < x → (j : ℕ) × (j < count) × (region_at sets j ≡ bare (region_at es y))
   pub spotted : Distinct es n → (y j : ℕ) → y < x → j < count → region_at sets j ≡ bare (region_at es y)
       → get_or spots (64 * j + (region_at es y).location) 0 ≡ y
-
--- What the list must have room for.
-pub record SetRoom (n : ℕ) (sets links spots : List ℕ) : Type 0 where
-  pub few : n ≤ max_entries
-  pub entries : entry_bytes * n ≤ length sets
-  pub linked : n ≤ length links
-  pub spot-room : 4096 * 64 ≤ length spots
 
 -- A number is that of the clocks of a region after a reset, where they are in the list.
 abbrev pub Numbers : Bounds → Region → (sets : List ℕ) → (count mask v : ℕ) → Type 0

@@ -1,9 +1,10 @@
 -- A chained hash index over the first entries of a list of regions. A region's hash names its bucket. A link says which entry:
 -- link j + 1 is entry j, and 0 is none. Each bucket's head links to its last entry, and each entry to the last before it in its
 -- bucket, so that lists of zeros are the index of no entry. Below the definitions are the laws of search and of one more entry.
-use Rattle.std.specs.Prelude.{ℕ, zero, suc, ◌+◌, ◌-◌, ◌*◌, ◌%◌, ◌≤◌, ◌<◌, ◌≡◌, refl, Bool, List, [], ◌∷◌, length, set, replicate}
+use Rattle.std.specs.Prelude.{Option, Some, None, ℕ, zero, suc, ◌+◌, ◌-◌, ◌*◌, ◌%◌, ◌≤◌, ◌<◌, ◌≡◌, refl, Bool}
+use Rattle.std.specs.Prelude.{List, [], ◌∷◌, length, set, replicate}
 use Rattle.std.proofs.Common.{arith, add-one, ◌∙◌, inr}
-use Rattle.std.proofs.Math.Path.{sym, ap}
+use Rattle.std.proofs.Math.Path.{sym, ap, subst}
 use Rattle.std.proofs.Math.Bool.{true, false, cond}
 use Rattle.std.proofs.lemmas.Bool.{false≢true}
 use Rattle.std.proofs.Math.Dec.{eqb}
@@ -15,8 +16,7 @@ use borrow.Author.Tests.{eq-eqb, eqb-true, eqb-false}
 use Rattle.regions.specs.Entries.{entry_bytes, max_entries, four_from, bytes_of, region_at, region-same, Sized}
 use Rattle.regions.specs.Entries.{stored-length, stored-outside, stored_other, stored_here}
 use Rattle.clocks.specs.declared.region.Region.{Region}
-use Rattle.regions.specs.declared.index.Lookup.{Lookup}
-use Rattle.regions.specs.declared.index.Lookup.TheVariants.{At, Nothing}
+use Rattle.regions.specs.declared.index.Links.{Links}
 
 -- How many buckets there are. Hashes are below the largest prime that is no more than that, which spreads them well.
 abbrev pub bucket_count : ℕ
@@ -56,20 +56,30 @@ pub record Index (es heads nexts : List ℕ) (n : ℕ) : Type 0 where
   pub head : (bucket : ℕ) → bucket < bucket_count → get_or heads bucket 0 ≡ last (in_bucket es bucket) n
   pub next : (j : ℕ) → j < n → get_or nexts j 0 ≡ last (in_bucket es (hash_of (region_at es j))) j
 
--- What a search for a region among the first n entries finds: an entry that is the region, or that none is.
-abbrev pub Found : List ℕ → ℕ → Region → Lookup → Type 0
-Found es n r (At j) = (j < n) × (region_at es j ≡ r)
-Found es n r Nothing = (j : ℕ) → j < n → region_at es j ≡ r → ⊥
+-- The links of the code are the index of as many entries as they count.
+abbrev pub Indexed : List ℕ → Links → Type 0
+Indexed es links = Index es links.heads links.nexts links.count
 
--- A region is entry n, and is in the index. All else stays.
-pub record Added (r : Region) (n : ℕ) (es heads nexts es' heads' nexts' : List ℕ) : Type 0 where
-  pub index : Index es' heads' nexts' (n + 1)
-  pub entry : region_at es' n ≡ r
-  pub before : (j : ℕ) → j < n → region_at es' j ≡ region_at es j
-  pub after : (k : ℕ) → entry_bytes * n + entry_bytes ≤ k → get_or es' k 0 ≡ get_or es k 0
+-- The entries and their index have room for up to `cap` regions, of which some are listed.
+pub record Room (cap : ℕ) (es : List ℕ) (links : Links) : Type 0 where
+  pub index : Indexed es links
+  pub room : links.count ≤ cap
+  pub few : cap ≤ max_entries
+  pub fits : entry_bytes * cap ≤ length es
+
+-- What a search for a region among the first n entries finds: an entry that is the region, or that none is.
+abbrev pub Found : List ℕ → ℕ → Region → Option ℕ → Type 0
+Found es n r (Some j) = (j < n) × (region_at es j ≡ r)
+Found es n r None = (j : ℕ) → j < n → region_at es j ≡ r → ⊥
+
+-- A region is the next entry, and is in the index. All else stays.
+pub record Added (r : Region) (es : List ℕ) (links : Links) (es' : List ℕ) (links' : Links) : Type 0 where
+  pub index : Indexed es' links'
+  pub count : links'.count ≡ links.count + 1
+  pub entry : region_at es' links.count ≡ r
+  pub before : (j : ℕ) → j < links.count → region_at es' j ≡ region_at es j
+  pub after : (k : ℕ) → entry_bytes * links.count + entry_bytes ≤ k → get_or es' k 0 ≡ get_or es k 0
   pub entries : length es' ≡ length es
-  pub buckets : length heads' ≡ length heads
-  pub links : length nexts' ≡ length nexts
 
 -- ---- The last number that passes a test: it is below n and passes, and none that passes is after it
 
@@ -131,6 +141,13 @@ index-none es heads nexts buckets zeros =
       head = zeros;
       next = λ j h. absurd (omega arith);
     }
+
+-- The links of no entry.
+pub indexed-none : (es : List ℕ) (links : Links) → links.heads ≡ replicate bucket_count 0 → links.count ≡ 0 → Indexed es links
+indexed-none es links zeros none =
+    subst (Index es links.heads links.nexts) (sym none)
+    (index-none es links.heads links.nexts (rw zeros (rw length-replicate (omega arith)))
+    (λ bucket h. ap (λ l. get_or l bucket 0) zeros ∙ get_or-replicate bucket_count bucket 0 0 h))
 
 -- A list of zeros is such heads.
 pub index-zeros : (es nexts : List ℕ) → Index es (replicate bucket_count 0) nexts 0
@@ -208,11 +225,11 @@ module _ (es heads nexts : List ℕ) (n : ℕ) (r : Region) (i : Index es heads 
         })
 
   -- The entry of the link is the region.
-  pub walking-found : (link : ℕ) → Walking es n r link → 0 < link → region_at es (link - 1) ≡ r → Found es n r (At (link - 1))
+  pub walking-found : (link : ℕ) → Walking es n r link → 0 < link → region_at es (link - 1) ≡ r → Found es n r (Some (link - 1))
   walking-found link w some e = (omega (arith, w.within), e)
 
   -- The search is over.
-  pub walking-none : (link : ℕ) → Walking es n r link → link ≤ 0 → Found es n r Nothing
+  pub walking-none : (link : ℕ) → Walking es n r link → link ≤ 0 → Found es n r None
   walking-none link w none = λ j h same. omega (arith, w.ahead j h same)
 
 -- ---- One more entry
@@ -254,34 +271,47 @@ module _ (es heads nexts : List ℕ) (n : ℕ) (i : Index es heads nexts n) wher
       nexts-on j h false e =
           get_or-set_other nexts n j (get_or heads own 0) 0 (eqb-false j n e) ∙ i.next j (omega (arith, eqb-false j n e))
 
-module _ (es heads nexts : List ℕ) (n : ℕ) (r : Region) (i : Index es heads nexts n) where
+-- One more entry is put into the index of entries that are there already.
+pub linked_on : (es : List ℕ) (links links' : Links) (x : ℕ) → Index es links.heads links.nexts x → links.count ≡ x → x < max_entries
+    → entry_bytes * x + entry_bytes ≤ length es → x < length links.nexts → (r : Region) → r ≡ region_at es x
+    → links'.heads ≡ set links.heads (hash_of r) (links.count + 1)
+    → links'.nexts ≡ set links.nexts links.count (get_or links.heads (hash_of r) 0)
+    → Index es links'.heads links'.nexts (x + 1)
+linked_on es links links' x i count few room link r is heads nexts =
+    rw (heads, nexts, count, is, add-one x) (index_on es links.heads links.nexts x i few room link)
+
+module _ (es : List ℕ) (links : Links) (r : Region) (i : Indexed es links) where
   -- A head is a link to one of the entries.
-  pub head_few : get_or heads (hash_of r) 0 ≤ max_entries
-  head_few = omega (arith, i.few, i.head (hash_of r) (hash-below r), last-most (in_bucket es (hash_of r)) n)
+  pub head_few : get_or links.heads (hash_of r) 0 ≤ max_entries
+  head_few = omega (arith, i.few, i.head (hash_of r) (hash-below r), last-most (in_bucket es (hash_of r)) links.count)
 
-  -- What the code stores.
-  pub added : (es' heads' nexts' : List ℕ) → n < max_entries → entry_bytes * n + entry_bytes ≤ length es → n < length nexts → Sized r
-      → es' ≡ sets es (entry_bytes * n) (bytes_of r) → heads' ≡ set heads (hash_of r) (n + 1)
-      → nexts' ≡ set nexts n (get_or heads (hash_of r) 0) → Added r n es heads nexts es' heads' nexts'
-  added es' heads' nexts' few room link sized e eh en =
-      record {
-        index = rw (add-one, eh, en) (rw (add-one, ← entry) (index_on es' heads nexts n old few (rw entries room) link));
-        entry = entry;
-        before = before;
-        after = λ k h. ap (λ l. get_or l k 0) e ∙ stored-outside es n r k (inr h);
-        entries = entries;
-        buckets = rw (eh, length-set);
-        links = rw (en, length-set);
-      }
-    where
-      entry : region_at es' n ≡ r
-      entry = ap (λ l. region_at l n) e ∙ stored_here es n r sized room
+  -- What the code stores, where there is room.
+  module _ (es' : List ℕ) (links' : Links) (few : links.count < max_entries) (room : entry_bytes * links.count + entry_bytes ≤ length es)
+      (link : links.count < length links.nexts) (sized : Sized r) (stored : es' ≡ sets es (entry_bytes * links.count) (bytes_of r))
+      (heads : links'.heads ≡ set links.heads (hash_of r) (links.count + 1))
+      (nexts : links'.nexts ≡ set links.nexts links.count (get_or links.heads (hash_of r) 0))
+      (count : links'.count ≡ links.count + 1) where
+    long : length es' ≡ length es
+    long = ap length stored ∙ stored-length es links.count r
 
-      before : (j : ℕ) → j < n → region_at es' j ≡ region_at es j
-      before j h = ap (λ l. region_at l j) e ∙ stored_other es n r j (omega arith)
+    here : region_at es' links.count ≡ r
+    here = ap (λ l. region_at l links.count) stored ∙ stored_here es links.count r sized room
 
-      entries : length es' ≡ length es
-      entries = ap length e ∙ stored-length es n r
+    other : (j : ℕ) → j < links.count → region_at es' j ≡ region_at es j
+    other j h = ap (λ l. region_at l j) stored ∙ stored_other es links.count r j (omega arith)
 
-      old : Index es' heads nexts n
-      old = index_same es es' heads nexts n i (rw entries i.entries) before
+    -- The entries that were listed before are indexed as they were.
+    pub old_index : Indexed es' links
+    old_index = index_same es es' links.heads links.nexts links.count i (rw long i.entries) other
+
+    pub added : Added r es links es' links'
+    added =
+        record {
+          index = rw (count, add-one, heads, nexts)
+              (rw (add-one, ← here) (index_on es' links.heads links.nexts links.count old_index few (rw long room) link));
+          count = count;
+          entry = here;
+          before = other;
+          after = λ k h. ap (λ l. get_or l k 0) stored ∙ stored-outside es links.count r k (inr h);
+          entries = long;
+        }

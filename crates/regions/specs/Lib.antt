@@ -22,6 +22,8 @@ pub mod Lists
 pub mod Graph
 pub mod Edges
 pub mod Limits
+pub mod Prepared
+pub mod Of
 pub mod Entries
 pub mod Index
 pub mod Worklist

@@ -45,10 +45,21 @@ limit_place l i = 4 * l + i
 abbrev pub limit_in : List ℕ → ℕ → ℕ → ℕ
 limit_in limits l i = get_or limits (limit_place l i) no_limit
 
+-- Clock i of a region is below its limit; and all four are.
+abbrev pub under : List ℕ → Bounds → Region → ℕ → Bool
+under limits bounds r i = ltb (position (cell_of (clock_at bounds r i))) (limit_in limits r.location i)
+
+abbrev pub all_under : List ℕ → Bounds → Region → Bool
+all_under limits bounds r = under limits bounds r 0 && (under limits bounds r 1 && (under limits bounds r 2 && under limits bounds r 3))
+
 -- The list holds the limits of a model.
+abbrev pub Limits : Model → List ℕ → Type 0
+Limits m limits = (l i : ℕ) → i < 4 → limit_in limits l i ≡ limit_of m.invariants l i
+
+-- And the model is sound.
 pub record Limited (m : Model) (limits : List ℕ) : Type 0 where
   pub sound : Sound m
-  pub limit : (l i : ℕ) → i < 4 → limit_in limits l i ≡ limit_of m.invariants l i
+  pub limit : Limits m limits
 
 -- ---- An atom is a limit
 
@@ -160,12 +171,8 @@ module _ (clocks locations : ℕ) (few : clocks ≤ 4) (bounds : Bounds) (r : Re
 -- ---- Laws for the code that tests
 
 module _ (m : Model) (limits : List ℕ) (limited : Limited m limits) (bounds : Bounds) (r : Region) where
-  -- Clock i of the region is below its limit.
-  abbrev pub under : ℕ → Bool
-  under i = ltb (position (cell_of (clock_at bounds r i))) (limit_in limits r.location i)
-
   -- One clock is not: the invariant is broken.
-  pub limit-broken : (i : ℕ) → i < 4 → under i ≡ false → false ≡ meets bounds m.invariants r
+  pub limit-broken : (i : ℕ) → i < 4 → under limits bounds r i ≡ false → false ≡ meets bounds m.invariants r
   unfolding meets
   limit-broken i h e = go (every (allows bounds r) m.invariants) refl
     where
@@ -182,12 +189,14 @@ module _ (m : Model) (limits : List ℕ) (limited : Limited m limits) (bounds : 
           ))
 
   -- All four are: it is met.
-  pub limits-met : under 0 ≡ true → under 1 ≡ true → under 2 ≡ true → under 3 ≡ true → true ≡ meets bounds m.invariants r
+  pub limits-met : under limits bounds r 0 ≡ true → under limits bounds r 1 ≡ true → under limits bounds r 2 ≡ true
+      → under limits bounds r 3 ≡ true → true ≡ meets bounds m.invariants r
   unfolding meets
   limits-met e₀ e₁ e₂ e₃ =
       sym (from-limits m.clocks m.locations limited.sound.clocks bounds r m.invariants limited.sound.invariants each)
     where
-      below : (i : ℕ) → i < 4 → under i ≡ true → position (cell_of (clock_at bounds r i)) < limit_of m.invariants r.location i
+      below : (i : ℕ) → i < 4 → under limits bounds r i ≡ true
+          → position (cell_of (clock_at bounds r i)) < limit_of m.invariants r.location i
       below i h e = subst (λ n. position (cell_of (clock_at bounds r i)) < n) (limited.limit r.location i h)
           (ltb-true (position (cell_of (clock_at bounds r i))) (limit_in limits r.location i) e)
 
@@ -198,10 +207,19 @@ module _ (m : Model) (limits : List ℕ) (limited : Limited m limits) (bounds : 
       each (suc (suc (suc zero))) h = below 3 h e₃
       each (suc (suc (suc (suc i)))) h = absurd (omega arith)
 
-  -- The first three are, and the last one decides.
-  pub limits-tell : under 0 ≡ true → under 1 ≡ true → under 2 ≡ true → (b : Bool) → b ≡ under 3 → b ≡ meets bounds m.invariants r
-  limits-tell e₀ e₁ e₂ true e = limits-met e₀ e₁ e₂ (sym e)
-  limits-tell e₀ e₁ e₂ false e = limit-broken 3 (omega arith) (sym e)
+  -- What the code tests.
+  pub limits-tell : all_under limits bounds r ≡ meets bounds m.invariants r
+  limits-tell =
+      go (under limits bounds r 0) refl (under limits bounds r 1) refl (under limits bounds r 2) refl (under limits bounds r 3) refl
+    where
+      go : (a : Bool) → under limits bounds r 0 ≡ a → (b : Bool) → under limits bounds r 1 ≡ b → (c : Bool)
+          → under limits bounds r 2 ≡ c → (d : Bool) → under limits bounds r 3 ≡ d
+          → (a && (b && (c && d))) ≡ meets bounds m.invariants r
+      go false e b eb c ec d ed = limit-broken 0 (omega arith) e
+      go true e false eb c ec d ed = limit-broken 1 (omega arith) eb
+      go true e true eb false ec d ed = limit-broken 2 (omega arith) ec
+      go true e true eb true ec false ed = limit-broken 3 (omega arith) ed
+      go true e true eb true ec true ed = limits-met e eb ec ed
 
 -- ---- Laws for the code that fills the list
 

@@ -1,70 +1,41 @@
 // Exploring a model's regions into lent entries, in document 01's order.
-ghost use Rattle.std.specs.Prelude.{ℕ, suc, ◌<◌, ◌≤◌, ◌*◌, ◌≡◌, List, [], ◌∷◌, length};
+ghost use Rattle.std.specs.Prelude.{ℕ, suc, ◌≡◌, [], ◌∷◌, length};
 ghost use Rattle.table.specs.Model.{Model};
-ghost use Rattle.table.specs.Reads.{Reads, ReadsEdge, edge_of};
-ghost use Rattle.regions.specs.Graph.{landing, gather, bounds_of, edge_next, delay_next, next_of};
-ghost use Rattle.regions.specs.Edges.{Placed, Linked};
-ghost use Rattle.regions.specs.Limits.{Limited};
-ghost use Rattle.regions.specs.Marks.{Tested, Visited};
+ghost use Rattle.table.specs.Reads.{edge_of};
+ghost use Rattle.regions.specs.Of.{Of, OfEdge};
+ghost use Rattle.regions.specs.Graph.{landing, gather, edge_next, delay_next, next_of};
+ghost use Rattle.regions.specs.Marks.{Visited};
 ghost use Rattle.regions.specs.Worklist.{explore_from, explore};
-ghost use Rattle.regions.specs.Entries.{entry_bytes, max_entries};
-ghost use Rattle.regions.specs.Explore.{Room, Kept, Left, AllMet, same_region, listed, found_of};
+ghost use Rattle.regions.specs.Explore.{SameSlice, Kept, Left, AllMet, same_region, listed, found_of, count_of};
+ghost use Rattle.regions.specs.Call.{room_for};
 ghost use Rattle.clocks.specs.declared.region.Region.{Region};
 
-use crate::edges::edge_link;
-use crate::entry::{byte_at, read_entry};
-use crate::guards::{is_available, landing_of};
-use crate::index::{Lookup, add, find};
-use crate::limits::follower;
-use crate::marks::mark_place;
-use crate::numbers::put_byte;
+use crate::entry::{ENTRY_BYTES, MAX_ENTRIES};
+use crate::guards::landing_of;
+use crate::index::{Links, Listing};
+use crate::marks::{MARKS, Marks, mark_place};
+use crate::prepared::Prepared;
 use clocks::{Bounds, Region};
-use table::{Branch, Shape};
+use table::Branch;
 
-// The mark of a branch that leads to a region with a number.
-const VISITED: u8 = 1;
+// The entries have no room for a region.
+#[derive(Clone, Copy, Debug, PartialEq, Eq)]
+pub(crate) struct Full;
 
-// How many regions are listed after some were met, and whether there was no room for one of them.
-#[derive(Clone, Copy)]
-pub(crate) struct Met {
-    pub full: bool,
-    pub count: usize,
-}
-
-// A region is met, after n were listed: where it is not known it gets the next number, if there is room.
-fn meet_one(
-    q: Region,
-    n: usize,
-    cap: usize,
-    entries: &mut [u8],
-    heads: &mut [u16],
-    nexts: &mut [u16],
-) -> Met
-    requires { Room cap entries.old heads.old nexts.old n }
-    ensures kept { Kept cap n entries.old heads.old nexts.old
-        entries.new heads.new nexts.new result.count }
-    ensures all_met { AllMet cap n (q ∷ []) entries.old entries.new result }
+// A region is met: where it is not known it gets the next number, if there is room.
+fn meet_one(q: Region, found: &mut Listing) -> Result<(), Full>
+    ensures slice { SameSlice found.old found.new }
+    ensures kept { Kept found.old found.new }
+    ensures all_met { AllMet (q ∷ []) found.old found.new result }
 {
-    let looked = find(entries, heads, nexts, n, q);
-    match looked {
-        Lookup::At(_) => Met {
-            full: false,
-            count: n,
-        },
-        Lookup::Nothing => {
-            if n < cap {
-                add(q, n, entries, heads, nexts);
-                return Met {
-                    full: false,
-                    count: n + 1,
-                };
-            }
-            Met {
-                full: true,
-                count: n,
-            }
-        }
+    if found.listed().find(q).is_some() {
+        return Ok(());
     }
+    if found.links.count == found.cap {
+        return Err(Full);
+    }
+    found.add(q);
+    Ok(())
 }
 
 // Where a branch of a region leads is met, unless its mark says that it was.
@@ -72,309 +43,153 @@ fn meet_target(
     bounds: Bounds,
     r: Region,
     b: Branch,
-    n: usize,
-    cap: usize,
-    entries: &mut [u8],
-    heads: &mut [u16],
-    nexts: &mut [u16],
-    visited: &mut [u8],
-) -> Met
-    requires room { Room cap entries.old heads.old nexts.old n }
-    requires visited { Visited bounds r entries.old n visited.old }
-    ensures kept { Kept cap n entries.old heads.old nexts.old
-        entries.new heads.new nexts.new result.count }
-    ensures visited_2 { Visited bounds r entries.new result.count visited.new }
-    ensures all_met { AllMet cap n (landing bounds r b ∷ []) entries.old entries.new result }
+    found: &mut Listing,
+    visited: &mut [bool],
+) -> Result<(), Full>
+    requires visited { Visited bounds r found.old.entries.now found.old.links.count visited.old }
+    ensures slice { SameSlice found.old found.new }
+    ensures kept { Kept found.old found.new }
+    ensures visited { Visited bounds r found.new.entries.now found.new.links.count visited.new }
+    ensures all_met { AllMet (landing bounds r b ∷ []) found.old found.new result }
 {
     let at = mark_place(b);
-    if byte_at(visited, at) == VISITED {
-        return Met {
-            full: false,
-            count: n,
-        };
+    if slices::at(visited, at, false) {
+        return Ok(());
     }
-    let q = landing_of(bounds, r, b);
-    let met = meet_one(q, n, cap, entries, heads, nexts);
-    if met.full {
-        return met;
-    }
-    put_byte(visited, at, VISITED);
-    met
+    meet_one(landing_of(bounds, r, b), found)?;
+    slices::put(visited, at, true);
+    Ok(())
 }
 
 // The targets of the branches of the edge at a place are met.
 fn meet_branches(
-    bytes: &[u8],
+    model: &Prepared,
     place: usize,
-    bounds: Bounds,
     r: Region,
-    n: usize,
-    cap: usize,
-    entries: &mut [u8],
-    heads: &mut [u16],
-    nexts: &mut [u16],
-    visited: &mut [u8],
-) -> Met
-    requires room { Room cap entries.old heads.old nexts.old n }
-    requires visited { Visited bounds r entries.old n visited.old }
-    ensures kept { Kept cap n entries.old heads.old nexts.old
-        entries.new heads.new nexts.new result.count }
-    ensures visited_2 { Visited bounds r entries.new result.count visited.new }
-    ensures all_met { (m : Model) (e : ℕ) → ReadsEdge bytes.now place m e
-        → AllMet cap n (gather (λ b. landing bounds r b ∷ []) (edge_of m e).branches) entries.old entries.new result }
+    found: &mut Listing,
+    visited: &mut [bool],
+) -> Result<(), Full>
+    requires visited { Visited model.now.bounds r found.old.entries.now found.old.links.count visited.old }
+    ensures slice { SameSlice found.old found.new }
+    ensures kept { Kept found.old found.new }
+    ensures visited { Visited model.now.bounds r found.new.entries.now found.new.links.count visited.new }
+    ensures all_met { (m : Model) (e : ℕ) → OfEdge model.now place m e
+        → AllMet (gather (λ b. landing model.now.bounds r b ∷ []) (edge_of m e).branches) found.old found.new result }
 {
-    let branches = table::branch_count(bytes, place);
-    let mut listed = n;
-    let mut i = 0;
-    while i < branches {
-        let b = table::branch_at(bytes, place, i);
-        let met = meet_target(bounds, r, b, listed, cap, entries, heads, nexts, visited);
-        if met.full {
-            return met;
-        }
-        listed = met.count;
-        i = i + 1;
+    for i in 0..table::branch_count(model.bytes, place) {
+        let b = table::branch_at(model.bytes, place, i);
+        meet_target(model.bounds, r, b, found, visited)?;
     }
-    Met {
-        full: false,
-        count: listed,
-    }
+    Ok(())
 }
 
-// The targets of an edge are met, where it is available.
+// The targets of the edge at a place, whose source is the location of the region, are met where it is available.
 fn meet_edge(
-    bytes: &[u8],
-    limits: &[u16],
+    marks: &mut Marks,
     place: usize,
-    source: usize,
-    bounds: Bounds,
-    r: Region,
-    n: usize,
-    cap: usize,
-    entries: &mut [u8],
-    heads: &mut [u16],
-    nexts: &mut [u16],
-    tested: &mut [u8],
-    visited: &mut [u8],
-) -> Met
-    requires room { Room cap entries.old heads.old nexts.old n }
-    requires tested { Tested limits.now bounds r tested.old × Visited bounds r entries.old n visited.old }
-    ensures kept { Kept cap n entries.old heads.old nexts.old
-        entries.new heads.new nexts.new result.count }
-    ensures tested_2 { Tested limits.now bounds r tested.new
-        × Visited bounds r entries.new result.count visited.new }
-    ensures all_met { (m : Model) (e : ℕ) → Limited m limits.now → ReadsEdge bytes.now place m e
-        → source ≡ (edge_of m e).source → bounds ≡ bounds_of m
-        → AllMet cap n (edge_next m r (edge_of m e)) entries.old entries.new result }
+    found: &mut Listing,
+    visited: &mut [bool],
+) -> Result<(), Full>
+    requires visited { Visited marks.old.model.now.bounds marks.old.region found.old.entries.now found.old.links.count visited.old }
+    ensures slice { SameSlice found.old found.new }
+    ensures kept { Kept found.old found.new }
+    ensures same { (marks.new.model.now ≡ marks.old.model.now) × (marks.new.region ≡ marks.old.region) }
+    ensures visited { Visited marks.old.model.now.bounds marks.old.region found.new.entries.now found.new.links.count visited.new }
+    ensures all_met { (m : Model) (e : ℕ) → Of marks.old.model.now m
+        → OfEdge marks.old.model.now place m e → marks.old.region.location ≡ (edge_of m e).source
+        → AllMet (edge_next m marks.old.region (edge_of m e)) found.old found.new result }
 {
-    if is_available(bytes, limits, place, source, bounds, r, tested) {
-        return meet_branches(
-            bytes, place, bounds, r, n, cap, entries, heads, nexts, visited,
-        );
+    let model = marks.model;
+    let r = marks.region;
+    if !marks.is_available(place, r.location) {
+        return Ok(());
     }
-    Met {
-        full: false,
-        count: n,
-    }
+    meet_branches(model, place, r, found, visited)
 }
 
 // The region that follows by delay is met, if any does and it meets its invariant.
-fn meet_delay(
-    limits: &[u16],
-    bounds: Bounds,
-    r: Region,
-    n: usize,
-    cap: usize,
-    entries: &mut [u8],
-    heads: &mut [u16],
-    nexts: &mut [u16],
-) -> Met
-    requires { Room cap entries.old heads.old nexts.old n }
-    ensures kept { Kept cap n entries.old heads.old nexts.old
-        entries.new heads.new nexts.new result.count }
-    ensures all_met { (m : Model) → Limited m limits.now → bounds ≡ bounds_of m
-        → AllMet cap n (delay_next m r) entries.old entries.new result }
+fn meet_delay(model: &Prepared, r: Region, found: &mut Listing) -> Result<(), Full>
+    ensures slice { SameSlice found.old found.new }
+    ensures kept { Kept found.old found.new }
+    ensures all_met { (m : Model) → Of model.now m
+        → AllMet (delay_next m r) found.old found.new result }
 {
-    let Some(q) = follower(limits, bounds, r) else {
-        return Met {
-            full: false,
-            count: n,
-        };
-    };
-    meet_one(q, n, cap, entries, heads, nexts)
+    match model.follower(r) {
+        Some(q) => meet_one(q, found),
+        None => Ok(()),
+    }
 }
 
 // The targets of all available edges are met, in table order. (Most edges start at another location: these are passed at once. What
 // the others lead to is tested and met once for each mask and target.)
-fn meet_edges(
-    bytes: &[u8],
-    shape: Shape,
-    limits: &[u16],
-    places: &[usize],
-    starts: &[u8],
-    follows: &[u8],
-    bounds: Bounds,
-    r: Region,
-    n: usize,
-    cap: usize,
-    entries: &mut [u8],
-    heads: &mut [u16],
-    nexts: &mut [u16],
-) -> Met
-    requires { Room cap entries.old heads.old nexts.old n }
-    ensures kept { Kept cap n entries.old heads.old nexts.old
-        entries.new heads.new nexts.new result.count }
-    ensures all_met { (m : Model) → Reads bytes.now shape m → Limited m limits.now
-        → Placed m places.now → Linked m starts.now follows.now
-        → bounds ≡ bounds_of m
-        → AllMet cap n (gather (edge_next m r) m.edges) entries.old entries.new result }
+fn meet_edges(model: &Prepared, r: Region, found: &mut Listing) -> Result<(), Full>
+    ensures slice { SameSlice found.old found.new }
+    ensures kept { Kept found.old found.new }
+    ensures all_met { (m : Model) → Of model.now m
+        → AllMet (gather (edge_next m r) m.edges) found.old found.new result }
 {
-    let edges = shape.edges;
-    let location = r.location as usize;
-    let mut tested = [0u8; 1024];
-    let mut visited = [0u8; 1024];
-    let mut listed = n;
-    let mut link = edge_link(starts, location);
-    let mut i = 0;
-    while i < edges {
-        if link == i + 1 {
-            let place = slices::at(places, i, 0);
-            let met = meet_edge(
-                bytes,
-                limits,
-                place,
-                location,
-                bounds,
-                r,
-                listed,
-                cap,
-                entries,
-                heads,
-                nexts,
-                &mut tested,
-                &mut visited,
-            );
-            if met.full {
-                return met;
-            }
-            listed = met.count;
-            link = edge_link(follows, i);
+    let mut marks = Marks::new(model, r);
+    let mut visited = [false; MARKS];
+    let mut link = model.first_link(r.location);
+    for e in 0..model.edge_count() {
+        if link == e + 1 {
+            meet_edge(&mut marks, model.place(e), found, &mut visited)?;
+            link = model.next_link(e);
         }
-        i = i + 1;
     }
-    Met {
-        full: false,
-        count: listed,
-    }
+    Ok(())
 }
 
 // All that a region leads to is met: its delay region first, then the targets of its available edges.
-fn meet_next(
-    bytes: &[u8],
-    shape: Shape,
-    limits: &[u16],
-    places: &[usize],
-    starts: &[u8],
-    follows: &[u8],
-    bounds: Bounds,
-    r: Region,
-    n: usize,
-    cap: usize,
-    entries: &mut [u8],
-    heads: &mut [u16],
-    nexts: &mut [u16],
-) -> Met
-    requires { Room cap entries.old heads.old nexts.old n }
-    ensures kept { Kept cap n entries.old heads.old nexts.old
-        entries.new heads.new nexts.new result.count }
-    ensures all_met { (m : Model) → Reads bytes.now shape m → Limited m limits.now
-        → Placed m places.now → Linked m starts.now follows.now
-        → bounds ≡ bounds_of m → AllMet cap n (next_of m r) entries.old entries.new result }
+fn meet_next(model: &Prepared, r: Region, found: &mut Listing) -> Result<(), Full>
+    ensures slice { SameSlice found.old found.new }
+    ensures kept { Kept found.old found.new }
+    ensures all_met { (m : Model) → Of model.now m
+        → AllMet (next_of m r) found.old found.new result }
 {
-    let met = meet_delay(limits, bounds, r, n, cap, entries, heads, nexts);
-    if met.full {
-        return met;
-    }
-    let listed = met.count;
-    meet_edges(
-        bytes, shape, limits, places, starts, follows, bounds, r, listed, cap, entries, heads,
-        nexts,
-    )
+    meet_delay(model, r, found)?;
+    meet_edges(model, r, found)
 }
 
-// The regions are taken in number order, from the one that is listed on.
-fn explore_listed(
-    bytes: &[u8],
-    shape: Shape,
-    limits: &[u16],
-    places: &[usize],
-    starts: &[u8],
-    follows: &[u8],
-    bounds: Bounds,
-    cap: usize,
-    entries: &mut [u8],
-    heads: &mut [u16],
-    nexts: &mut [u16],
-) -> Met
-    requires { Room cap entries.old heads.old nexts.old 1 }
-    ensures kept { Kept cap 1 entries.old heads.old nexts.old
-        entries.new heads.new nexts.new result.count }
-    ensures entries_value { (m : Model) (d : Region) → Reads bytes.now shape m
-        → Limited m limits.now → Placed m places.now → Linked m starts.now follows.now
-        → bounds ≡ bounds_of m
-        → explore_from same_region (next_of m) (suc cap) cap d (listed entries.old 1) 0
-        ≡ found_of result.full (listed entries.new result.count) }
+// The regions are taken in number order, from the one that is listed on. (What they lead to is listed meanwhile.)
+fn explore_listed(model: &Prepared, found: &mut Listing) -> Result<(), Full>
+    requires { found.old.links.count ≡ 1 }
+    ensures slice { SameSlice found.old found.new }
+    ensures kept { Kept found.old found.new }
+    ensures found { (m : Model) (d : Region) → Of model.now m
+        → explore_from same_region (next_of m) (suc found.old.cap) found.old.cap d (listed found.old.entries.now 1) 0
+        ≡ found_of result (listed found.new.entries.now found.new.links.count) }
 {
-    let mut count = 1;
     let mut i = 0;
-    while i < count {
-        let r = read_entry(entries, i);
-        let met = meet_next(
-            bytes, shape, limits, places, starts, follows, bounds, r, count, cap, entries, heads,
-            nexts,
-        );
-        if met.full {
-            return met;
-        }
-        count = met.count;
-        i = i + 1;
+    while i < found.links.count {
+        meet_next(model, found.listed().region(i), found)?;
+        i += 1;
     }
-    Met {
-        full: false,
-        count: count,
-    }
+    Ok(())
 }
 
-// Explores from a start into entries that have room for `cap` regions.
+// Explores from a start into entries, as many as there are whole ones and 4,096 at most, and returns how many regions there are.
 pub(crate) fn explore_all(
-    bytes: &[u8],
-    shape: Shape,
-    limits: &[u16],
-    places: &[usize],
-    starts: &[u8],
-    follows: &[u8],
-    bounds: Bounds,
+    model: &Prepared,
     start: Region,
-    cap: usize,
     entries: &mut [u8],
-) -> Met
-    requires { (cap ≤ max_entries) × (entry_bytes * cap ≤ length entries.old) }
-    ensures left { Left entries.old entries.new result.count }
-    ensures start_value { (m : Model) → Reads bytes.now shape m
-        → Limited m limits.now → Placed m places.now → Linked m starts.now follows.now
-        → bounds ≡ bounds_of m
-        → explore same_region (next_of m) cap start ≡ found_of result.full (listed entries.new result.count) }
+) -> Result<usize, Full>
+    ensures left { (m : Model) → Of model.now m
+        → Left entries.old entries.new (count_of (room_for (length entries.old)) result) }
+    ensures found { (m : Model) → Of model.now m
+        → explore same_region (next_of m) (room_for (length entries.old)) start
+        ≡ found_of result (listed entries.new (count_of (room_for (length entries.old)) result)) }
 {
-    if cap < 1 {
-        return Met {
-            full: true,
-            count: 0,
-        };
+    let cap = (entries.len() / ENTRY_BYTES).min(MAX_ENTRIES);
+    if cap == 0 {
+        return Err(Full);
     }
-    let mut heads = [0u16; 4096];
-    let mut nexts = [0u16; 4096];
-    add(start, 0, entries, &mut heads, &mut nexts);
-    explore_listed(
-        bytes, shape, limits, places, starts, follows, bounds, cap, entries, &mut heads, &mut nexts,
-    )
+    let mut found = Listing {
+        entries,
+        links: Links::new(),
+        cap,
+    };
+    found.add(start);
+    explore_listed(model, &mut found)?;
+    Ok(found.links.count)
 }

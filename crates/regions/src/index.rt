@@ -1,8 +1,7 @@
-// A chained hash index over the first entries of a slice of regions, in two slices of links that the caller lends. Zeros are the
-// index of no entry.
-ghost use Rattle.std.specs.Prelude.{◌+◌, ◌*◌, ◌≤◌, ◌<◌, ◌≡◌, get_or, length, set};
-ghost use Rattle.regions.specs.Entries.{entry_bytes, max_entries, four_from};
-ghost use Rattle.regions.specs.Index.{bucket_count, mixed, hash_of, Index, Found, Added};
+// A chained hash index over regions that are entries in a slice of bytes. Links of zeros are the index of no entry.
+ghost use Rattle.std.specs.Prelude.{◌+◌, ◌*◌, ◌≤◌, ◌<◌, ◌≡◌, get_or, length, replicate, set};
+ghost use Rattle.regions.specs.Entries.{entry_bytes, max_entries, four_from, region_at};
+ghost use Rattle.regions.specs.Index.{bucket_count, mixed, hash_of, Indexed, Room, Found, Added};
 
 use crate::entry::{read_entry, write_entry};
 use clocks::Region;
@@ -12,18 +11,30 @@ const HASH_PRIME: usize = 4093;
 
 const HASH_BASE: usize = 31;
 
-// What a search finds: the number of an entry, or that there is none.
-#[derive(Clone, Copy)]
-pub(crate) enum Lookup {
-    At(usize),
-    Nothing,
+// The links of the first `count` entries. A link is the number after that of an entry, and 0 where there is none: for each bucket the
+// link to its last entry, and for each entry that to the one before it in its bucket.
+#[derive(Drop)]
+pub(crate) struct Links {
+    pub heads: [u16; 4096],
+    pub nexts: [u16; 4096],
+    pub count: usize,
 }
 
-// A byte as a number.
-fn wide(x: u8) -> usize
-    ensures { (result ≡ x) × (result < 256) }
-{
-    x as usize
+// Entries that are listed, and their index.
+#[derive(Clone, Copy)]
+pub(crate) struct Listed<'a> {
+    pub entries: &'a [u8],
+    pub links: &'a Links,
+    ghost index: { Indexed entries.now links.now },
+}
+
+// Entries that are being listed, with room for `cap` of them, and their index.
+#[derive(Drop)]
+pub(crate) struct Listing<'a> {
+    pub entries: &'a mut [u8],
+    pub links: Links,
+    pub cap: usize,
+    ghost room: { Room cap entries.now links },
 }
 
 // Mixes four bytes into a number.
@@ -31,71 +42,96 @@ fn mix_four(x: usize, four: [u8; 4]) -> usize
     requires { x < bucket_count }
     ensures { (result ≡ mixed x (four_from four 0)) × (result < bucket_count) }
 {
-    let half = (x * HASH_BASE + wide(four[0])) * HASH_BASE + wide(four[1]);
-    let all = (half * HASH_BASE + wide(four[2])) * HASH_BASE + wide(four[3]);
+    let half = (x * HASH_BASE + usize::from(four[0])) * HASH_BASE + usize::from(four[1]);
+    let all = (half * HASH_BASE + usize::from(four[2])) * HASH_BASE + usize::from(four[3]);
     all % HASH_PRIME
 }
 
-// The bucket of a region.
+// Returns the bucket of a region.
 pub(crate) fn hash_of(r: Region) -> usize
     ensures { (result ≡ hash_of r) × (result < bucket_count) }
 {
-    let whole = r.whole;
-    let rank = r.rank;
-    mix_four(mix_four(wide(r.location), whole), rank)
+    mix_four(mix_four(usize::from(r.location), r.whole), r.rank)
 }
 
-// The link at a place.
-pub(crate) fn link_at(links: &[u16], i: usize) -> usize
-    requires { i < length links.now }
-    ensures { result ≡ get_or links.now i 0 }
-{
-    links[i] as usize
-}
-
-// Stores a link at a place.
-fn put_link(links: &mut [u16], i: usize, link: usize)
-    requires { (i < length links.old) × (link ≤ max_entries) }
-    ensures { links.new ≡ set links.old i link }
-{
-    links[i] = link as u16;
-}
-
-// Looks for a region among the first n entries: along its bucket, from the last entry of it to the first.
-pub(crate) fn find(entries: &[u8], head: &[u16], next: &[u16], n: usize, r: Region) -> Lookup
-    requires { Index entries.now head.now next.now n }
-    ensures { Found entries.now n r result }
-{
-    let mut link = link_at(head, hash_of(r));
-    while 0 < link {
-        let j = link - 1;
-        if read_entry(entries, j) == r {
-            return Lookup::At(j);
+impl Links {
+    // Returns the index of no entry.
+    pub(crate) fn new() -> Links
+        ensures { (result.heads ≡ replicate 4096 0) × (result.count ≡ 0) }
+    {
+        Links {
+            heads: [0; 4096],
+            nexts: [0; 4096],
+            count: 0,
         }
-        link = link_at(next, j);
     }
-    Lookup::Nothing
+
+    // Links a region that is the next entry.
+    pub(crate) fn push(&mut self, r: Region)
+        requires { self.old.count < max_entries }
+        ensures { (self.new.heads ≡ set self.old.heads (hash_of r) (self.old.count + 1))
+            × (self.new.nexts ≡ set self.old.nexts self.old.count (get_or self.old.heads (hash_of r) 0))
+            × (self.new.count ≡ self.old.count + 1) }
+    {
+        let bucket = hash_of(r);
+        self.nexts[self.count] = self.heads[bucket];
+        self.count += 1;
+        self.heads[bucket] = self.count as u16;
+    }
 }
 
-// Puts a region that is entry n into the index of the first n.
-pub(crate) fn link_entry(r: Region, n: usize, head: &mut [u16], next: &mut [u16])
-    requires bucket_count_in_bounds { (bucket_count ≤ length head.old) × (n < max_entries) × (n < length next.old) }
-    requires r_bound { get_or head.old (hash_of r) 0 ≤ max_entries }
-    ensures { (head.new ≡ set head.old (hash_of r) (n + 1))
-        × (next.new ≡ set next.old n (get_or head.old (hash_of r) 0)) }
-{
-    let bucket = hash_of(r);
-    put_link(next, n, link_at(head, bucket));
-    put_link(head, bucket, n + 1);
+impl Listed<'_> {
+    // Returns the number of entries.
+    pub(crate) fn count(self) -> usize
+        ensures count { result ≡ self.entry.links.now.count }
+        ensures few { result ≤ max_entries }
+    {
+        self.links.count
+    }
+
+    // Returns the region at an entry.
+    pub(crate) fn region(self, j: usize) -> Region
+        requires { j < max_entries }
+        ensures { result ≡ region_at self.entry.entries.now j }
+    {
+        read_entry(self.entries, j)
+    }
+
+    // Returns the number of an entry that is a region: along its bucket, from the last entry of it to the first.
+    pub(crate) fn find(self, r: Region) -> Option<usize>
+        ensures { Found self.entry.entries.now self.entry.links.now.count r result }
+    {
+        let mut link = self.links.heads[hash_of(r)];
+        while 0 < link {
+            let j = usize::from(link - 1);
+            if read_entry(self.entries, j) == r {
+                return Some(j);
+            }
+            link = self.links.nexts[j];
+        }
+        None
+    }
 }
 
-// Stores a region as entry n, and puts it into the index of the first n.
-pub(crate) fn add(r: Region, n: usize, entries: &mut [u8], head: &mut [u16], next: &mut [u16])
-    requires index { Index entries.old head.old next.old n }
-    requires n_lt_max_entries { (n < max_entries) × (entry_bytes * n + entry_bytes ≤ length entries.old) × (n < length next.old) }
-    ensures { Added r n entries.old head.old next.old
-        entries.new head.new next.new }
-{
-    write_entry(entries, n, r);
-    link_entry(r, n, head, next);
+impl<'a> Listing<'a> {
+    // Returns the entries that are listed so far.
+    pub(crate) fn listed(&self) -> Listed<'_>
+        ensures { (result.entries.now ≡ self.now.entries.now) × (result.links.now ≡ self.now.links) }
+    {
+        Listed {
+            entries: self.entries,
+            links: &self.links,
+        }
+    }
+
+    // Lists one more region.
+    pub(crate) fn add(&mut self, r: Region)
+        requires { self.old.links.count < self.old.cap }
+        ensures slice { self.new.entries.ghost_name ≡ self.old.entries.ghost_name }
+        ensures cap { self.new.cap ≡ self.old.cap }
+        ensures added { Added r self.old.entries.now self.old.links self.new.entries.now self.new.links }
+    {
+        write_entry(self.entries, self.links.count, r);
+        self.links.push(r);
+    }
 }

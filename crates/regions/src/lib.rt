@@ -12,7 +12,7 @@ mod index;
 mod limits;
 mod marks;
 mod moves;
-mod numbers;
+mod prepared;
 mod reach;
 mod rows;
 mod shown;

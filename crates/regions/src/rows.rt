@@ -1,71 +1,63 @@
 // The edges of a model as rows of numbers.
-ghost use Rattle.std.specs.Prelude.{ℕ, ◌+◌, ◌*◌, ◌≤◌, ◌<◌, ◌≡◌, length};
+ghost use Rattle.std.specs.Prelude.{ℕ, ◌+◌, ◌*◌, ◌%◌, ◌≤◌, ◌<◌, ◌≡◌, length, set};
 ghost use Rattle.table.specs.Model.{Model};
-ghost use Rattle.table.specs.Reading.{read_table, accepted};
-ghost use Rattle.table.specs.Reads.{ReadsEdge, Lists, edge_of};
-ghost use Rattle.regions.specs.Edges.{Placed};
-ghost use Rattle.regions.specs.Filling.{Before, Fitting, RowTo, RowsTo};
+ghost use Rattle.table.specs.Reads.{ReadsEdge, edge_of};
+ghost use Rattle.regions.specs.Of.{Of};
+ghost use Rattle.regions.specs.Filling.{Before, Fitting, RowTo, RowsTo, three_set};
 
-use crate::numbers::{at_most, store_three};
+use crate::prepared::Prepared;
 use table::Edge;
 
-const MAX_BRANCHES: usize = 8;
+pub(crate) const MAX_BRANCHES: usize = 8;
 
-const ROW: usize = 32;
+pub(crate) const ROW: usize = 32;
 
-// The row of the edge at a place: its action, its denominator, how many branches it has, and three numbers for each.
-fn show_row(
-    bytes: &[u8],
-    place: usize,
-    action: usize,
-    denominator: usize,
-    at: usize,
-    rows: &mut [u16],
-)
+// Stores a number, its lowest 16 bits, where the list has room for it.
+pub(crate) fn store(list: &mut [u16], at: usize, number: usize)
+    ensures { list.new ≡ set list.old at (number % 65536) }
+{
+    slices::put(list, at, (number % 65536) as u16);
+}
+
+// Stores three numbers from a place on.
+fn store_three(list: &mut [u16], at: usize, a: usize, b: usize, c: usize)
+    requires { at + 3 ≤ length list.old }
+    ensures { list.new ≡ three_set list.old at (a % 65536) (b % 65536) (c % 65536) }
+{
+    store(list, at, a);
+    store(list, at + 1, b);
+    store(list, at + 2, c);
+}
+
+// Stores the row of the edge at a place: its action, its denominator, how many branches it has, and three numbers for each.
+fn show_row(bytes: &[u8], place: usize, edge: Edge, at: usize, rows: &mut [u16])
     requires { at + 32 ≤ length rows.old }
     ensures before { Before at rows.old rows.new }
     ensures row_to { (m : Model) (e : ℕ) → ReadsEdge bytes.now place m e → Fitting (edge_of m e)
-        → action ≡ (edge_of m e).action → denominator ≡ (edge_of m e).denominator
+        → edge.action ≡ (edge_of m e).action → edge.denominator ≡ (edge_of m e).denominator
         → RowTo (edge_of m e) at (length (edge_of m e).branches) rows.new }
 {
-    let count = table::branch_count(bytes, place);
-    let branches = at_most(count, MAX_BRANCHES);
-    store_three(rows, at, action, denominator, branches);
-    let mut i = 0;
-    while i < branches {
+    let branches = table::branch_count(bytes, place).min(MAX_BRANCHES);
+    let action = usize::from(edge.action);
+    store_three(rows, at, action, edge.denominator as usize, branches);
+    for i in 0..branches {
         let b = table::branch_at(bytes, place, i);
         store_three(
             rows,
             at + 3 + 3 * i,
             b.weight,
-            b.mask as usize,
-            b.target as usize,
+            usize::from(b.mask),
+            usize::from(b.target),
         );
-        i = i + 1;
     }
 }
 
-// The rows of all edges.
-pub(crate) fn show_rows(
-    bytes: &[u8],
-    places: &[usize],
-    list: &[Edge],
-    edges: usize,
-    rows: &mut [u16],
-)
-    requires { (edges ≤ 128) × (128 * 32 ≤ length rows.old) }
-    ensures { (m : Model) → read_table bytes.now ≡ accepted m
-        → Placed m places.now → Lists m list.now
-        → ((e : ℕ) → e < length m.edges → Fitting (edge_of m e)) → edges ≡ length m.edges
-        → RowsTo m edges rows.new }
+// Stores the rows of all edges.
+pub(crate) fn show_rows(model: &Prepared, rows: &mut [u16])
+    requires { 128 * 32 ≤ length rows.old }
+    ensures { (m : Model) → Of model.now m → RowsTo m (length m.edges) rows.new }
 {
-    let mut e = 0;
-    while e < edges {
-        let place = slices::at(places, e, 0);
-        let edge = table::edge_of(list, e);
-        let action = edge.action as usize;
-        let denominator = edge.denominator as usize;
-        show_row(bytes, place, action, denominator, ROW * e, rows);
-        e = e + 1;
+    for e in 0..model.edge_count() {
+        show_row(model.bytes, model.place(e), model.edge(e), ROW * e, rows);
     }
 }

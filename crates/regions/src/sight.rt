@@ -2,34 +2,24 @@
 ghost use Rattle.std.specs.Prelude.{ℕ, ◌+◌, ◌*◌, ◌≤◌, ◌<◌, ◌≡◌, true, false, length, Ok};
 ghost use Rattle.table.specs.Model.{Model};
 ghost use Rattle.table.specs.Reading.{read_table, refusal, accepted};
-ghost use Rattle.table.specs.Access.{edge_struct};
-ghost use Rattle.table.specs.Reads.{Reads, ReadsEdge, Lists, edge_of};
+ghost use Rattle.table.specs.Reads.{Reads, edge_of};
+ghost use Rattle.regions.specs.Of.{Of, OfEdge};
 ghost use Rattle.table.specs.declared.refusals.Reason.{Reason};
-ghost use Rattle.regions.specs.Graph.{bounds_of};
-ghost use Rattle.regions.specs.Edges.{Placed};
-ghost use Rattle.regions.specs.Limits.{Limited};
-ghost use Rattle.regions.specs.Entries.{entry_bytes, max_entries, region_at};
-ghost use Rattle.regions.specs.Index.{Index};
-ghost use Rattle.regions.specs.Explore.{listed};
+ghost use Rattle.regions.specs.Explore.{regions_of, region_of, size_of};
 ghost use Rattle.regions.specs.Filling.{Before, Fitting};
 ghost use Rattle.regions.specs.Sight.{checked_of, location_labels, labels_after, entry_in, delay_list, Ways, Stepping, is_seen, sight_of};
 ghost use Rattle.regions.specs.Sight.{Sighted};
 
-use crate::bounds::bounds_of;
-use crate::entry::{ENTRY_BYTES, read_entry};
-use crate::guards::{is_available, landing_of};
-use crate::limits::list_limits;
+use crate::entry::{ENTRY_BYTES, MAX_ENTRIES, read_entry};
+use crate::guards::landing_of;
+use crate::index::Listed;
+use crate::marks::Marks;
 use crate::moves::link_all;
-use crate::numbers::{at_most, store};
-use crate::reach::{list_delays, number_by};
-use clocks::{Bounds, Region};
-use table::{Edge, Refusal, Shape};
-
-const MOST_REGIONS: usize = 4096;
-
-const MOST_BRANCHES: usize = 8;
-
-const ROW: usize = 32;
+use crate::prepared::Prepared;
+use crate::reach::list_delays;
+use crate::rows::{MAX_BRANCHES, ROW, store};
+use clocks::Region;
+use table::{Refusal, Shape};
 
 // What is said of a region: its label, how many regions it reaches by delay, and how many edges the model has.
 #[derive(Clone, Copy, Debug, PartialEq, Eq)]
@@ -52,10 +42,8 @@ fn store_location_labels(bytes: &[u8], shape: Shape, labels: &mut [u8])
     ensures { (m : Model) → Reads bytes.now shape m
         → labels.new ≡ location_labels m (length labels.old) }
 {
-    let mut i = 0;
-    while i < labels.len() {
+    for i in 0..labels.len() {
         labels[i] = table::label_at(bytes, shape, i);
-        i = i + 1;
     }
 }
 
@@ -72,7 +60,7 @@ pub fn label_locations(bytes: &[u8], labels: &mut [u8])
 pub fn entry_at(entries: &[u8], j: usize) -> Region
     ensures { result ≡ entry_in entries.now j }
 {
-    if j < MOST_REGIONS {
+    if j < MAX_ENTRIES {
         return read_entry(entries, j);
     }
     Region {
@@ -82,169 +70,83 @@ pub fn entry_at(entries: &[u8], j: usize) -> Region
     }
 }
 
-// The branches of the edge at a place: weight and target number of each, from a place of the rows on; and how many there are.
-fn list_ways(
-    bytes: &[u8],
-    place: usize,
-    bounds: Bounds,
-    r: Region,
-    entries: &[u8],
-    heads: &[u16],
-    links: &[u16],
-    n: usize,
-    at: usize,
-    rows: &mut [u16],
-)
-    requires index { Index entries.now heads.now links.now n }
-    requires n_le_max_entries { (n ≤ max_entries) × (at + 32 ≤ length rows.old) }
+// Stores the branches of the edge at a place: weight and target number of each, from a place of the rows on; and how many there are.
+fn list_ways(marks: &Marks, place: usize, found: Listed, at: usize, rows: &mut [u16])
+    requires { at + 32 ≤ length rows.old }
     ensures before { Before (at + 3) rows.old rows.new }
-    ensures ways { (m : Model) (e : ℕ) → ReadsEdge bytes.now place m e → Fitting (edge_of m e) → bounds ≡ bounds_of m
-        → Ways m (listed entries.now n) r e at rows.new }
+    ensures ways { (m : Model) (e : ℕ) → Of marks.now.model.now m
+        → OfEdge marks.now.model.now place m e → Fitting (edge_of m e)
+        → Ways m (regions_of found.entry) marks.now.region e at rows.new }
 {
-    let count = at_most(table::branch_count(bytes, place), MOST_BRANCHES);
+    let count = table::branch_count(marks.model.bytes, place).min(MAX_BRANCHES);
     store(rows, at + 3, count);
-    let mut i = 0;
-    while i < count {
-        let b = table::branch_at(bytes, place, i);
-        let q = landing_of(bounds, r, b);
+    for i in 0..count {
+        let b = table::branch_at(marks.model.bytes, place, i);
+        let q = landing_of(marks.model.bounds, marks.region, b);
         store(rows, at + 4 + 2 * i, b.weight);
-        store(rows, at + 5 + 2 * i, number_by(entries, heads, links, n, q));
-        i = i + 1;
+        store(rows, at + 5 + 2 * i, found.number(q));
     }
 }
 
-// The row of the edge at a place.
-fn list_step(
-    bytes: &[u8],
-    limits: &[u16],
-    place: usize,
-    edge: Edge,
-    bounds: Bounds,
-    r: Region,
-    entries: &[u8],
-    heads: &[u16],
-    links: &[u16],
-    n: usize,
-    at: usize,
-    rows: &mut [u16],
-)
-    requires index { Index entries.now heads.now links.now n }
-    requires n_le_max_entries { (n ≤ max_entries) × (at + 32 ≤ length rows.old) }
-    ensures before { Before at rows.old rows.new }
-    ensures stepping { (m : Model) (e : ℕ) → Limited m limits.now → ReadsEdge bytes.now place m e
-        → Fitting (edge_of m e)
-        → edge ≡ edge_struct (edge_of m e) → bounds ≡ bounds_of m
-        → at ≡ 32 * e → Stepping m (listed entries.now n) r e rows.new }
+// Stores the row of an edge.
+fn list_step(marks: &mut Marks, e: usize, found: Listed, rows: &mut [u16])
+    requires { 32 * e + 32 ≤ length rows.old }
+    ensures same { (marks.new.model.now ≡ marks.old.model.now) × (marks.new.region ≡ marks.old.region) }
+    ensures before { Before (32 * e) rows.old rows.new }
+    ensures stepping { (m : Model) → Of marks.old.model.now m
+        → e < length m.edges → Stepping m (regions_of found.entry) marks.old.region e rows.new }
 {
-    let source = edge.source as usize;
-    let mut tested = [0u8; 1024];
-    if is_available(bytes, limits, place, source, bounds, r, &mut tested) {
+    let at = ROW * e;
+    let place = marks.model.place(e);
+    let edge = marks.model.edge(e);
+    if marks.is_available(place, edge.source) {
         store(rows, at, 1);
-        store(rows, at + 1, edge.action as usize);
+        store(rows, at + 1, usize::from(edge.action));
         store(rows, at + 2, edge.denominator as usize);
-        list_ways(bytes, place, bounds, r, entries, heads, links, n, at, rows);
+        list_ways(marks, place, found, at, rows);
     } else {
         store(rows, at, 0);
     }
 }
 
-// The rows of all edges.
-fn list_steps(
-    bytes: &[u8],
-    limits: &[u16],
-    places: &[usize],
-    list: &[Edge],
-    edges: usize,
-    bounds: Bounds,
-    r: Region,
-    entries: &[u8],
-    heads: &[u16],
-    links: &[u16],
-    n: usize,
-    rows: &mut [u16],
-)
-    requires index { Index entries.now heads.now links.now n }
-    requires n_le_max_entries { (n ≤ max_entries) × (edges ≤ 128) × (128 * 32 ≤ length rows.old) }
-    ensures { (m : Model) → read_table bytes.now ≡ accepted m → Limited m limits.now
-        → Placed m places.now → Lists m list.now
-        → ((e : ℕ) → e < length m.edges → Fitting (edge_of m e)) → bounds ≡ bounds_of m → edges ≡ length m.edges
-        → (e : ℕ) → e < edges → Stepping m (listed entries.now n) r e rows.new }
+// Stores the rows of all edges.
+fn list_steps(model: &Prepared, r: Region, found: Listed, rows: &mut [u16])
+    requires { 128 * 32 ≤ length rows.old }
+    ensures { (m : Model) → Of model.now m
+        → (e : ℕ) → e < length m.edges → Stepping m (regions_of found.entry) r e rows.new }
 {
-    let mut e = 0;
-    while e < edges {
-        let place = slices::at(places, e, 0);
-        let edge = table::edge_of(list, e);
-        list_step(
-            bytes,
-            limits,
-            place,
-            edge,
-            bounds,
-            r,
-            entries,
-            heads,
-            links,
-            n,
-            ROW * e,
-            rows,
-        );
-        e = e + 1;
+    let mut marks = Marks::new(model, r);
+    for e in 0..model.edge_count() {
+        list_step(&mut marks, e, found, rows);
     }
 }
 
-// Region x among the first n entries of a table that was read: what it reaches by delay, and its edges; and how many it reaches.
+// Stores what a region reaches by delay, and its edges, and returns how many it reaches.
 fn see_steps(
-    bytes: &[u8],
-    shape: Shape,
-    entries: &[u8],
-    n: usize,
+    model: &Prepared,
+    found: Listed,
     x: usize,
     delays: &mut [u16],
     rows: &mut [u16],
 ) -> usize
-    requires { (n ≤ max_entries) × (x < n) × (entry_bytes * n ≤ length entries.now) × (n < length delays.old)
-        × (128 * 32 ≤ length rows.old) }
-    ensures { (m : Model) → Reads bytes.now shape m
-        → (result ≡ length (delay_list m (listed entries.now n) (region_at entries.now x)))
-        × Sighted m entries.now n x delays.old delays.new rows.new }
+    requires { (x < size_of found) × (size_of found < length delays.old) × (128 * 32 ≤ length rows.old) }
+    ensures { (m : Model) → Of model.now m
+        → (result ≡ length (delay_list m (regions_of found.entry) (region_of found.entry x)))
+        × Sighted m found.entry.entries.now (size_of found.entry) x delays.old delays.new rows.new }
 {
-    let mut places = [0usize; 128];
-    table::list_places(bytes, shape, &mut places);
-    let list = table::list_edges(bytes, shape);
-    let mut limits = [65535u16; 1024];
-    list_limits(bytes, shape, &mut limits);
-    let bounds = bounds_of(bytes, shape, &places);
-    let edges = at_most(shape.edges, 128);
-    let mut heads = [0u16; 4096];
-    let mut links = [0u16; 4096];
-    link_all(entries, n, &mut heads, &mut links);
-    let r = read_entry(entries, x);
-    list_steps(
-        bytes, &limits, &places, &list, edges, bounds, r, entries, &heads, &links, n, rows,
-    );
-    list_delays(&limits, bounds, entries, &heads, &links, n, r, delays)
+    let r = found.region(x);
+    list_steps(model, r, found, rows);
+    list_delays(model, found, r, delays)
 }
 
-// Is region x one of the first n entries, and is there room for what is said of it?
+// Whether region x is one of the first n entries, and there is room for what is said of it.
 fn is_seen(n: usize, x: usize, entries: usize, delays: usize, rows: usize) -> bool
     ensures { result ≡ is_seen n x entries delays rows }
 {
-    if MOST_REGIONS < n {
-        return false;
-    }
-    if n <= x {
-        return false;
-    }
-    if entries < ENTRY_BYTES * n {
-        return false;
-    }
-    if delays <= n {
-        return false;
-    }
-    4096 <= rows
+    n <= MAX_ENTRIES && x < n && ENTRY_BYTES * n <= entries && n < delays && 128 * ROW <= rows
 }
 
-// Region x of a table that was read.
+// Looks at region x of a table that was read.
 fn see_read(
     bytes: &[u8],
     shape: Shape,
@@ -266,12 +168,16 @@ fn see_read(
     if !is_seen(n, x, entries.len(), delays.len(), rows.len()) {
         return None;
     }
-    let location = read_entry(entries, x).location as usize;
-    let label = table::label_at(bytes, shape, location);
-    let reached = see_steps(bytes, shape, entries, n, x, delays, rows);
+    let links = link_all(entries, n);
+    let found = Listed {
+        entries,
+        links: &links,
+    };
+    let model = Prepared::new(bytes, shape);
+    let location = usize::from(found.region(x).location);
     Some(Seen {
-        label,
-        reached,
+        label: table::label_at(bytes, shape, location),
+        reached: see_steps(&model, found, x, delays, rows),
         edges: shape.edges,
     })
 }

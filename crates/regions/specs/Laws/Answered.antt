@@ -86,7 +86,8 @@ module _ (cap : ℕ) (es : List ℕ) (m : Model) where
   -- There was no room for all regions.
   pub is_cut : meets (bounds_of m) m.invariants (first m) ≡ true → (es' : List ℕ) (count : ℕ) → Left es es' count
       → explore same_region (next_of m) cap (first m) ≡ full (listed es' count)
-      → (Err (refusal_at TooManyRegions 0) ≡ graph_of (from_answer cap (accepted m))) × (es' ≡ entries_after es (from_answer cap (accepted m)))
+      → (Err (refusal_at TooManyRegions 0) ≡ graph_of (from_answer cap (accepted m)))
+      × (es' ≡ entries_after es (from_answer cap (accepted m)))
   is_cut h es' count left e =
       let out = explores h ∙ ap from_found e in (
         sym (ap graph_of out),

@@ -1,5 +1,6 @@
 -- Laws for the loops that fill the slices of the graph: one more number or block is stored, one more set of clocks is taken in.
-use Rattle.std.specs.Prelude.{ℕ, suc, ◌+◌, ◌*◌, ◌%◌, ◌≤◌, ◌<◌, ◌≡◌, refl, Bool, true, false, eqb, ltb, length, get_or, set}
+use Rattle.std.specs.Prelude.{Option, Some, None, ℕ, suc, ◌+◌, ◌*◌, ◌≤◌, ◌<◌, ◌≡◌, refl, Bool, true, false, eqb, ltb, length, get_or, set}
+use Rattle.std.specs.Option.{unwrap_or}
 use Rattle.std.proofs.Common.{arith, mul-le-mul_left, mul-suc, ◌∙◌, ap₂, subst, length-set, get_or-set_same}
 use Rattle.std.proofs.Common.{get_or-set_other, eqb-true, ltb-true, ltb-false, lt-ltb, le-ltb}
 use Rattle.std.proofs.Math.Numerals.{add-one}
@@ -9,11 +10,11 @@ use mathlib.Core.List.{List, [], ◌∷◌, map, Memᴰ}
 use Rattle.std.proofs.Math.Seq.{set_out}
 use Rattle.std.proofs.lemmas.Bool.{eqb-false}
 use Rattle.table.specs.Model.{Model}
-use Rattle.regions.specs.Entries.{entry_bytes, max_entries, region_at}
+use Rattle.regions.specs.Entries.{max_entries, region_at}
 use Rattle.regions.specs.Graph.{delay_next}
-use Rattle.regions.specs.Index.{hash_of, Index, Added, index_on}
+use Rattle.regions.specs.Index.{Found}
 use Rattle.regions.specs.Explore.{listed, listed-length, listed_at}
-use Rattle.regions.specs.View.{number_in, label_of, delay_numbers}
+use Rattle.regions.specs.View.{number_in, delay_numbers}
 use Rattle.regions.specs.Shown.{followers, open_below}
 use Rattle.regions.specs.Filling.{Run, Blocks, Before, InUse, no-reset, by-branch, Still, RowFlagged, Flagged}
 use Rattle.regions.specs.Filling.{bare, Apart, Distinct, Classed, Grouped}
@@ -113,6 +114,12 @@ module _ (m : Model) (es : List ℕ) (n : ℕ) (r : Region) where
         let inside : number_in found q < n = omega (arith, k.inside, listed-length es n) in
         absent (number_in found q) inside (sym (listed_at es n (number_in found q) q inside) ∙ k.is q)
 
+    -- What a search for it answers.
+    pub follows-found : (o : Option ℕ) → Found es n q o → (x : ℕ) → x < n → r ≡ region_at es x
+        → delay_numbers m (listed es n) r ≡ followers n (unwrap_or o n)
+    follows-found (Some j) found x h is = follows-at j found.0 found.1
+    follows-found None found x h is = absurd (follows-listed x h is found)
+
 -- ---- Available edges
 
 module _ (p : ℕ → Bool) (e : ℕ) where
@@ -128,28 +135,29 @@ module _ (p : ℕ → Bool) (e : ℕ) where
 
 -- ---- Masks in use
 
-pub still-none : (l : List ℕ) → Still l l
+pub still-none : (l : List Bool) → Still l l
 still-none l = record { as_long = refl; kept = λ k t. t }
 
 -- One more flag is set, where there is room for it.
-pub still-on : (l l' l'' : List ℕ) (at : ℕ) → l'' ≡ set l' at 1 → Still l l' → Still l l''
+pub still-on : (l l' l'' : List Bool) (at : ℕ) → l'' ≡ set l' at true → Still l l' → Still l l''
 still-on l l' l'' at e s =
     record {
-      as_long = ap length e ∙ length-set l' at 1 ∙ s.as_long;
-      kept = λ k t. ap (λ x. get_or x k 0) e ∙ go k (s.kept k t) (eqb k at) refl;
+      as_long = ap length e ∙ length-set l' at true ∙ s.as_long;
+      kept = λ k t. ap (λ x. get_or x k false) e ∙ go k (s.kept k t) (eqb k at) refl;
     }
   where
-    go : (k : ℕ) → get_or l' k 0 ≡ 1 → (b : Bool) → eqb k at ≡ b → get_or (set l' at 1) k 0 ≡ 1
-    go k t false other = get_or-set_other l' at k 1 0 (eqb-false k at other) ∙ t
+    go : (k : ℕ) → get_or l' k false ≡ true → (b : Bool) → eqb k at ≡ b → get_or (set l' at true) k false ≡ true
+    go k t false other = get_or-set_other l' at k true false (eqb-false k at other) ∙ t
     go k t true same = inside k t (eqb-true k at same) (ltb at (length l')) refl
       where
-        inside : (k : ℕ) → get_or l' k 0 ≡ 1 → k ≡ at → (b : Bool) → ltb at (length l') ≡ b → get_or (set l' at 1) k 0 ≡ 1
-        inside k t same true h = rw same (get_or-set_same l' at 1 0 (ltb-true at (length l') h))
-        inside k t same false h = rw (set_out l' at 1 (ltb-false at (length l') h)) t
+        inside : (k : ℕ) → get_or l' k false ≡ true → k ≡ at → (b : Bool) → ltb at (length l') ≡ b
+            → get_or (set l' at true) k false ≡ true
+        inside k t same true h = rw same (get_or-set_same l' at true false (ltb-true at (length l') h))
+        inside k t same false h = rw (set_out l' at true (ltb-false at (length l') h)) t
 
 -- The masks of the first branches are flagged, and that of one more.
-pub row-flagged-on : (rows l l' : List ℕ) (at i : ℕ) → l' ≡ set l (get_or rows (at + 4 + 3 * i) 0) 1 → RowFlagged rows at i l
-    → RowFlagged rows at (i + 1) l'
+pub row-flagged-on : (rows : List ℕ) (l l' : List Bool) (at i : ℕ) → l' ≡ set l (get_or rows (at + 4 + 3 * i) 0) true
+    → RowFlagged rows at i l → RowFlagged rows at (i + 1) l'
 row-flagged-on rows l l' at i e flagged j h room = go (eqb j i) refl
   where
     mask : ℕ → ℕ
@@ -158,24 +166,24 @@ row-flagged-on rows l l' at i e flagged j h room = go (eqb j i) refl
     still : Still l l'
     still = still-on l l l' (get_or rows (at + 4 + 3 * i) 0) e (still-none l)
 
-    go : (b : Bool) → eqb j i ≡ b → get_or l' (mask j) 0 ≡ 1
+    go : (b : Bool) → eqb j i ≡ b → get_or l' (mask j) false ≡ true
     go true t =
         let same : mask j ≡ mask i = ap mask (eqb-true j i t) in
-        ap₂ (λ (x : List ℕ) (k : ℕ). get_or x k 0) e same
-        ∙ get_or-set_same l (mask i) 1 0 (omega (arith, same, room, still.as_long))
+        ap₂ (λ (x : List Bool) (k : ℕ). get_or x k false) e same
+        ∙ get_or-set_same l (mask i) true false (omega (arith, same, room, still.as_long))
     go false t = still.kept (mask j) (flagged j (omega (arith, h, eqb-false j i t)) (omega (arith, room, still.as_long)))
 
 -- Mask 0 is flagged first.
-pub flagged-none : (rows l l' : List ℕ) → length l ≡ 16 → l' ≡ set l 0 1 → Flagged rows 0 l'
+pub flagged-none : (rows : List ℕ) (l l' : List Bool) → length l ≡ 16 → l' ≡ set l 0 true → Flagged rows 0 l'
 flagged-none rows l l' long e =
     record {
-      as_long = ap length e ∙ length-set l 0 1 ∙ long;
-      first = ap (λ x. get_or x 0 0) e ∙ get_or-set_same l 0 1 0 (omega arith);
+      as_long = ap length e ∙ length-set l 0 true ∙ long;
+      first = ap (λ x. get_or x 0 false) e ∙ get_or-set_same l 0 true false (omega arith);
       row = λ e h. absurd (omega arith);
     }
 
 -- One more row is flagged.
-pub flagged-on : (rows l l' : List ℕ) (k : ℕ) → Still l l' → Flagged rows k l
+pub flagged-on : (rows : List ℕ) (l l' : List Bool) (k : ℕ) → Still l l' → Flagged rows k l
     → RowFlagged rows (32 * k) (get_or rows (32 * k + 2) 0) l' → Flagged rows (k + 1) l'
 flagged-on rows l l' k still flagged here =
     record {
@@ -192,48 +200,41 @@ flagged-on rows l l' k still flagged here =
         (flagged.row e (omega (arith, h, eqb-false e k t)) j less (omega (arith, room, still.as_long)))
 
 -- A mask in use is flagged.
-pub in_use : (rows used : List ℕ) (k mask : ℕ) → Flagged rows k used → mask < 16 → InUse rows k mask → get_or used mask 0 ≡ 1
+pub in_use : (rows : List ℕ) (used : List Bool) (k mask : ℕ) → Flagged rows k used → mask < 16 → InUse rows k mask
+    → get_or used mask false ≡ true
 in_use rows used k _ flagged h no-reset = flagged.first
 in_use rows used k _ flagged h (by-branch e i he hi) = flagged.row e he i hi (omega (arith, h, flagged.as_long))
 
 -- ---- Sets of clocks
 
-module _ (q : Region) (n : ℕ) (es heads links : List ℕ) where
+module _ (q : Region) (n : ℕ) (es : List ℕ) where
   -- The region is there already.
-  pub classed-known : Index es heads links n → (j : ℕ) → j < n → region_at es j ≡ q → Classed q n es heads links es heads links j n
-  classed-known i j h is =
+  pub classed-known : (j : ℕ) → j < n → region_at es j ≡ q → Classed q es n es n j
+  classed-known j h is =
       record {
-        index = i;
         inside = h;
         is = is;
         more = omega arith;
         few = omega arith;
         before = λ k less. refl;
         apart = λ a. a;
-        entries = refl;
-        buckets = refl;
-        linked = refl;
       }
 
   -- It is put there.
-  pub classed-new : (es' heads' links' : List ℕ) → ((j : ℕ) → j < n → region_at es j ≡ q → ⊥)
-      → Added q n es heads links es' heads' links' → Classed q n es heads links es' heads' links' n (n + 1)
-  classed-new es' heads' links' absent added =
+  pub classed-new : (es' : List ℕ) → ((j : ℕ) → j < n → region_at es j ≡ q → ⊥)
+      → ((j : ℕ) → j < n → region_at es' j ≡ region_at es j) → region_at es' n ≡ q → Classed q es n es' (n + 1) n
+  classed-new es' absent before entry =
       record {
-        index = added.index;
         inside = omega arith;
-        is = added.entry;
+        is = entry;
         more = omega arith;
         few = omega arith;
-        before = added.before;
+        before = before;
         apart = λ a i j hi hj e. go a i j hi hj e (eqb i n) refl (eqb j n) refl;
-        entries = added.entries;
-        buckets = added.buckets;
-        linked = added.links;
       }
     where
       new : (j : ℕ) → j < n → region_at es' j ≡ region_at es' n → ⊥
-      new j h e = absent j h (sym (added.before j h) ∙ e ∙ added.entry)
+      new j h e = absent j h (sym (before j h) ∙ e ∙ entry)
 
       go : Apart es n → (i j : ℕ) → i < n + 1 → j < n + 1 → region_at es' i ≡ region_at es' j → (b : Bool) → eqb i n ≡ b
           → (d : Bool) → eqb j n ≡ d → i ≡ j
@@ -245,7 +246,7 @@ module _ (q : Region) (n : ℕ) (es heads links : List ℕ) where
       go a i j hi hj e false ei false ej =
           let p : i < n = omega (arith, eqb-false i n ei) in
           let q : j < n = omega (arith, eqb-false j n ej) in
-          a i j p q (sym (added.before i p) ∙ e ∙ added.before j q)
+          a i j p q (sym (before i p) ∙ e ∙ before j q)
 
 -- Regions with the same clocks and the same location are the same.
 pub same-bare : (a b : Region) → bare a ≡ bare b → a.location ≡ b.location → a ≡ b
@@ -254,11 +255,9 @@ same-bare a b e l =
     ap (λ (x : ℕ). made x a.whole a.rank) l
     ∙ ap₂ (made b.location) (ap (λ (r : Region). r.whole) e) (ap (λ (r : Region). r.rank) e)
 
-pub grouped-none : (es : List ℕ) (n : ℕ) (sets heads links spots : List ℕ) → Index sets heads links 0
-    → Grouped es n 0 sets heads links spots 0
-grouped-none es n sets heads links spots i =
+pub grouped-none : (es : List ℕ) (n : ℕ) (sets : List ℕ) (count : ℕ) (spots : List ℕ) → count ≡ 0 → Grouped es n 0 sets count spots
+grouped-none es n sets count spots none =
     record {
-      index = i;
       few = omega arith;
       apart = λ a b h k e. absurd (omega arith);
       covered = λ y h. absurd (omega arith);
@@ -266,10 +265,10 @@ grouped-none es n sets heads links spots i =
     }
 
 -- One more region is taken in: its clocks are set `at` of `more`.
-module _ (es : List ℕ) (n x : ℕ) (here : x < n) (few : n ≤ max_entries) (sets heads links spots : List ℕ) (count : ℕ)
-    (g : Grouped es n x sets heads links spots count) (sets' heads' links' : List ℕ) (at more : ℕ)
-    (c : Classed (bare (region_at es x)) count sets heads links sets' heads' links' at more) (room : 4096 * 64 ≤ length spots)
-    (spots' : List ℕ) (e : spots' ≡ set spots (64 * at + (region_at es x).location) (x % 65536)) where
+module _ (es : List ℕ) (n x : ℕ) (here : x < n) (few : n ≤ max_entries) (sets spots : List ℕ) (count : ℕ)
+    (g : Grouped es n x sets count spots) (sets' : List ℕ) (at more : ℕ)
+    (c : Classed (bare (region_at es x)) sets count sets' more at) (room : 4096 * 64 ≤ length spots)
+    (spots' : List ℕ) (e : spots' ≡ set spots (64 * at + (region_at es x).location) x) where
   own : Apart sets' more
   own = c.apart g.apart
 
@@ -287,8 +286,8 @@ module _ (es : List ℕ) (n x : ℕ) (here : x < n) (few : n ≤ max_entries) (s
       let low = d.low x here in
       ap₂ (λ (k i : ℕ). get_or spots' (64 * k + (region_at es i).location) 0) set_is same
       ∙ ap (λ l. get_or l (64 * at + (region_at es x).location) 0) e
-      ∙ get_or-set_same spots (64 * at + (region_at es x).location) (x % 65536) 0 (omega (arith, low, c.inside, c.few, g.few, room))
-      ∙ omega (arith, same)
+      ∙ get_or-set_same spots (64 * at + (region_at es x).location) x 0 (omega (arith, low, c.inside, c.few, g.few, room))
+      ∙ sym same
   spots-on d y j h less is false t =
       let low : y < x = omega (arith, eqb-false y x t) in
       let (i, old, was) = g.covered y low in
@@ -304,32 +303,14 @@ module _ (es : List ℕ) (n x : ℕ) (here : x < n) (few : n ≤ max_entries) (s
       let both = d.apart y x (omega arith) here (same-bare (region_at es y) (region_at es x) clocks place_same) in
       eqb-false y x t both in
       ap (λ l. get_or l (64 * j + (region_at es y).location) 0) e
-      ∙ get_or-set_other spots (64 * at + (region_at es x).location) (64 * j + (region_at es y).location) (x % 65536) 0 apart
+      ∙ get_or-set_other spots (64 * at + (region_at es x).location) (64 * j + (region_at es y).location) x 0 apart
       ∙ g.spotted d y j low inside (sym (c.before j inside) ∙ is)
 
-  pub grouped-on : Grouped es n (x + 1) sets' heads' links' spots' more
+  pub grouped-on : Grouped es n (x + 1) sets' more spots'
   grouped-on =
       record {
-        index = c.index;
         few = omega (arith, c.few, g.few);
         apart = own;
         covered = λ y h. covers y h (eqb y x) refl;
         spotted = λ d y j h less is. spots-on d y j h less is (eqb y x) refl;
       }
-
--- ---- For single loops
-
--- One more entry is put into the index.
-pub linked_on : (es heads links : List ℕ) (x : ℕ) → Index es heads links x → x < max_entries → entry_bytes * x + entry_bytes ≤ length es
-    → x < length links → (r : Region) → r ≡ region_at es x → (heads' links' : List ℕ)
-    → heads' ≡ set heads (hash_of r) (x + 1) → links' ≡ set links x (get_or heads (hash_of r) 0) → Index es heads' links' (x + 1)
-linked_on es heads links x i few room link r is heads' links' eh el =
-    rw (eh, el, is, add-one x) (index_on es heads links x i few room link)
-
--- A label is stored whole.
-pub label-fits : (m : Model) (es : List ℕ) (x : ℕ) (r : Region) (v : ℕ) → r ≡ region_at es x → v ≡ get_or m.labels r.location 0 → v < 256
-    → v % 65536 ≡ label_of m (region_at es x)
-unfolding label_of
-label-fits m es x r v is e low =
-    let small : v % 65536 ≡ v = omega arith in
-    small ∙ e ∙ ap (λ (q : Region). get_or m.labels q.location 0) is

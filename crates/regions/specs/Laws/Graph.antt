@@ -6,7 +6,8 @@ use Rattle.std.proofs.Math.Bool.{cond}
 use Rattle.std.proofs.Common.{eq-eqb, ne_eqb}
 use Rattle.table.specs.Model.{Model, Edge}
 use Rattle.clocks.specs.Packed.{delayed}
-use Rattle.regions.specs.Graph.{every, bounds_of, satisfies, meets, fits, landing, lands, available, delay_next, if_meets, gather, edge_next}
+use Rattle.regions.specs.Graph.{every, bounds_of, satisfies, meets, fits, landing, lands, available, delay_next, if_meets, gather}
+use Rattle.regions.specs.Graph.{edge_next}
 use Rattle.clocks.specs.declared.region.Region.{Region}
 
 module _ (m : Model) (e : Edge) (r : Region) where

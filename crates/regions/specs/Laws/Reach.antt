@@ -1,6 +1,6 @@
 -- Laws for the code that lists what a region reaches by delay: the search for the lowest number of a region, and numbers that are
 -- stored from the front of a slice on.
-use Rattle.std.specs.Prelude.{ℕ, zero, suc, ◌+◌, ◌-◌, ◌%◌, ◌≤◌, ◌<◌, ◌≡◌, Bool, true, false, ltb, length, get_or, set, drop}
+use Rattle.std.specs.Prelude.{ℕ, zero, suc, ◌+◌, ◌-◌, ◌≤◌, ◌<◌, ◌≡◌, Bool, true, false, ltb, length, get_or, set, drop}
 use Rattle.std.proofs.Common.{arith, add-one, ◌∙◌, subst, length-append, length-set, get_or-set_same, drop-cons, drop-set-lt}
 use Rattle.std.proofs.Math.Path.{refl, sym, ap}
 use mathlib.Core.List.{List, [], ◌∷◌, ◌++◌, map, append-nil}
@@ -172,9 +172,9 @@ Reaching m found n r at i before after =
     Laid (delay_list m found r) (map (number_in found) (delays_from m (n - i) at)) before after i (number_in found at)
 
 module _ (m : Model) (es : List ℕ) (n : ℕ) (few : n ≤ max_entries) (r : Region) where
-  pub reaching-start : (l before : List ℕ) (v : ℕ) → 0 < length l → before ≡ set l 0 (v % 65536) → v ≡ number_in (listed es n) r
-      → v ≤ n → Reaching m (listed es n) n r r 0 before before
-  reaching-start l before v room e is low =
+  pub reaching-start : (l before : List ℕ) (v : ℕ) → 0 < length l → before ≡ set l 0 v → v ≡ number_in (listed es n) r
+      → Reaching m (listed es n) n r r 0 before before
+  reaching-start l before v room e is =
       record {
         front = [];
         long = refl;
@@ -182,20 +182,18 @@ module _ (m : Model) (es : List ℕ) (n : ℕ) (few : n ≤ max_entries) (r : Re
             let same : length (listed es n) ≡ n - 0 = omega (arith, listed-length es n) in
             ap (λ k. map (number_in (listed es n)) (delays_from m k r)) same;
         is =
-            let small : v % 65536 ≡ v = omega arith in
-            let some : 0 < length before = omega (arith, ap length e ∙ length-set l 0 (v % 65536)) in
+            let some : 0 < length before = omega (arith, ap length e ∙ length-set l 0 v) in
             let one : get_or before 0 0 ≡ number_in (listed es n) r =
-            ap (λ k. get_or k 0 0) e ∙ get_or-set_same l 0 (v % 65536) 0 room ∙ small ∙ is in
+            ap (λ k. get_or k 0 0) e ∙ get_or-set_same l 0 v 0 room ∙ is in
             drop-cons before 0 0 some ∙ ap (λ k. k ∷ drop 1 before) one;
       }
 
   module _ (at : Region) (i : ℕ) (before after : List ℕ) (w : Reaching m (listed es n) n r at i before after) where
     -- Region q follows.
     pub reaching-on : (q : Region) (v : ℕ) (after' : List ℕ) → i < n → n < length before → delay_next m at ≡ q ∷ []
-        → v ≡ number_in (listed es n) q → v ≤ n → after' ≡ set after (i + 1) (v % 65536)
+        → v ≡ number_in (listed es n) q → after' ≡ set after (i + 1) v
         → Reaching m (listed es n) n r q (i + 1) before after'
-    reaching-on q v after' h room e is low new =
-        let small : v % 65536 ≡ v = omega arith in
+    reaching-on q v after' h room e is new =
         let left : n - i ≡ suc (n - suc i) = omega arith in
         let rest-is : map (number_in (listed es n)) (delays_from m (n - i) at)
         ≡ number_in (listed es n) at ∷ map (number_in (listed es n)) (delays_from m (n - suc i) q) =
@@ -205,7 +203,7 @@ module _ (m : Model) (es : List ℕ) (n : ℕ) (few : n ≤ max_entries) (r : Re
         (number_in (listed es n) at) (number_in (listed es n) q)
         (subst (λ k. Laid (delay_list m (listed es n) r) k before after i (number_in (listed es n) at)) rest-is w)
         (omega arith)
-        (new ∙ ap (λ k. set after k (v % 65536)) (add-one i) ∙ ap (set after (suc i)) (small ∙ is)))
+        (new ∙ ap (λ k. set after k v) (add-one i) ∙ ap (set after (suc i)) is))
 
     module _ (l : List ℕ) (v : ℕ) (e : before ≡ set l 0 v) where
       over : map (number_in (listed es n)) (delays_from m (n - i) at) ≡ number_in (listed es n) at ∷ []

@@ -1,10 +1,9 @@
 -- What the slices of the graph hold once all of them are filled (`shown`), and what the graph call says of the entries that it leaves.
-use Rattle.std.specs.Prelude.{ℕ, suc, ◌+◌, ◌*◌, ◌≤◌, ◌<◌, ◌≡◌, refl, true, length, get_or, Result, Ok, Err}
+use Rattle.std.specs.Prelude.{ℕ, suc, ◌+◌, ◌*◌, ◌≤◌, ◌<◌, ◌≡◌, refl, Bool, true, false, length, get_or, Result, Ok, Err}
 use Rattle.std.proofs.Common.{arith, sym, ◌∙◌, ap₂, subst}
 use Rattle.std.proofs.Math.Path.{ap}
 use mathlib.Core.List.{List, Memᴰ}
 use Rattle.table.specs.Model.{Model}
-use Rattle.table.specs.Written.{Bytes}
 use Rattle.table.specs.Reading.{read_table, accepted}
 use Rattle.table.specs.Reads.{edge_of}
 use Rattle.table.specs.Access.{no_branch, no_edge}
@@ -15,7 +14,7 @@ use Rattle.regions.specs.Graph.{bounds_of, landing, available, first}
 use Rattle.regions.specs.Explore.{listed, listed-length, listed_at}
 use Rattle.regions.specs.View.{number_in, label_of, delay_numbers}
 use Rattle.regions.specs.Shown.{Shown, followers, shown_region, open_below, branch_of}
-use Rattle.regions.specs.Filling.{Blocks, RowsTo, InUse, by-branch, Flagged, bare, Distinct, Grouped, Numbers, Targeted}
+use Rattle.regions.specs.Filling.{Blocks, RowsTo, InUse, by-branch, Flagged, Fitting, bare, Distinct, Grouped, Numbers, Targeted}
 use Rattle.regions.specs.Call.{Outcome, whole, from_answer, outcome_of, graph_of, entries_after}
 use Rattle.regions.specs.Laws.Bounds.{all-at}
 use Rattle.regions.specs.Laws.Bytes.{listed-whole, entries-length}
@@ -24,7 +23,6 @@ use Rattle.regions.specs.Order.{AllRegions}
 use Rattle.regions.specs.Laws.Filling.{in_use}
 use Rattle.regions.specs.Laws.Locations.{reached-location}
 use Rattle.regions.specs.Laws.Numbers.{answers-n}
-use Rattle.regions.specs.Laws.Rows.{edge-fits}
 use Rattle.regions.specs.Laws.Worklist.{member}
 use Rattle.regions.specs.Laws.View.{landing-number}
 use Rattle.table.specs.declared.refusals.Refusal.{Refusal}
@@ -32,11 +30,11 @@ use Rattle.clocks.specs.declared.region.Bounds.{Bounds}
 use Rattle.clocks.specs.declared.region.Region.{Region}
 
 -- The set of clocks after a reset, and then the region with that set at a location.
-pub targeted : (es : List ℕ) (n : ℕ) (bounds : Bounds) (sets heads links spots resets : List ℕ) (count : ℕ)
-    → Grouped es n n sets heads links spots count → (rows used : List ℕ) (k : ℕ) → Flagged rows k used
-    → Blocks 16 16 n (λ x mask v. get_or used mask 0 ≡ 1 → Numbers bounds (region_at es x) sets count mask v) resets
+pub targeted : (es : List ℕ) (n : ℕ) (bounds : Bounds) (sets spots resets : List ℕ) (count : ℕ)
+    → Grouped es n n sets count spots → (rows : List ℕ) (used : List Bool) (k : ℕ) → Flagged rows k used
+    → Blocks 16 16 n (λ x mask v. get_or used mask false ≡ true → Numbers bounds (region_at es x) sets count mask v) resets
     → Distinct es n → Targeted es n bounds rows k resets spots
-targeted es n bounds sets heads links spots resets count g rows used k flagged blocks d x mask t hx hm used-so ht e =
+targeted es n bounds sets spots resets count g rows used k flagged blocks d x mask t hx hm used-so ht e =
     let (j, less, is) = g.covered t ht in
     let (inside, at) = blocks x mask hx hm (in_use rows used k mask flagged hm used-so) j less (is ∙ e) in
     g.spotted d t (get_or resets (16 * x + mask) 0) ht inside (at ∙ sym e)
@@ -52,8 +50,8 @@ landing-location : (bounds : Bounds) (r : Region) (m : Model) (e i : ℕ)
 unfolding landing
 landing-location bounds r m e i = refl
 
-module _ (table : List ℕ) (m : Model) (bytes : Bytes table) (read : read_table table ≡ accepted m) (es : List ℕ) (n : ℕ)
-    (all : AllRegions m (listed es n)) where
+module _ (table : List ℕ) (m : Model) (read : read_table table ≡ accepted m) (fits : (e : ℕ) → e < length m.edges → Fitting (edge_of m e))
+    (es : List ℕ) (n : ℕ) (all : AllRegions m (listed es n)) where
   abbrev found : List Region
   found = listed es n
 
@@ -97,7 +95,7 @@ module _ (table : List ℕ) (m : Model) (bytes : Bytes table) (read : read_table
         (member no_branch (edge_of m e).branches i hi) in
         let inside : t < n = within t k.inside in
         let is : region_at es t ≡ q = sym (here t inside) ∙ k.is (first m) in
-        let mask = (edge-fits table m bytes read e he).mask i hi in
+        let mask = (fits e he).mask i hi in
         let in_rows : InUse rows (length m.edges) (branch_of m e i).mask =
         subst (λ (k : ℕ). InUse rows (length m.edges) k) ((listing e he).mask i hi)
         (by-branch e i he (omega (arith, hi, (listing e he).count))) in

@@ -14,7 +14,7 @@ loop-i-init c = λ m e reads. omega arith
 
 pub loop-i-preserved : goal.loop-i-preserved
 loop-i-preserved c =
-    let guard-count = c.guard_count-count in
+    let guard-count = c.guard_count-i-end in
     let loop = c.loop-i in
     let loop-test = c.loop-i-test in
     let max-best = c.max-best in
@@ -24,7 +24,7 @@ loop-i-preserved c =
 
 pub returns : goal.returns
 returns c =
-    let guard-count = c.guard_count-count in
+    let guard-count = c.guard_count-i-end in
     let loop = c.loop-i in
     λ m e reads. let few = guard-count.ensures.value_2 m e reads in largest-over guard_constant (edge_of m e).guards loop.i loop.best
     no_guard (loop.invariant m e reads) (omega (arith, c.loop-i-test.false))

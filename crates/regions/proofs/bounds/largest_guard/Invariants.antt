@@ -1,5 +1,5 @@
 -- `largest_guard` meets its contract. Assumes nothing.
-use Prim.Native.Nat.{ℕ, ◌-◌, max}
+use Prim.Native.Nat.{ℕ, max}
 use mathlib.Core.Path.{◌≡◌}
 use lib.ListN.{drop}
 use Rattle.table.specs.Model.{Model}
@@ -10,6 +10,3 @@ use Rattle.regions.proofs.bounds.largest_guard.Given as goal
 abbrev pub invariant-loop-i : goal.invariant-loop-i
 invariant-loop-i l = (m : Model) (e : ℕ) → ReadsEdge l.bytes l.place m e
     → max l.best (largest_of guard_constant (drop l.i (edge_of m e).guards)) ≡ largest_of guard_constant (edge_of m e).guards
-
-abbrev pub decreases-loop-i : goal.decreases-loop-i
-decreases-loop-i l = l.count - l.i

@@ -4,6 +4,7 @@ use lib.ListN.{length}
 use Rattle.std.specs.Prelude.{Err, ◌≡◌}
 use Rattle.std.proofs.Common.{rules}
 use Rattle.table.proofs.Laws.Reads.{refusal-of, reads_of}
+use Rattle.regions.specs.Of.{of-table}
 use Rattle.regions.specs.Call.{room_for, from_answer, outcome_of, graph_of, entries_after}
 use Rattle.regions.proofs.call.explore_table.Goals as goal
 
@@ -25,7 +26,7 @@ returns c =
     let args = c.args in
     let (m, reads) = reads_of args.bytes.now _ (sym c.in_ok-shape.was ∙ c.read.ensures) in
     let out = ap (from_answer (room_for (length args.entries.now))) reads.answer in
-    let done = c.graph_of.ensures m reads in
+    let done = c.graph_of.ensures m (of-table c.new.result args.bytes.now _ m c.new.ensures reads) in
     record {
       value = done.0 ∙ sym (ap graph_of out);
       entries_after = done.1 ∙ sym (ap (entries_after args.entries.now) out);

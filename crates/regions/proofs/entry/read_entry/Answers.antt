@@ -4,6 +4,4 @@ use Rattle.regions.proofs.entry.read_entry.Goals as goal
 
 pub returns : goal.returns
 unfolding region_at
-returns c =
-    let byte_at = c.byte_at in
-    rw (byte_at.ensures, c.four_at.ensures, c.four_at-2.ensures)
+returns c = rw (c.at.ensures, c.four_at.ensures, c.four_at-2.ensures)

@@ -1,130 +1,57 @@
--- `meet_branches` meets its contract. Assumes nothing.
-use mathlib.Core.Path.{refl, sym, ◌∙◌, ap}
-use mathlib.Core.List.{[], ◌∷◌}
+-- `meet_branches` meets its contract. The loop's invariant: what the first i branches lead to was met. Assumes nothing.
+use Prim.Native.Nat.{ℕ}
+use mathlib.Core.Path.{◌≡◌, sym, ◌∙◌, ap}
+use mathlib.Core.List.{List, [], ◌∷◌}
 use native.Mathlib.Omega.{arith}
+use Rattle.std.specs.Prelude.{Result, Err}
+use Rattle.std.proofs.Common.{rules}
 use Rattle.table.specs.Access.{no_branch}
 use Rattle.table.specs.Reads.{edge_of}
 use Rattle.table.specs.declared.model.Branch.{Branch}
+use Rattle.clocks.specs.declared.region.Region.{Region}
+use Rattle.regions.specs.declared.explore.Full.{Full}
 use Rattle.regions.specs.Graph.{landing}
-use Rattle.regions.specs.Explore.{kept-none, kept_on, loop-on, loop-full, loop-over}
+use Rattle.regions.specs.Worklist.{meet}
+use Rattle.regions.specs.Explore.{same_region, so_far, found_of, kept_on, loop-on, loop-full}
 use Rattle.regions.proofs.explore.meet_branches.Goals as goal
 
-pub loop-i-init : goal.loop-i-init
-loop-i-init c =
+pub returns-in_err-meet_target-clause-all_met : goal.returns-in_err-meet_target-clause-all_met
+returns-in_err-meet_target-clause-all_met c =
     let args = c.args in
-    let pre = c.requires in (
-      kept-none args.cap args.n args.entries.now args.heads.now args.nexts.now pre.room,
-      pre.visited,
-      λ m e
-          reads. refl,
-    )
-
-pub meet_target-met-requires : goal.meet_target-met-requires
-meet_target-met-requires c =
+    let found = args.found.now in
     let loop = c.loop-i in
-    record {
-      room = loop.invariant.0.room;
-      visited = loop.invariant.1;
-    }
-
-pub shape_of-entries-then-met : goal.shape_of-entries-then-met
-shape_of-entries-then-met c =
-    let meet-target = c.meet_target-met in
-    let loop = c.loop-i in
-    meet-target.ensures.kept.entries ∙ loop.invariant.0.entries
-
-pub shape_of-heads-then-met : goal.shape_of-heads-then-met
-shape_of-heads-then-met c =
-    let meet-target = c.meet_target-met in
-    let loop = c.loop-i in
-    meet-target.ensures.kept.buckets ∙ loop.invariant.0.buckets
-
-pub shape_of-nexts-then-met : goal.shape_of-nexts-then-met
-shape_of-nexts-then-met c =
-    let meet-target = c.meet_target-met in
-    let loop = c.loop-i in
-    meet-target.ensures.kept.links ∙ loop.invariant.0.links
-
-pub shape_of-visited-then-met : goal.shape_of-visited-then-met
-shape_of-visited-then-met c =
-    let meet-target = c.meet_target-met in
-    let pre = c.requires in
-    meet-target.ensures.visited_2.room ∙ sym pre.visited.room
-
-pub returns-then-met : goal.returns-then-met
-returns-then-met c =
-    let args = c.args in
-    let loop = c.loop-i in
-    let meet-target = c.meet_target-met in
-    let branch-count = c.branch_count-branches in
-    let branch-at = c.branch_at-b in
-    let loop-test = c.loop-i-test in
-    record {
-      kept = kept_on args.cap args.n args.entries.now args.heads.now args.nexts.now loop.entries loop.heads
-          loop.nexts _ _ _ loop.listed _ loop.invariant.0 meet-target.ensures.kept;
-      visited_2 = meet-target.ensures.visited_2;
-      all_met = λ m e reads. let few = branch-count.ensures.value_2 m e reads in let target = ap (landing args.bounds args.r)
-          (branch-at.ensures.value_2 m e reads) in loop-full
-          (λ (b : Branch). landing args.bounds args.r b ∷ []) (edge_of m e).branches loop.i no_branch args.cap args.n
-          loop.listed
-          args.entries.now loop.entries (loop.invariant.2 m e reads) (omega (arith, loop-test.true)) _
-          meet-target.result c.if-met.true (rw target at meet-target.ensures.all_met);
-    }
-
-pub overflow_add-i : goal.overflow_add-i
-overflow_add-i c =
-    let loop-test = c.loop-i-test in
-    let branch-count = c.branch_count-branches in
-    omega (arith, loop-test.true, branch-count.type_inv)
-
-pub loop-i-smaller : goal.loop-i-smaller
-loop-i-smaller c =
-    let loop-test = c.loop-i-test in
-    omega (arith, loop-test.true)
+    let now = c.meet_target.new.found in
+    let same : c.from_residual.result ≡ Err c.in_err-meet_target.field-0.0 = search rules in
+    let g : Branch → List Region = λ b. landing args.model.now.bounds args.r b ∷ [] in
+    λ m e edge.
+    let few = c.branch_count-i-end.ensures.value_2 m e edge in
+    loop-full g (edge_of m e).branches loop.i no_branch found.cap (so_far found) (so_far loop.found) (loop.invariant.met m e edge)
+    (omega (arith, c.loop-i-test.true)) (so_far now)
+    (ap (λ (k : ℕ). meet same_region k (so_far loop.found) (g (lib.ListN.get_or (edge_of m e).branches loop.i no_branch)))
+    (sym loop.invariant.kept.cap)
+    ∙ ap (λ (b : Branch). meet same_region loop.found.cap (so_far loop.found) (g b)) (sym (c.branch_at-b.ensures.value_2 m e edge))
+    ∙ c.meet_target.ensures.all_met
+    ∙ ap (λ (r : Result Unit Full). found_of r (so_far now)) c.in_err-meet_target.was)
+    ∙ sym (ap (λ (r : Result Unit Full). found_of r (so_far now)) same)
 
 pub loop-i-preserved : goal.loop-i-preserved
 loop-i-preserved c =
     let args = c.args in
+    let found = args.found.now in
     let loop = c.loop-i in
-    let meet-target = c.meet_target-met in
-    let branch-count = c.branch_count-branches in
-    let branch-at = c.branch_at-b in
-    let loop-test = c.loop-i-test in (
-      kept_on args.cap args.n args.entries.now args.heads.now args.nexts.now loop.entries loop.heads
-          loop.nexts _ _ _ loop.listed _ loop.invariant.0 meet-target.ensures.kept,
-      meet-target.ensures.visited_2,
-      λ m e reads. let few = branch-count.ensures.value_2 m e reads in let target = ap (landing args.bounds args.r)
-          (branch-at.ensures.value_2 m e reads) in loop-on
-          (λ (b : Branch). landing args.bounds args.r b ∷ []) (edge_of m e).branches loop.i no_branch args.cap args.n
-          loop.listed
-          args.entries.now loop.entries (loop.invariant.2 m e reads) (omega (arith, loop-test.true)) _
-          meet-target.result c.if-met.false (rw target at meet-target.ensures.all_met),
-    )
-
-pub shape_of-entries : goal.shape_of-entries
-shape_of-entries c = c.loop-i.invariant.0.entries
-
-pub shape_of-heads : goal.shape_of-heads
-shape_of-heads c = c.loop-i.invariant.0.buckets
-
-pub shape_of-nexts : goal.shape_of-nexts
-shape_of-nexts c = c.loop-i.invariant.0.links
-
-pub shape_of-visited : goal.shape_of-visited
-shape_of-visited c =
-    let pre = c.requires in
-    c.loop-i.invariant.1.room ∙ sym pre.visited.room
-
-pub returns : goal.returns
-returns c =
-    let loop = c.loop-i in
-    let branch-count = c.branch_count-branches in
-    let args = c.args in
+    let now = c.meet_target.new.found in
+    let g : Branch → List Region = λ b. landing args.model.now.bounds args.r b ∷ [] in
     record {
-      kept = loop.invariant.0;
-      visited_2 = loop.invariant.1;
-      all_met = λ m e reads. let few = branch-count.ensures.value_2 m e reads in loop-over
-          (λ (b : Branch). landing args.bounds args.r b ∷ []) (edge_of m e).branches loop.i no_branch args.cap args.n
-          loop.listed
-          args.entries.now loop.entries (loop.invariant.2 m e reads) (omega (arith, c.loop-i-test.false));
+      slice = c.meet_target.ensures.slice ∙ loop.invariant.slice;
+      kept = kept_on found loop.found now loop.invariant.kept c.meet_target.ensures.kept;
+      visited = c.meet_target.ensures.visited;
+      met = λ m e edge.
+          let few = c.branch_count-i-end.ensures.value_2 m e edge in
+          loop-on g (edge_of m e).branches loop.i no_branch found.cap (so_far found) (so_far loop.found) (loop.invariant.met m e edge)
+          (omega (arith, c.loop-i-test.true)) (so_far now)
+          (ap (λ (k : ℕ). meet same_region k (so_far loop.found) (g (lib.ListN.get_or (edge_of m e).branches loop.i no_branch)))
+          (sym loop.invariant.kept.cap)
+          ∙ ap (λ (b : Branch). meet same_region loop.found.cap (so_far loop.found) (g b)) (sym (c.branch_at-b.ensures.value_2 m e edge))
+          ∙ c.meet_target.ensures.all_met
+          ∙ ap (λ (r : Result Unit Full). found_of r (so_far now)) c.in_ok-meet_target.was);
     }

@@ -1,27 +1,24 @@
--- `meet_edges` meets its contract. Assumes nothing.
-use Prim.Native.Nat.{◌-◌}
+-- `meet_edges` meets its contract. The loop's invariant: what the first edges lead to was met, and the link is that of the next edge
+-- with the region's location as its source. Assumes nothing.
 use mathlib.Core.Path.{◌≡◌}
-use mathlib.Core.Bool.{false}
-use lib.ListN.{length, take}
+use lib.ListN.{take}
 use Rattle.table.specs.Model.{Model}
-use Rattle.table.specs.Reading.{read_table, accepted}
-use Rattle.regions.specs.Edges.{Placed, Linked, link_from}
-use Rattle.regions.specs.Limits.{Limited}
-use Rattle.regions.specs.Marks.{Tested, Visited}
-use Rattle.regions.specs.Graph.{gather, bounds_of, edge_next}
-use Rattle.regions.specs.Explore.{Kept, AllMet}
+use Rattle.regions.specs.Of.{Of}
+use Rattle.regions.specs.Edges.{link_from}
+use Rattle.regions.specs.Graph.{gather, edge_next}
+use Rattle.regions.specs.Marks.{Visited}
+use Rattle.regions.specs.Worklist.{complete, meet}
+use Rattle.regions.specs.Explore.{SameSlice, Kept, same_region, so_far}
 use Rattle.regions.proofs.explore.meet_edges.Given as goal
 
-abbrev pub invariant-loop-i : goal.invariant-loop-i
-invariant-loop-i l = Kept l.cap l.n l.initial.entries l.initial.heads l.initial.nexts l.entries l.heads l.nexts l.listed
-    × Tested l.limits l.bounds l.r l.tested × Visited l.bounds l.r l.entries l.listed l.visited
-    × ((m : Model) → read_table l.bytes ≡ accepted m → l.edges ≡ length m.edges → Limited m l.limits → Placed m l.places
-    → Linked m l.starts l.follows →
-    l.bounds ≡ bounds_of m → (l.link ≡ link_from m l.r.location l.i)
-    × AllMet l.cap l.n (gather (edge_next m l.r) (take l.i m.edges)) l.initial.entries l.entries (record {
-      full = false;
-      count = l.listed;
-    }))
-
-abbrev pub decreases-loop-i : goal.decreases-loop-i
-decreases-loop-i l = l.edges - l.i
+abbrev pub invariant-loop-e : goal.invariant-loop-e
+invariant-loop-e l = record {
+  slice : SameSlice l.initial.found l.found;
+  kept : Kept l.initial.found l.found;
+  model : l.marks.model.now ≡ l.model;
+  region : l.marks.region ≡ l.fn.r;
+  visited : Visited l.model.bounds l.fn.r l.found.entries.now l.found.links.count l.visited;
+  linked : (m : Model) → Of l.model m → l.link ≡ link_from m l.fn.r.location l.e;
+  met : (m : Model) → Of l.model m → meet same_region l.initial.found.cap (so_far l.initial.found)
+      (gather (edge_next m l.fn.r) (take l.e m.edges)) ≡ complete (so_far l.found);
+}

@@ -1,81 +1,34 @@
--- `meet_next` meets its contract. Assumes nothing.
-use mathlib.Core.Path.{◌∙◌, ap}
-use mathlib.Core.Bool.{Bool}
+-- `meet_next` meets its contract: the delay region, then the edges. Assumes nothing.
+use Prim.Native.Nat.{ℕ}
+use mathlib.Core.Path.{◌≡◌, sym, ◌∙◌, ap}
+use Rattle.std.specs.Prelude.{Result, Err}
+use Rattle.std.proofs.Common.{rules}
+use Rattle.regions.specs.declared.explore.Full.{Full}
 use Rattle.regions.specs.Graph.{gather, edge_next, delay_next, next_of}
-use Rattle.regions.specs.Explore.{listed, found_of, kept_on, met-on, met-full}
+use Rattle.regions.specs.Worklist.{meet}
+use Rattle.regions.specs.Explore.{same_region, so_far, found_of, met-on, met-full}
 use Rattle.regions.proofs.explore.meet_next.Goals as goal
 
-pub meet_delay-met-requires : goal.meet_delay-met-requires
-meet_delay-met-requires c =
-    let pre = c.requires in
-    pre
-
-pub shape_of-entries-then-met : goal.shape_of-entries-then-met
-shape_of-entries-then-met c =
-    let meet-delay = c.meet_delay-met in
-    meet-delay.ensures.kept.entries
-
-pub shape_of-heads-then-met : goal.shape_of-heads-then-met
-shape_of-heads-then-met c =
-    let meet-delay = c.meet_delay-met in
-    meet-delay.ensures.kept.buckets
-
-pub shape_of-nexts-then-met : goal.shape_of-nexts-then-met
-shape_of-nexts-then-met c =
-    let meet-delay = c.meet_delay-met in
-    meet-delay.ensures.kept.links
-
-pub returns-then-met : goal.returns-then-met
+pub returns-in_err-meet_delay-clause-all_met : goal.returns-in_err-meet_delay-clause-all_met
 unfolding next_of
-returns-then-met c =
-    let meet-delay = c.meet_delay-met in
-    let args = c.args in
-    record {
-      kept = meet-delay.ensures.kept;
-      all_met = λ m reads limited placed linked same. met-full args.cap args.n (delay_next m args.r)
-          (gather (edge_next m args.r) m.edges) args.entries.now meet-delay.new.entries meet-delay.result c.if-met.true
-          (meet-delay.ensures.all_met m limited same);
-    }
+returns-in_err-meet_delay-clause-all_met c =
+    let r = c.args.r in
+    let found = c.args.found.now in
+    let now = c.meet_delay.new.found in
+    let same : c.from_residual.result ≡ Err c.in_err-meet_delay.field-0.0 = search rules in
+    λ m reads.
+    met-full found.cap (so_far found) (delay_next m r) (gather (edge_next m r) m.edges) (so_far now)
+    (c.meet_delay.ensures.all_met m reads ∙ ap (λ (x : Result Unit Full). found_of x (so_far now)) c.in_err-meet_delay.was)
+    ∙ sym (ap (λ (x : Result Unit Full). found_of x (so_far now)) same)
 
-pub meet_edges-requires : goal.meet_edges-requires
-meet_edges-requires c =
-    let meet-delay = c.meet_delay-met in
-    meet-delay.ensures.kept.room
-
-pub shape_of-entries : goal.shape_of-entries
-shape_of-entries c =
-    let meet-edges = c.meet_edges in
-    let meet-delay = c.meet_delay-met in
-    meet-edges.ensures.kept.entries ∙ meet-delay.ensures.kept.entries
-
-pub shape_of-heads : goal.shape_of-heads
-shape_of-heads c =
-    let meet-edges = c.meet_edges in
-    let meet-delay = c.meet_delay-met in
-    meet-edges.ensures.kept.buckets ∙ meet-delay.ensures.kept.buckets
-
-pub shape_of-nexts : goal.shape_of-nexts
-shape_of-nexts c =
-    let meet-edges = c.meet_edges in
-    let meet-delay = c.meet_delay-met in
-    meet-edges.ensures.kept.links ∙ meet-delay.ensures.kept.links
-
-pub returns : goal.returns
+pub returns-clause-all_met : goal.returns-clause-all_met
 unfolding next_of
-returns c =
-    let args = c.args in
-    let meet-delay = c.meet_delay-met in
-    let meet-edges = c.meet_edges in
-    let if1 = c.if-met in
-    record {
-      kept = kept_on args.cap args.n args.entries.now args.heads.now args.nexts.now meet-delay.new.entries
-          meet-delay.new.heads meet-delay.new.nexts meet-edges.new.entries
-          meet-edges.new.heads meet-edges.new.nexts meet-delay.result.count
-          meet-edges.result.count
-          meet-delay.ensures.kept meet-edges.ensures.kept;
-      all_met = λ m reads limited placed linked same. met-on args.cap args.n meet-delay.result.count (delay_next m args.r)
-          (gather (edge_next m args.r) m.edges) args.entries.now meet-delay.new.entries meet-edges.new.entries
-          meet-edges.result (meet-delay.ensures.all_met m limited same
-          ∙ ap (λ (b : Bool). found_of b (listed meet-delay.new.entries meet-delay.result.count)) if1.false)
-          (meet-edges.ensures.all_met m reads limited placed linked same);
-    }
+returns-clause-all_met c =
+    let r = c.args.r in
+    let found = c.args.found.now in
+    let now = c.meet_delay.new.found in
+    λ m reads.
+    met-on found.cap (so_far found) (delay_next m r) (gather (edge_next m r) m.edges) (so_far now) _
+    (c.meet_delay.ensures.all_met m reads ∙ ap (λ (x : Result Unit Full). found_of x (so_far now)) c.in_ok-meet_delay.was)
+    (ap (λ (k : ℕ). meet same_region k (so_far now) (gather (edge_next m r) m.edges)) (sym c.meet_delay.ensures.kept.cap)
+    ∙ c.meet_edges.ensures.all_met m reads)

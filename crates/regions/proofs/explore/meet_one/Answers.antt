@@ -1,79 +1,34 @@
--- `meet_one` meets its contract. Assumes nothing.
+-- `meet_one` meets its contract: the region is known, or there is no room, or it is listed. Assumes nothing.
 use native.Mathlib.Omega.{arith}
-use Rattle.regions.specs.Explore.{kept-none, one_known, one-full, one-new, one_kept}
+use mathlib.Core.Path.{sym, ◌∙◌}
+use Rattle.regions.specs.Index.{Found}
+use Rattle.regions.specs.Explore.{one_found, not_found, one-full, one-new}
 use Rattle.regions.proofs.explore.meet_one.Goals as goal
+use Rattle.regions.proofs.explore.meet_one.Goals.{After-is_some}
 
-pub find-looked-requires : goal.find-looked-requires
-find-looked-requires c =
-    let pre = c.requires in
-    pre.index
+searched : (c : After-is_some) → Found c.args.found.now.entries.now c.args.found.now.links.count c.args.q c.find.result
+searched c = rw (c.listed.ensures.0, c.listed.ensures.1) at c.find.ensures
 
-pub add-requires : goal.add-requires
-add-requires c =
-    let pre = c.requires
-    in
-    let if1 = c.if-n-cap in
-    record {
-      index = pre.index;
-      n_lt_max_entries = (omega (arith, if1.true, pre.few), omega (arith, if1.true, pre.fits), omega (arith, if1.true, pre.links));
-    }
+pub returns-then-is_some-clause-all_met : goal.returns-then-is_some-clause-all_met
+returns-then-is_some-clause-all_met c =
+    let found = c.args.found.now in
+    one_found found.cap found.entries.now found.links.count c.args.q c.find.result
+    (searched (goal.at.returns-then-is_some-clause-all_met c).After-is_some) (sym c.is_some.ensures ∙ c.if-is_some.true)
 
-pub overflow_add-result : goal.overflow_add-result
-overflow_add-result c =
-    let if1 = c.if-n-cap in
-    let pre = c.requires in
-    omega (arith, if1.true, pre.few)
+pub returns-then-found-clause-all_met : goal.returns-then-found-clause-all_met
+returns-then-found-clause-all_met c =
+    let found = c.args.found.now in
+    one-full found.cap found.entries.now found.links.count c.args.q
+    (not_found found.cap found.entries.now found.links.count c.args.q c.find.result
+    (searched (goal.at.returns-then-found-clause-all_met c).After-is_some) (sym c.is_some.ensures ∙ c.if-is_some.false))
+    (omega (arith, c.if-found.true))
 
-pub shape_of-entries-then-n-cap : goal.shape_of-entries-then-n-cap
-shape_of-entries-then-n-cap c =
-    let add = c.add in
-    add.ensures.entries
-
-pub shape_of-heads-then-n-cap : goal.shape_of-heads-then-n-cap
-shape_of-heads-then-n-cap c =
-    let add = c.add in
-    add.ensures.buckets
-
-pub shape_of-nexts-then-n-cap : goal.shape_of-nexts-then-n-cap
-shape_of-nexts-then-n-cap c =
-    let add = c.add in
-    add.ensures.links
-
-pub returns-then-n-cap : goal.returns-then-n-cap
-returns-then-n-cap c =
-    let find = c.find-looked in
-    let args = c.args in
-    let pre = c.requires in
-    let if1 = c.if-n-cap in
-    let add = c.add in
-    let none = rw c.in-Nothing.is at find.ensures in
-    record {
-      kept = one_kept args.cap args.n args.entries.now args.heads.now args.nexts.now pre args.q if1.true add.new.entries
-          add.new.head add.new.next add.ensures;
-      all_met = one-new args.cap args.n args.entries.now args.heads.now args.nexts.now
-          pre args.q none if1.true add.new.entries add.new.head add.new.next add.ensures;
-    }
-
-pub returns-in-At : goal.returns-in-At
-returns-in-At c =
-    let find = c.find-looked in
-    let args = c.args in
-    let pre = c.requires in
-    let visited = rw c.in-At.is at find.ensures in
-    record {
-      kept = kept-none args.cap args.n args.entries.now args.heads.now args.nexts.now pre;
-      all_met = one_known args.cap args.n args.entries.now
-          args.heads.now args.nexts.now pre args.q _ visited.0 visited.1;
-    }
-
-pub returns-else-n-cap : goal.returns-else-n-cap
-returns-else-n-cap c =
-    let find = c.find-looked in
-    let args = c.args in
-    let pre = c.requires in
-    let none = rw c.in-Nothing.is at find.ensures in
-    record {
-      kept = kept-none args.cap args.n args.entries.now args.heads.now args.nexts.now pre;
-      all_met = one-full args.cap args.n args.entries.now
-          args.heads.now args.nexts.now pre args.q none c.if-n-cap.false;
-    }
+pub returns-clause-all_met : goal.returns-clause-all_met
+returns-clause-all_met c =
+    let found = c.args.found.now in
+    let added = c.add.ensures.added in
+    one-new found.cap found.entries.now found.links.count c.args.q
+    (not_found found.cap found.entries.now found.links.count c.args.q c.find.result
+    (searched (goal.at.returns-clause-all_met c).After-is_some) (sym c.is_some.ensures ∙ c.if-is_some.false))
+    (omega (arith, c.if-found.false, found.room.room)) c.add.new.self.entries.now added.before added.entry c.add.new.self.links.count
+    added.count

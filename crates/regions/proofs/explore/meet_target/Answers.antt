@@ -1,92 +1,26 @@
--- `meet_target` meets its contract. Assumes nothing.
+-- `meet_target` meets its contract: what a marked branch leads to is known, and what another leads to is met. Assumes nothing.
+use Prim.Native.Nat.{ℕ}
+use mathlib.Core.Path.{sym, ◌∙◌, ap, subst}
 use mathlib.Core.List.{[], ◌∷◌}
-use Rattle.regions.specs.Graph.{landing}
-use Rattle.regions.specs.Explore.{kept-none}
-use Rattle.regions.specs.Marks.{visited-kept, visited-on, visited-met}
-use Rattle.regions.specs.Limits.{stored-as-long}
+use mathlib.Core.Bool.{true}
+use lib.ListN.{set}
+use Rattle.std.specs.Prelude.{Result}
+use Rattle.clocks.specs.declared.region.Region.{Region}
+use Rattle.regions.specs.declared.explore.Full.{Full}
+use Rattle.regions.specs.Worklist.{meet}
+use Rattle.regions.specs.Explore.{same_region, so_far, found_of}
+use Rattle.regions.specs.Marks.{Visited, visited-on}
 use Rattle.regions.proofs.explore.meet_target.Goals as goal
 
-pub returns-then-byte_at-eq-VISITED : goal.returns-then-byte_at-eq-VISITED
-returns-then-byte_at-eq-VISITED c =
+pub returns-clause-visited : goal.returns-clause-visited
+returns-clause-visited c =
     let args = c.args in
-    let pre = c.requires in
-    let mark-place = c.mark_place-at in
-    record {
-      kept = kept-none args.cap args.n args.entries.now args.heads.now args.nexts.now pre.room;
-      visited_2 = pre.visited;
-      all_met = visited-met args.bounds args.r args.cap args.n args.entries.now args.visited.now pre.visited
-          args.b _ mark-place.ensures _ c.byte_at.ensures c.if-byte_at-eq-VISITED.true;
-    }
-
-pub meet_one-met-requires : goal.meet_one-met-requires
-meet_one-met-requires c =
-    let pre = c.requires in
-    pre.room
-
-pub shape_of-entries-then-met : goal.shape_of-entries-then-met
-shape_of-entries-then-met c =
-    let meet_one = c.meet_one-met in
-    meet_one.ensures.kept.entries
-
-pub shape_of-heads-then-met : goal.shape_of-heads-then-met
-shape_of-heads-then-met c =
-    let meet_one = c.meet_one-met in
-    meet_one.ensures.kept.buckets
-
-pub shape_of-nexts-then-met : goal.shape_of-nexts-then-met
-shape_of-nexts-then-met c =
-    let meet_one = c.meet_one-met in
-    meet_one.ensures.kept.links
-
-pub returns-then-met : goal.returns-then-met
-returns-then-met c =
-    let landing-of = c.landing_of-q in
-    let meet_one = c.meet_one-met in
-    let args = c.args in
-    let pre = c.requires in
-    let all = rw landing-of.ensures at meet_one.ensures.all_met in
-    record {
-      kept = meet_one.ensures.kept;
-      visited_2 = visited-kept args.bounds args.r args.cap args.n args.entries.now _ meet_one.result
-          args.visited.now pre.visited (landing args.bounds args.r args.b ∷ []) all;
-      all_met = all;
-    }
-
-pub shape_of-entries : goal.shape_of-entries
-shape_of-entries c =
-    let meet_one = c.meet_one-met in
-    meet_one.ensures.kept.entries
-
-pub shape_of-heads : goal.shape_of-heads
-shape_of-heads c =
-    let meet_one = c.meet_one-met in
-    meet_one.ensures.kept.buckets
-
-pub shape_of-nexts : goal.shape_of-nexts
-shape_of-nexts c =
-    let meet_one = c.meet_one-met in
-    meet_one.ensures.kept.links
-
-pub shape_of-visited : goal.shape_of-visited
-shape_of-visited c =
-    let args = c.args in
-    let put_byte = c.put_byte in
-    let mark-place = c.mark_place-at in
-    stored-as-long args.visited.now put_byte.new.list mark-place.result 1 put_byte.ensures
-
-pub returns : goal.returns
-returns c =
-    let landing-of = c.landing_of-q in
-    let meet_one = c.meet_one-met in
-    let args = c.args in
-    let pre = c.requires in
-    let if2 = c.if-met in
-    let mark-place = c.mark_place-at in
-    let put_byte = c.put_byte in
-    let all = rw landing-of.ensures at meet_one.ensures.all_met in
-    record {
-      kept = meet_one.ensures.kept;
-      visited_2 = visited-on args.bounds args.r args.cap args.n args.entries.now _ meet_one.result args.visited.now
-          pre.visited args.b all if2.false _ mark-place.ensures _ put_byte.ensures;
-      all_met = all;
-    }
+    let found = args.found.now in
+    let now = c.meet_one.new.found in
+    subst (Visited args.bounds args.r now.entries.now now.links.count)
+    (sym (c.put.ensures ∙ ap (λ (k : ℕ). set args.visited.now k true) c.mark_place-at.ensures))
+    (visited-on args.bounds args.r found.cap found.links.count found.entries.now now.entries.now now.links.count args.visited.now
+    c.requires.visited args.b
+    (ap (λ (q : Region). meet same_region found.cap (so_far found) (q ∷ [])) (sym c.landing_of.ensures)
+    ∙ c.meet_one.ensures.all_met
+    ∙ ap (λ (r : Result Unit Full). found_of r (so_far now)) c.in_ok-meet_one.was))

@@ -12,7 +12,7 @@ loop-i-init c = λ m e reads. refl
 
 pub returns-then-not-is_satisfied : goal.returns-then-not-is_satisfied
 returns-then-not-is_satisfied c =
-    let guard-count = c.guard_count-count in
+    let guard-count = c.guard_count-i-end in
     let loop = c.loop-i in
     let args = c.args in
     let loop-test = c.loop-i-test in
@@ -26,7 +26,7 @@ returns-then-not-is_satisfied c =
 
 pub loop-i-preserved : goal.loop-i-preserved
 loop-i-preserved c =
-    let guard-count = c.guard_count-count in
+    let guard-count = c.guard_count-i-end in
     let loop = c.loop-i in
     let args = c.args in
     let loop-test = c.loop-i-test in
@@ -39,7 +39,7 @@ loop-i-preserved c =
 
 pub returns : goal.returns
 returns c =
-    let guard-count = c.guard_count-count in
+    let guard-count = c.guard_count-i-end in
     let loop = c.loop-i in
     let args = c.args in
     λ m e reads. let few = guard-count.ensures.value_2 m e reads in sym

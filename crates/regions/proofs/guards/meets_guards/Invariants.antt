@@ -1,5 +1,5 @@
 -- `meets_guards` meets its contract. Assumes nothing.
-use Prim.Native.Nat.{ℕ, ◌-◌}
+use Prim.Native.Nat.{ℕ}
 use mathlib.Core.Path.{◌≡◌}
 use lib.ListN.{drop}
 use Rattle.table.specs.Model.{Model}
@@ -10,6 +10,3 @@ use Rattle.regions.proofs.guards.meets_guards.Given as goal
 abbrev pub invariant-loop-i : goal.invariant-loop-i
 invariant-loop-i l = (m : Model) (e : ℕ) → ReadsEdge l.bytes l.place m e
     → every (satisfies l.bounds l.r) (edge_of m e).guards ≡ every (satisfies l.bounds l.r) (drop l.i (edge_of m e).guards)
-
-abbrev pub decreases-loop-i : goal.decreases-loop-i
-decreases-loop-i l = l.count - l.i

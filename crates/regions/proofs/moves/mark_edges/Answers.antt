@@ -2,13 +2,16 @@
 use native.Mathlib.Omega.{arith}
 use native.Mathlib.Numerals.{add-one}
 use Prim.Native.Nat.{ℕ, suc, ◌+◌, ◌<◌}
-use mathlib.Core.Path.{◌≡◌, refl, sym, ◌∙◌, ap}
-use mathlib.Core.Bool.{Bool}
+use mathlib.Core.Path.{◌≡◌, refl, sym, ◌∙◌, ap, subst}
 use lib.ListN.{length, set}
-use Rattle.table.specs.Reads.{ReadsEdge, edge_of}
+use Rattle.std.proofs.Common.{rules}
+use Rattle.table.specs.Model.{Model}
+use Rattle.table.specs.Reads.{edge_of}
+use Rattle.clocks.specs.declared.region.Region.{Region}
+use Rattle.regions.specs.declared.prepared.Prepared.{Prepared}
+use Rattle.regions.specs.Of.{Of, OfEdge}
 use Rattle.regions.specs.Graph.{available}
 use Rattle.regions.specs.Edges.{link_from, link_here, link-other, link-past}
-use Rattle.regions.specs.Marks.{tested-none}
 use Rattle.regions.specs.Shown.{open_below}
 use Rattle.regions.specs.Laws.Graph.{not-source}
 use Rattle.regions.specs.Laws.Filling.{run_on, before-none, before_on, open-past}
@@ -18,119 +21,79 @@ use Rattle.regions.proofs.moves.mark_edges.Goals.{then-link-e, else-link-e}
 pub loop-e-init : goal.loop-e-init
 unfolding open_below
 loop-e-init c =
-    let args = c.args in (
-      before-none _ _,
-      tested-none args.limits.now args.bounds args.r,
-      λ m answer limited placed linked same few. (
-        c.edge_link-link.ensures ∙ linked.start args.r.location (omega (
-          arith,
-          c.struct_known-1,
-        )),
-        refl,
-        λ j h. absurd (omega arith),
-      ),
-    )
-
-pub slice_bounds-open_after-end : goal.slice_bounds-open_after-end
-slice_bounds-open_after-end c =
-    let loop = c.loop-e in
-    sym loop.invariant.1.room
-
-pub open_after-last-requires : goal.open_after-last-requires
-open_after-last-requires c =
-    let loop-test = c.loop-e-test in
-    let pre = c.requires
-    in
-    let loop = c.loop-e in
-    (omega (arith, loop-test.true, pre.0), loop.invariant.1)
-
-pub overflow_add-flags : goal.overflow_add-flags
-overflow_add-flags c =
-    let pre = c.requires in
-    let good = c.well_formed in
-    omega (arith, c.loop-e-test.true, pre.1, good)
-
-pub bounds-flags-base : goal.bounds-flags-base
-bounds-flags-base c =
-    let pre = c.requires in
-    let loop = c.loop-e in
-    omega (arith, c.loop-e-test.true, pre.1, loop.invariant.0.as_long)
-
-pub overflow_add-e-in-loop-e : goal.overflow_add-e-in-loop-e
-overflow_add-e-in-loop-e c =
-    let pre = c.requires in
-    omega (arith, c.loop-e-test.true, pre.0)
-
-pub loop-e-smaller : goal.loop-e-smaller
-loop-e-smaller c = omega (arith, c.loop-e-test.true)
+    record {
+      before = before-none _ _;
+      model = c.new-marks.ensures.0;
+      region = c.new-marks.ensures.1;
+      linked = λ m reads.
+          c.first_link-link.ensures ∙ (c.args.model.now.suits m reads).linked.start c.args.r.location (search rules);
+      last_is = λ m reads. refl;
+      run = λ m reads j h. absurd (omega arith);
+    }
 
 pub loop-e-preserved : goal.loop-e-preserved
 loop-e-preserved c =
+    let r = c.args.r in
+    let model = c.args.model.now in
     let loop = c.loop-e in
-    let args = c.args in
-    let pre = c.requires in
-    let loop-test = c.loop-e-test in
-    let if1 = c.if-link-e in
     let e : ℕ = loop.e in
-    let l : ℕ = args.r.location in
-    let at : ℕ = args.base + e in
-    let room : at < length loop.flags = omega (arith, loop-test.true, loop.invariant.0.as_long, pre.1) in
+    let at : ℕ = c.args.base + e in
+    let room : at < length loop.flags = search rules in
     elim c.if-link-e.branch [
       | then-link-e w ↦
-          rw (w.tested-is, w.last-is, w.link-is) (
-            before_on args.base at w.open_after-last.result args.flags.now loop.flags (set loop.flags at w.open_after-last.result)
-                (omega arith)
-                refl
-                loop.invariant.0,
-            w.open_after-last.ensures.tested,
-            λ m answer limited placed linked same few.
-                let p : ℕ → Bool = λ f. available m (edge_of m f) args.r in
-                let here : e < length m.edges = omega (arith, loop-test.true, few) in
-                let (link, old, run) = loop.invariant.2 m answer limited placed linked same few in
-                let mine : (edge_of m e).source ≡ l = link_here m l e here (sym link ∙ w.if-link-e.true ∙ add-one e) in
-                let edge : ReadsEdge args.bytes.now w.at-place.result m e = record {
-                  answer = answer;
-                  place_is = w.at-place.ensures ∙ placed e
-                      here;
-                } in
-                let now-last : w.open_after-last.result ≡ open_below p (suc e) =
-                w.open_after-last.ensures.value m limited edge (sym mine) same old in (
-                  w.edge_link-link-then-link-e.ensures ∙ linked.follow e here ∙ ap (λ (k : ℕ). link_from m k (suc e)) mine
-                      ∙ ap (link_from m l) (sym (add-one e)),
-                  now-last ∙ ap (open_below p) (sym (add-one e)),
-                  run_on args.base e (λ j v. v ≡ open_below p (suc j)) loop.flags (set loop.flags at w.open_after-last.result)
-                      w.open_after-last.result room
-                      refl run now-last,
-                ),
-          )
+          let made = w.open_after-last in
+          let next : (m : Model) → Of model m → made.result ≡ open_below (λ f. available m (edge_of m f) r) (suc e) = λ m reads.
+          let here : e < length m.edges = omega (arith, c.loop-e-test.true, c.edge_count-e-end.ensures.count m reads) in
+          let mine = link_here m r.location e here (sym (loop.invariant.linked m reads) ∙ w.if-link-e.true ∙ add-one e) in
+          let still = subst (λ (p : Prepared). Of p m) (sym loop.invariant.model) reads in
+          let edge = subst (λ (p : Prepared). OfEdge p w.place.result m e) (sym loop.invariant.model)
+          (w.place.ensures m reads here) in
+          let same = loop.invariant.region in
+          let from = ap (λ (q : Region). q.location) same ∙ sym mine in
+          made.ensures.value m still edge from
+          (loop.invariant.last_is m reads ∙ ap (λ (q : Region). open_below (λ f. available m (edge_of m f) q) e) (sym same))
+          ∙ ap (λ (q : Region). open_below (λ f. available m (edge_of m f) q) (suc e)) same in
+          rw (w.marks-is, w.last-is, w.link-is) (record {
+            before = before_on c.args.base at made.result c.args.flags.now loop.flags (set loop.flags at made.result) (omega arith) refl
+                loop.invariant.before;
+            model = made.ensures.same.0 ∙ loop.invariant.model;
+            region = made.ensures.same.1 ∙ loop.invariant.region;
+            linked = λ m reads.
+                let here : e < length m.edges = omega (arith, c.loop-e-test.true, c.edge_count-e-end.ensures.count m reads) in
+                let mine = link_here m r.location e here (sym (loop.invariant.linked m reads) ∙ w.if-link-e.true ∙ add-one e) in
+                w.next_link-link.ensures
+                ∙ (model.suits m reads).linked.follow e here
+                ∙ ap (λ (k : ℕ). link_from m k (suc e)) mine
+                ∙ ap (link_from m r.location) (sym (add-one e));
+            last_is = λ m reads. next m reads ∙ ap (open_below (λ f. available m (edge_of m f) r)) (sym (add-one e));
+            run = λ m reads.
+                run_on c.args.base e (λ j v. v ≡ open_below (λ f. available m (edge_of m f) r) (suc j)) loop.flags
+                (set loop.flags at made.result) made.result room refl (loop.invariant.run m reads) (next m reads);
+          })
       | else-link-e w ↦
-          rw (w.tested-is, w.last-is, w.link-is) (
-            before_on args.base at loop.last args.flags.now loop.flags (set loop.flags at loop.last) (omega arith) refl loop.invariant.0,
-            loop.invariant.1,
-            λ m answer limited placed linked same few.
-                let p : ℕ → Bool = λ f. available m (edge_of m f) args.r in
-                let here : e < length m.edges = omega (arith, loop-test.true, few) in
-                let (link, old, run) = loop.invariant.2 m answer limited placed linked same few in
-                let other = link-other m l e here (λ h. w.if-link-e.false (link ∙ h ∙ sym (add-one e))) in
-                let now-last : loop.last ≡ open_below p (suc e) = old ∙ sym (open-past p e (not-source m (edge_of m e) args.r other)) in (
-                  link ∙ sym (link-past m l e here other) ∙ ap (link_from m l) (sym (add-one e)),
-                  now-last ∙ ap (open_below p) (sym (add-one e)),
-                  run_on args.base e (λ j v. v ≡ open_below p (suc j)) loop.flags (set loop.flags at loop.last) loop.last room refl run
-                      now-last,
-                ),
-          )
+          let next : (m : Model) → Of model m → loop.last ≡ open_below (λ f. available m (edge_of m f) r) (suc e) = λ m reads.
+          let here : e < length m.edges = omega (arith, c.loop-e-test.true, c.edge_count-e-end.ensures.count m reads) in
+          let link = loop.invariant.linked m reads in
+          let other = link-other m r.location e here (λ h. w.if-link-e.false (link ∙ h ∙ sym (add-one e))) in
+          loop.invariant.last_is m reads
+          ∙ sym (open-past (λ f. available m (edge_of m f) r) e (not-source m (edge_of m e) r other)) in
+          rw (w.marks-is, w.last-is, w.link-is) (record {
+            before = before_on c.args.base at loop.last c.args.flags.now loop.flags (set loop.flags at loop.last) (omega arith) refl
+                loop.invariant.before;
+            model = loop.invariant.model;
+            region = loop.invariant.region;
+            linked = λ m reads.
+                let here : e < length m.edges = omega (arith, c.loop-e-test.true, c.edge_count-e-end.ensures.count m reads) in
+                let link = loop.invariant.linked m reads in
+                let other = link-other m r.location e here (λ h. w.if-link-e.false (link ∙ h ∙ sym (add-one e))) in
+                link ∙ sym (link-past m r.location e here other) ∙ ap (link_from m r.location) (sym (add-one e));
+            last_is = λ m reads. next m reads ∙ ap (open_below (λ f. available m (edge_of m f) r)) (sym (add-one e));
+            run = λ m reads.
+                run_on c.args.base e (λ j v. v ≡ open_below (λ f. available m (edge_of m f) r) (suc j)) loop.flags
+                (set loop.flags at loop.last) loop.last room refl (loop.invariant.run m reads) (next m reads);
+          })
     ]
 
-pub shape_of-flags : goal.shape_of-flags
-shape_of-flags c = c.loop-e.invariant.0.as_long
-
-pub returns : goal.returns
-returns c = let loop = c.loop-e in
-    record {
-      before = loop.invariant.0;
-      run = λ m answer limited placed linked same few j h. (loop.invariant.2 m answer limited placed linked same few).2 j (omega (
-        arith,
-        h,
-        c.loop-e-test.false,
-      ));
-    }
+pub returns-clause-run : goal.returns-clause-run
+returns-clause-run c =
+    λ m reads j h. c.loop-e.invariant.run m reads j (omega (arith, h, c.loop-e-test.false, c.edge_count-e-end.ensures.count m reads))

@@ -5,6 +5,7 @@ use Rattle.std.specs.Prelude.{Err}
 use Rattle.std.proofs.Common.{rules}
 use Rattle.table.specs.Model.{Model}
 use Rattle.table.proofs.Laws.Reads.{refusal-of, reads_of}
+use Rattle.regions.specs.Of.{of-table}
 use Rattle.regions.specs.Call.{room_for, from_answer, outcome_of, graph_of, entries_after}
 use Rattle.regions.specs.Shown.{ShownIn}
 use Rattle.regions.specs.Laws.Shown.{not-refused}
@@ -34,13 +35,14 @@ returns c =
     let show-read = c.show_read in
     let (m, reads) = reads_of args.bytes.now _ (sym c.in_ok-shape.was ∙ c.read.ensures) in
     let out = ap (from_answer (room_for (length args.entries.now))) reads.answer in
-    let done = show-read.ensures.value m reads in
+    let of = of-table c.new.result args.bytes.now _ m c.new.ensures reads in
+    let done = show-read.ensures.value m of in
     record {
       same_slices = show-read.ensures.same_slices;
       value = done.0 ∙ sym (ap graph_of out);
       entries_after = done.1 ∙ sym (ap (entries_after args.entries.now) out);
       shown = λ k found read is room.
           let same : m ≡ k = cc (reads.answer, read) in
-          subst (λ (x : Model). ShownIn x found show-read.new.graph) same (show-read.ensures.shown m found reads (sym out ∙ is) room);
-      labels_unchanged = λ none. show-read.ensures.labels_unchanged m reads (λ found is room. none found (out ∙ is) room);
+          subst (λ (x : Model). ShownIn x found show-read.new.graph) same (show-read.ensures.shown m found of (sym out ∙ is) room);
+      labels_unchanged = λ none. show-read.ensures.labels_unchanged m of (λ found is room. none found (out ∙ is) room);
     }

@@ -14,16 +14,17 @@ pub returns-clause-shown : goal.returns-clause-shown
 returns-clause-shown c =
     let graph-of = c.graph_of in
     let show-found = c.show_found in
-    let args = c.args in
+    let bytes = c.args.model.now.bytes.now in
+    let entries = c.args.entries.now in
+    let now = graph-of.new.entries in
     λ m found reads is room.
     let done = graph-of.ensures m reads in
     let answer = sym c.in_ok-n.was ∙ done.0 in
-    let cap = room_for (length args.entries.now) in
+    let cap = room_for (length entries) in
     subst (λ (k : List Region). ShownIn m k show-found.new.graph)
-    (list-found args.bytes.now args.entries.now graph-of.new.entries m cap reads.answer _ answer done.1 found is)
+    (list-found bytes entries now m cap reads.answer _ answer done.1 found is)
     (show-found.ensures.shown m reads
-    (all_listed args.bytes.now args.entries.now graph-of.new.entries m cap reads.answer _ answer done.1 found is)
-    (few-found args.bytes.now args.entries.now graph-of.new.entries m cap reads.answer _ answer done.1 found is (omega arith))
-    (bytes-found args.bytes.now args.entries.now graph-of.new.entries m cap reads.answer _ answer done.1 found is
-    (room_fits (length args.entries.now)))
+    (all_listed bytes entries now m cap reads.answer _ answer done.1 found is)
+    (few-found bytes entries now m cap reads.answer _ answer done.1 found is (omega arith))
+    (bytes-found bytes entries now m cap reads.answer _ answer done.1 found is (room_fits (length entries)))
     room)

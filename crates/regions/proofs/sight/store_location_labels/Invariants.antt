@@ -1,7 +1,6 @@
--- The first i numbers of the slice are the labels of the first i locations. Measure: the numbers that are left.
-use Prim.Native.Nat.{◌-◌, ◌≤◌}
+-- The first i numbers of the slice are the labels of the first i locations.
 use mathlib.Core.Path.{◌≡◌}
-use lib.ListN.{length, take}
+use lib.ListN.{take}
 use Rattle.table.specs.Model.{Model}
 use Rattle.table.specs.Reads.{Reads}
 use Rattle.regions.specs.Sight.{location_labels}
@@ -9,8 +8,4 @@ use Rattle.regions.proofs.sight.store_location_labels.Given as goal
 
 abbrev pub invariant-loop-i : goal.invariant-loop-i
 invariant-loop-i l =
-    ((m : Model) → Reads l.bytes l.shape m → take l.i l.labels ≡ location_labels m l.i) × (length l.labels ≡ length l.initial.labels)
-    × (l.i ≤ length l.initial.labels)
-
-abbrev pub decreases-loop-i : goal.decreases-loop-i
-decreases-loop-i l = length l.initial.labels - l.i
+    ((m : Model) → Reads l.bytes l.shape m → take l.i l.labels ≡ location_labels m l.i)
