@@ -2,44 +2,49 @@
 // have the same signature. The independent implementation makes its input and the expected output; the README there gives their format.
 #![tactic(auto)]
 
-mod input;
 mod model;
 mod naming;
+mod source;
 
-ghost use Rattle.std.specs.Prelude.{◌≤◌, ◌≡◌, length};
+ghost use Rattle.std.specs.Prelude.{◌≤◌};
 
+use model::GraphMut;
+use naming::Graph;
+use source::Source;
 use std::io;
 use std::io::Read;
 
-// Returns the graph slice of a case, in which nothing is stored yet.
-fn fresh_graph() -> [u16; 210370]
-    ensures { 210370 ≡ length result }
-{
-    [65535u16; 210370]
-}
+// The most cases that are read.
+const CASES: usize = 65536;
 
-// Reads a graph of n regions and its namings.
-fn run_case(n: usize, input: &mut impl Read, out: &impl Print) -> io::Result<()>
-    requires { n ≤ 4096 }
+// Reads a graph of so many regions and its namings.
+fn run_case<R: Read>(rt: &impl Print, source: &mut Source<R>, regions: usize) -> io::Result<()>
+    requires { regions ≤ 4096 }
 {
-    let mut graph = fresh_graph();
-    let mut edges = [0u32; 2304];
-    model::read_locations(input, &mut graph, &mut edges)?;
-    model::read_regions(n, input, &mut graph)?;
-    model::read_resets(input, &mut graph)?;
-    naming::run_namings(n, &graph, &edges, input, out)
+    let mut graph = [u16::MAX; graph::LONG];
+    let mut edges = [0u32; graph::EDGES];
+    let mut lent = GraphMut {
+        graph: &mut graph,
+        edges: &mut edges,
+    };
+    lent.read_locations(source)?;
+    lent.read_regions(source, regions)?;
+    lent.read_resets(source)?;
+    let graph = Graph {
+        regions,
+        graph: &graph,
+        edges: &edges,
+    };
+    graph.run_namings(rt, source)
 }
 
 fn main(rt: HostRuntime) -> io::Result<()> {
-    let mut input = rt.stdin();
-    let mut left: usize = 65536;
-    while 0 < left {
-        let read = input::read(&mut input)?;
-        if !read.any {
+    let mut source = Source::new(rt.reader());
+    for _ in 0..CASES {
+        let Some(regions) = source.next()? else {
             return Ok(());
-        }
-        run_case(read.number % 4097, &mut input, &rt)?;
-        left = left - 1;
+        };
+        run_case(&rt, &mut source, usize::from(regions) % 4097)?;
     }
     Ok(())
 }

@@ -1,134 +1,122 @@
-// Reads a graph, and stores it by the writers of the slices.
-ghost use Rattle.std.specs.Prelude.{◌<◌, IfOk};
+// Reads a graph, and stores it by the writers of its slices.
+ghost use Rattle.std.specs.Prelude.{◌<◌};
 
-use crate::input::number;
+use crate::source::Source;
 use std::io;
 use std::io::Read;
 
-// Reads a branch of edge e, which gets a slot of its own.
-fn read_branch(
-    e: usize,
-    i: usize,
-    location: usize,
-    input: &mut impl Read,
-    graph: &mut [u16],
-    edges: &mut [u32],
-) -> io::Result<()>
-    requires { (e < 65536) × (i < 65536) }
-{
-    let weight = number(input)?;
-    let target = number(input)?;
-    let mask = number(input)?;
-    let slot = 8 * e + i;
-    graph::store_weight(e, i, weight, weight, edges);
-    graph::store_slot(slot, location, mask, target, graph);
-    graph::store_branch_slot(e, i, slot, graph);
-    Ok(())
+// The two slices of a graph that is read.
+#[derive(Drop)]
+pub(crate) struct GraphMut<'a> {
+    pub graph: &'a mut [u16],
+    pub edges: &'a mut [u32],
 }
 
-// Reads an edge of a location.
-fn read_edge(
-    e: usize,
-    location: usize,
-    input: &mut impl Read,
-    graph: &mut [u16],
-    edges: &mut [u32],
-) -> io::Result<()>
-    requires { e < 65536 }
-{
-    let action = number(input)?;
-    let denominator = number(input)?;
-    let count = number(input)?;
-    graph::store_edge(e, action, denominator, edges);
-    graph::store_edge_number(e, e, graph);
-    graph::store_branch_count(e, count, graph);
-    let mut i = 0;
-    while i < count {
-        read_branch(e, i, location, input, graph, edges)?;
-        i = i + 1;
+impl GraphMut<'_> {
+    // Reads a branch of an edge, which gets a slot of its own.
+    fn read_branch<R: Read>(
+        &mut self,
+        source: &mut Source<R>,
+        location: usize,
+        edge: usize,
+        branch: usize,
+    ) -> io::Result<()>
+        requires { (edge < 65536) × (branch < 65536) }
+    {
+        let weight = source.number()?;
+        let target = source.number()?;
+        let mask = source.number()?;
+        let slot = 8 * edge + branch;
+        graph::store_weight(edge, branch, weight, weight, self.edges);
+        graph::store_slot(slot, location, mask, target, self.graph);
+        graph::store_branch_slot(edge, branch, slot, self.graph);
+        Ok(())
     }
-    Ok(())
-}
 
-// Reads the edges of a location, of which the first is e; returns the number after the last.
-fn read_edges(
-    first: usize,
-    location: usize,
-    input: &mut impl Read,
-    graph: &mut [u16],
-    edges: &mut [u32],
-) -> io::Result<usize>
-    ensures { IfOk result (λ n. n < 65536) }
-{
-    let count = number(input)?;
-    let mut i = 0;
-    while i < count {
-        read_edge((first % 65536 + i) % 65536, location, input, graph, edges)?;
-        i = i + 1;
+    // Reads an edge of a location.
+    fn read_edge<R: Read>(
+        &mut self,
+        source: &mut Source<R>,
+        location: usize,
+        edge: usize,
+    ) -> io::Result<()>
+        requires { edge < 65536 }
+    {
+        let action = source.number()?;
+        let denominator = source.number()?;
+        let count = source.number()?;
+        graph::store_edge(edge, action, denominator, self.edges);
+        graph::store_edge_number(edge, edge, self.graph);
+        graph::store_branch_count(edge, count, self.graph);
+        for branch in 0..count {
+            self.read_branch(source, location, edge, branch)?;
+        }
+        Ok(())
     }
-    Ok((first % 65536 + count) % 65536)
-}
 
-// Reads the locations with their edges.
-pub(crate) fn read_locations(
-    input: &mut impl Read,
-    graph: &mut [u16],
-    edges: &mut [u32],
-) -> io::Result<()> {
-    let count = number(input)?;
-    let mut edge = 0;
-    let mut location = 0;
-    while location < count {
-        graph::store_label(location, number(input)?, graph);
-        graph::store_edge_start(location, edge, graph);
-        edge = read_edges(edge, location, input, graph, edges)?;
-        location = location + 1;
+    // Reads the edges of a location, which count modulo 65,536; returns the number after the last.
+    fn read_edges<R: Read>(
+        &mut self,
+        source: &mut Source<R>,
+        location: usize,
+        first: u16,
+    ) -> io::Result<u16> {
+        let mut edge = first;
+        for _ in 0..source.number()? {
+            self.read_edge(source, location, usize::from(edge))?;
+            edge = edge.wrapping_add(1);
+        }
+        Ok(edge)
     }
-    graph::store_edge_start(count, edge, graph);
-    Ok(())
-}
 
-// Reads the ranks of the available edges of a region.
-fn read_ranks(x: usize, count: usize, input: &mut impl Read, graph: &mut [u16]) -> io::Result<()> {
-    graph::clear_available(x, graph);
-    let mut i = 0;
-    while i < count {
-        graph::mark_available(x, number(input)?, graph);
-        i = i + 1;
+    // Reads the locations with their edges.
+    pub(crate) fn read_locations<R: Read>(&mut self, source: &mut Source<R>) -> io::Result<()> {
+        let count = source.number()?;
+        let mut edge = 0;
+        for location in 0..count {
+            graph::store_label(location, source.number()?, self.graph);
+            graph::store_edge_start(location, usize::from(edge), self.graph);
+            edge = self.read_edges(source, location, edge)?;
+        }
+        graph::store_edge_start(count, usize::from(edge), self.graph);
+        Ok(())
     }
-    Ok(())
-}
 
-// Reads a region.
-fn read_region(x: usize, input: &mut impl Read, graph: &mut [u16]) -> io::Result<()> {
-    let location = number(input)?;
-    let class = number(input)?;
-    graph::store_region(x, class, location, graph);
-    graph::store_location(x, location, graph);
-    graph::store_delay(x, number(input)?, graph);
-    let count = number(input)?;
-    graph::store_available_count(x, count, graph);
-    read_ranks(x, count, input, graph)
-}
-
-// Reads the regions below n.
-pub(crate) fn read_regions(n: usize, input: &mut impl Read, graph: &mut [u16]) -> io::Result<()> {
-    let mut x = 0;
-    while x < n {
-        read_region(x, input, graph)?;
-        x = x + 1;
+    // Reads a region: its location and class, what follows it by delay, and the ranks of its available edges.
+    fn read_region<R: Read>(&mut self, source: &mut Source<R>, region: usize) -> io::Result<()> {
+        let location = source.number()?;
+        let class = source.number()?;
+        graph::store_region(region, class, location, self.graph);
+        graph::store_location(region, location, self.graph);
+        graph::store_delay(region, source.number()?, self.graph);
+        let count = source.number()?;
+        graph::store_available_count(region, count, self.graph);
+        graph::clear_available(region, self.graph);
+        for _ in 0..count {
+            graph::mark_available(region, source.number()?, self.graph);
+        }
+        Ok(())
     }
-    Ok(())
-}
 
-// Reads the clock classes after resets.
-pub(crate) fn read_resets(input: &mut impl Read, graph: &mut [u16]) -> io::Result<()> {
-    let mut left = number(input)?;
-    while 0 < left {
-        let class = number(input)?;
-        let mask = number(input)?;
-        graph::store_reset(class, mask, number(input)?, graph);
-        left = left - 1;
+    // Reads the regions below a count.
+    pub(crate) fn read_regions<R: Read>(
+        &mut self,
+        source: &mut Source<R>,
+        count: usize,
+    ) -> io::Result<()> {
+        for region in 0..count {
+            self.read_region(source, region)?;
+        }
+        Ok(())
     }
-    Ok(())
+
+    // Reads the clock classes after resets.
+    pub(crate) fn read_resets<R: Read>(&mut self, source: &mut Source<R>) -> io::Result<()> {
+        for _ in 0..source.number()? {
+            let class = source.number()?;
+            let mask = source.number()?;
+            graph::store_reset(class, mask, source.number()?, self.graph);
+        }
+        Ok(())
+    }
 }

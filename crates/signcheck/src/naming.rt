@@ -1,195 +1,129 @@
 // Reads namings of the regions, gives the regions ids by passes, and prints for each region the lowest that has its signature.
-ghost use Rattle.std.specs.Prelude.{◌+◌, ◌≤◌, ◌<◌, length};
+ghost use Rattle.std.specs.Prelude.{◌+◌, ◌≤◌, ◌≡◌, length};
 
-use crate::input::number;
+use crate::source::Source;
+use arrayvec::ArrayVec;
+use slices::put;
 use std::io;
 use std::io::Read;
 
+// The most regions of a graph.
+const MOST_REGIONS: usize = 4096;
+
+// What is printed for a region that no region represents.
 const NOBODY: u16 = 65535;
 
-// Returns a number of a list, or 65,535 past its end.
-fn at(list: &[u16], i: usize) -> u16 {
-    if i < list.len() { list[i] } else { NOBODY }
+// A graph that was read, and how many regions it has.
+#[derive(Clone, Copy)]
+pub(crate) struct Graph<'a> {
+    pub regions: usize,
+    pub graph: &'a [u16],
+    pub edges: &'a [u32],
+    ghost in_bounds: { regions ≤ 4096 },
 }
 
-// Stores a number, unless the place is past the end.
-fn put(i: usize, v: u16, list: &mut [u16]) {
-    if i < list.len() {
-        list[i] = v;
-    }
-}
-
-// Reads the names of the regions below n; behind them stands what follows each by delay.
-fn read_names(n: usize, graph: &[u16], input: &mut impl Read, names: &mut [u16]) -> io::Result<()>
-    requires { n ≤ 4096 }
+// Lists the regions that no region represents yet.
+fn list_waiting(lowest: &[Option<u16>]) -> ArrayVec<u16, MOST_REGIONS>
+    requires { length lowest.now ≤ MOST_REGIONS }
 {
-    let mut x = 0;
-    while x < n {
-        put(x, (number(input)? % 65536) as u16, names);
-        put(n + x, (graph::delay_of(graph, x) % 65536) as u16, names);
-        x = x + 1;
+    let mut waiting = ArrayVec::new();
+    for (region, owner) in lowest.iter().enumerate() {
+        if owner.is_none() {
+            waiting.push(region as u16);
+        }
     }
-    Ok(())
-}
-
-// Lists a region unless another represents it; returns how many are listed then.
-fn add_waiting(x: usize, count: usize, lowest: &[u16], items: &mut [u16]) -> usize
-    requires { (x < 4096) × (count < 4096) }
-    ensures { result ≤ count + 1 }
-{
-    if at(lowest, x) != NOBODY {
-        return count;
-    }
-    put(count, x as u16, items);
-    count + 1
-}
-
-// Lists the regions that no region represents yet; returns how many there are.
-fn list_waiting(n: usize, lowest: &[u16], items: &mut [u16]) -> usize
-    requires { n ≤ 4096 }
-    ensures { result ≤ n }
-{
-    let mut count = 0;
-    let mut x = 0;
-    while x < n {
-        count = add_waiting(x, count, lowest, items);
-        x = x + 1;
-    }
-    count
-}
-
-// Returns the first region that has an id, which is x if none had it before.
-fn claim(x: u16, id: u16, owners: &mut [u16]) -> u16 {
-    let owner = at(owners, id as usize);
-    if owner != NOBODY {
-        return owner;
-    }
-    put(id as usize, x, owners);
-    at(owners, id as usize)
-}
-
-// Notes for a region that has an id the first region with this id.
-fn note_one(x: u16, id: u16, owners: &mut [u16], lowest: &mut [u16]) {
-    let owner = claim(x, id, owners);
-    put(x as usize, owner, lowest);
+    waiting
 }
 
 // Notes for each listed region that has an id the first that has this one.
-fn note_lowest(count: usize, items: &[u16], ids: &[u16], owners: &mut [u16], lowest: &mut [u16]) {
-    let mut k = 0;
-    while k < count {
-        note_one(at(items, k), at(ids, k), owners, lowest);
-        k = k + 1;
-    }
-}
-
-// Prints a number, after a blank if it is not the first.
-fn print_one(x: usize, lowest: &[u16], out: &impl Print) -> io::Result<()> {
-    if 0 < x {
-        out.write_all(b" ")?;
-    }
-    out.print(at(lowest, x))
-}
-
-// Prints a number for each region.
-fn print_all(n: usize, lowest: &[u16], out: &impl Print) -> io::Result<()> {
-    let mut x = 0;
-    while x < n {
-        print_one(x, lowest, out)?;
-        x = x + 1;
-    }
-    out.write_all(b"\n")
-}
-
-// Gives the listed regions ids. Answers false if nothing was done.
-fn sign_listed(count: usize, graph: &[u16], edges: &[u32], names: &[u16], ids: &mut [u16]) -> bool
-    requires { count ≤ length ids.old }
-{
-    let mut index = [0u16; 24578];
-    let mut numbers = [0u32; 36864];
-    let mut memo = [0u16; 45056];
-    let items = &mut ids[..count];
-    signatures::sign(
-        graph,
-        edges,
-        names,
-        &mut index,
-        &mut numbers,
-        &mut memo,
-        items,
-    )
-}
-
-// Copies the first numbers of a list.
-fn copy(count: usize, from: &[u16], to: &mut [u16]) {
-    let mut k = 0;
-    while k < count {
-        put(k, at(from, k), to);
-        k = k + 1;
-    }
-}
-
-// Gives ids to regions that have no representative yet. Answers false if there was none, or nothing was done.
-fn run_pass(n: usize, graph: &[u16], edges: &[u32], names: &[u16], lowest: &mut [u16]) -> bool
-    requires { n ≤ 4096 }
-{
-    let mut items = [0u16; 4096];
-    let mut ids = [0u16; 4096];
-    let count = list_waiting(n, lowest, &mut items);
-    copy(count, &items, &mut ids);
-    if !sign_listed(count, graph, edges, names, &mut ids) {
-        return false;
-    }
-    let mut owners = [65535u16; 8192];
-    note_lowest(count, &items, &ids, &mut owners, lowest);
-    0 < count
-}
-
-// Gives ids to regions, pass by pass, until each is represented.
-fn run_passes(n: usize, graph: &[u16], edges: &[u32], names: &[u16], lowest: &mut [u16])
-    requires { n ≤ 4096 }
-{
-    let mut pass = 0;
-    while pass < n {
-        if !run_pass(n, graph, edges, names, lowest) {
-            return;
+fn note_lowest(regions: &[u16], ids: &[u16], lowest: &mut [Option<u16>]) {
+    let mut owners = [None; 8192];
+    for (region, id) in regions.iter().zip(ids) {
+        if let Some(owner) = owners.get_mut(usize::from(*id)) {
+            let first = *owner.get_or_insert(*region);
+            put(lowest, usize::from(*region), Some(first));
         }
-        pass = pass + 1;
     }
 }
 
-// Reads a naming, and prints the lowest region of each signature.
-fn run_naming(
-    n: usize,
-    graph: &[u16],
-    edges: &[u32],
-    input: &mut impl Read,
-    out: &impl Print,
-) -> io::Result<()>
-    requires { n ≤ 4096 }
-{
-    let mut room = [0u16; 8192];
-    let mut lowest = [65535u16; 4096];
-    read_names(n, graph, input, &mut room)?;
-    let names = &room[..2 * n];
-    run_passes(n, graph, edges, names, &mut lowest);
-    print_all(n, &lowest, out)
+// Prints a number for each region, with blanks between them.
+fn print_lowest(rt: &impl Print, lowest: &[Option<u16>]) -> io::Result<()> {
+    for (region, owner) in lowest.iter().enumerate() {
+        if 0 < region {
+            print!(rt; " ")?;
+        }
+        print!(rt; "{}", owner.unwrap_or(NOBODY))?;
+    }
+    println!(rt)
 }
 
-// Reads the namings of a graph.
-pub(crate) fn run_namings(
-    n: usize,
-    graph: &[u16],
-    edges: &[u32],
-    input: &mut impl Read,
-    out: &impl Print,
-) -> io::Result<()>
-    requires { n ≤ 4096 }
-{
-    let mut left = number(input)?;
-    while 0 < left {
-        run_naming(n, graph, edges, input, out)?;
-        left = left - 1;
+impl Graph<'_> {
+    // Reads the names of the regions; behind them stands what follows each by delay.
+    fn read_names<R: Read>(self, source: &mut Source<R>, names: &mut [u16]) -> io::Result<()>
+        requires { length names.old ≡ self.regions + self.regions }
+    {
+        for region in 0..self.regions {
+            names[region] = source.number()? as u16;
+            names[self.regions + region] = graph::delay_of(self.graph, region) as u16;
+        }
+        Ok(())
     }
-    Ok(())
+
+    // Gives ids to regions, in the place of which these then stand. Answers false if nothing was done.
+    fn sign(self, names: &[u16], regions: &mut [u16]) -> bool {
+        let mut index = [0u16; signatures::INDEX];
+        let mut numbers = [0u32; signatures::NUMBERS];
+        let mut memo = [0u16; signatures::MEMO];
+        signatures::sign(
+            self.graph,
+            self.edges,
+            names,
+            &mut index,
+            &mut numbers,
+            &mut memo,
+            regions,
+        )
+    }
+
+    // Gives ids to the regions that no region represents yet. Answers false if there was none, or nothing was done.
+    fn run_pass(self, names: &[u16], lowest: &mut [Option<u16>]) -> bool
+        requires { length lowest.old ≤ MOST_REGIONS }
+    {
+        let regions = list_waiting(lowest);
+        let mut ids = [0u16; MOST_REGIONS];
+        let ids = &mut ids[..regions.len()];
+        ids.copy_from_slice(&regions);
+        if ids.is_empty() || !self.sign(names, ids) {
+            return false;
+        }
+        note_lowest(&regions, ids, lowest);
+        true
+    }
+
+    // Reads a naming, gives ids to regions, pass by pass, until each is represented, and prints the lowest region of each signature.
+    fn run_naming<R: Read>(self, rt: &impl Print, source: &mut Source<R>) -> io::Result<()> {
+        let mut names = [0u16; 2 * MOST_REGIONS];
+        let mut lowest = [None; MOST_REGIONS];
+        let names = &mut names[..2 * self.regions];
+        let lowest = &mut lowest[..self.regions];
+        self.read_names(source, names)?;
+        for _ in 0..self.regions {
+            if !self.run_pass(names, lowest) {
+                break;
+            }
+        }
+        print_lowest(rt, lowest)
+    }
+
+    // Reads the namings of a graph.
+    pub(crate) fn run_namings<R: Read>(
+        self,
+        rt: &impl Print,
+        source: &mut Source<R>,
+    ) -> io::Result<()> {
+        for _ in 0..source.number()? {
+            self.run_naming(rt, source)?;
+        }
+        Ok(())
+    }
 }

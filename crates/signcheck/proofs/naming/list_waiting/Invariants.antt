@@ -1,11 +1,6 @@
--- Loop: it is safe, and ends; slices keep their lengths.
-use Prim.Native.Nat.{◌-◌, ◌≤◌}
-use mathlib.Core.Path.{◌≡◌}
-use lib.ListN.{length}
+-- Loop: no more regions are listed than were looked at.
+use Rattle.std.proofs.Common.{◌≤◌, length}
 use Rattle.signcheck.proofs.naming.list_waiting.Given as goal
 
-abbrev pub invariant-loop-x : goal.invariant-loop-x
-invariant-loop-x l = (length l.items ≡ length l.initial.items) × (l.count ≤ l.x) × (l.x ≤ l.n)
-
-abbrev pub decreases-loop-x : goal.decreases-loop-x
-decreases-loop-x l = l.n - l.x
+abbrev pub invariant-loop-region : goal.invariant-loop-region
+invariant-loop-region l = length l.waiting.items ≤ l.region

@@ -1,9 +1,0 @@
--- Loop: it is safe, and ends; slices keep their lengths.
-use Prim.Native.Nat.{◌<◌}
-use Rattle.signcheck.proofs.main.Given as goal
-
-abbrev pub invariant-loop-left : goal.invariant-loop-left
-invariant-loop-left l = 0 < 1
-
-abbrev pub decreases-loop-left : goal.decreases-loop-left
-decreases-loop-left l = l.left
