@@ -1,5 +1,5 @@
 // Labels, delay regions and available edges of the regions of a graph, stored in slices.
-ghost use Rattle.std.specs.Prelude.{ℕ, suc, ◌+◌, ◌*◌, ◌≤◌, ◌<◌, ◌≡◌, get_or, length};
+ghost use Rattle.std.specs.Prelude.{ℕ, suc, ◌+◌, ◌*◌, ◌≤◌, ◌<◌, ◌≡◌, get_or, length, replicate};
 ghost use Rattle.table.specs.Model.{Model};
 ghost use Rattle.table.specs.Reads.{edge_of};
 ghost use Rattle.regions.specs.Of.{Of, OfEdge};
@@ -18,16 +18,15 @@ use crate::marks::Marks;
 use crate::prepared::Prepared;
 use clocks::Region;
 
-// Returns the index of the first n entries.
-pub(crate) fn link_all(entries: &[u8], n: usize) -> Links
-    requires { (n ≤ max_entries) × (entry_bytes * n ≤ length entries.now) }
-    ensures { Indexed entries.now result × (result.count ≡ n) }
+// Links the first n entries, with an index of none. (The index is lent, since one that is returned would stand on the stack twice.)
+pub(crate) fn link_all(entries: &[u8], n: usize, links: &mut Links)
+    requires entries { (n ≤ max_entries) × (entry_bytes * n ≤ length entries.now) }
+    requires none { (links.old.heads ≡ replicate 4096 0) × (links.old.count ≡ 0) }
+    ensures { Indexed entries.now links.new × (links.new.count ≡ n) }
 {
-    let mut links = Links::new();
     for x in 0..n {
         links.push(read_entry(entries, x));
     }
-    links
 }
 
 // Stores the label of each region.

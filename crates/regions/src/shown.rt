@@ -13,7 +13,7 @@ ghost use Rattle.clocks.specs.declared.region.Region.{Region};
 use crate::call::graph_of;
 use crate::classes::show_targets;
 use crate::entry::{ENTRY_BYTES, MAX_ENTRIES};
-use crate::index::Listed;
+use crate::index::{Links, Listed};
 use crate::moves::{link_all, show_flags, show_labels, show_nexts};
 use crate::prepared::Prepared;
 use crate::rows::show_rows;
@@ -84,7 +84,8 @@ fn show_found(model: &Prepared, entries: &[u8], n: usize, graph: &mut GraphMut)
     ensures labels_unchanged { (RoomyIn graph.old → ⊥) → Unchanged graph.old graph.new }
 {
     if graph.is_roomy() && has_entries(n, entries.len()) {
-        let links = link_all(entries, n);
+        let mut links = Links::new();
+        link_all(entries, n, &mut links);
         let found = Listed {
             entries,
             links: &links,

@@ -12,7 +12,7 @@ ghost use Rattle.regions.specs.Sight.{Sighted};
 
 use crate::entry::{ENTRY_BYTES, MAX_ENTRIES, read_entry};
 use crate::guards::landing_of;
-use crate::index::Listed;
+use crate::index::{Links, Listed};
 use crate::marks::Marks;
 use crate::moves::link_all;
 use crate::prepared::Prepared;
@@ -168,7 +168,8 @@ fn see_read(
     if !is_seen(n, x, entries.len(), delays.len(), rows.len()) {
         return None;
     }
-    let links = link_all(entries, n);
+    let mut links = Links::new();
+    link_all(entries, n, &mut links);
     let found = Listed {
         entries,
         links: &links,

@@ -8,18 +8,18 @@ use Rattle.regions.proofs.moves.link_all.Goals as goal
 
 pub loop-x-init : goal.loop-x-init
 loop-x-init c =
-    let links = c.new-links.result in
-    let none = c.new-links.ensures.1 in
+    let links = c.args.links.now in
+    let none = c.requires.none.1 in
     record {
       index = subst (Index c.args.entries.now links.heads links.nexts) none
-          (indexed-none c.args.entries.now links c.new-links.ensures.0 none);
+          (indexed-none c.args.entries.now links c.requires.none.0 none);
       count = none;
       long = search rules;
     }
 
 pub loop-x-preserved : goal.loop-x-preserved
 loop-x-preserved c =
-    let pre = c.requires in
+    let pre = c.requires.entries in
     let loop = c.loop-x in
     let before = loop.invariant in
     let made = c.push.ensures in

@@ -18,6 +18,6 @@ returns-clause-value c =
     args.shape.edges c.region.ensures
     (c.label_at.ensures.value_2 m reads ∙ ap (λ (l : ℕ). get_or m.labels l 0) c.from-location.ensures)
     (subst (λ (k : ℕ). c.see_steps.result ≡ length (delay_list m (listed args.entries.now k) (region_at args.entries.now args.x)))
-    c.link_all-links.ensures.1
+    c.link_all.ensures.1
     (c.see_steps.ensures m (of-table c.new-model.result args.bytes.now args.shape m c.new-model.ensures reads)).0)
     (counts-read args.bytes.now args.shape m reads).edges
