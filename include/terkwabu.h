@@ -50,10 +50,10 @@
  * proved. bench/stack.c runs each call on a painted stack, on tables up to the longest and with up to 4,096 regions, and prints how deep
  * it went:
  *
- *   terkwabu_graph, terkwabu_place                     24,232 bytes
- *   terkwabu_reduce, terkwabu_pair, terkwabu_judge     1,497,200 bytes
- *   terkwabu_part                                      96,280 bytes
- *   terkwabu_refusal_line, terkwabu_version            296 bytes
+ *   terkwabu_graph, terkwabu_place                     29,536 bytes
+ *   terkwabu_reduce, terkwabu_pair, terkwabu_judge     1,498,072 bytes
+ *   terkwabu_part                                      101,536 bytes
+ *   terkwabu_refusal_line, terkwabu_version            312 bytes
  *
  * Where a process uses memcpy, memset or a call of the shared library for the first time, the loader takes about 3 KB more. The constants
  * have room for it, and for the tests of terkwabu_checked.h: host/test makes each call, plain and checked, as the first of a process, on a

@@ -133,7 +133,7 @@ impl<'a> Graph<'a> {
         usize::from(at(self.flags, 128 * x + e, 0)) == e + 1
     }
 
-    pub fn action(self, e: usize) -> usize
+    pub(crate) fn action(self, e: usize) -> usize
         requires { e < most_edges }
         ensures { (result ≡ action self.entry e) × (result < 65536) }
     {
@@ -141,7 +141,7 @@ impl<'a> Graph<'a> {
     }
 
     // The denominator of the shares of edge e.
-    pub fn whole(self, e: usize) -> usize
+    pub(crate) fn whole(self, e: usize) -> usize
         requires { e < most_edges }
         ensures { (result ≡ whole self.entry e) × (result < 65536) }
     {
@@ -149,14 +149,14 @@ impl<'a> Graph<'a> {
     }
 
     // How many branches edge e has.
-    pub fn count(self, e: usize) -> usize
+    pub(crate) fn count(self, e: usize) -> usize
         requires { e < most_edges }
         ensures { (result ≡ count self.entry e) × (result < 65536) }
     {
         usize::from(at(self.rows, 32 * e + 2, 0))
     }
 
-    pub fn weight(self, e: usize, i: usize) -> usize
+    pub(crate) fn weight(self, e: usize, i: usize) -> usize
         requires { (e < most_edges) × (i < 65536) }
         ensures { (result ≡ weight self.entry e i) × (result < 65536) }
     {

@@ -95,6 +95,16 @@ SameSlices g h =
     × (h.spots.ghost_name ≡ g.spots.ghost_name)
     × (h.rows.ghost_name ≡ g.rows.ghost_name)
 
+-- They are as long as before.
+abbrev pub SameLengths : (before after : GraphMut) → Type 0
+SameLengths g h =
+    (length h.labels.now ≡ length g.labels.now)
+    × (length h.nexts.now ≡ length g.nexts.now)
+    × (length h.flags.now ≡ length g.flags.now)
+    × (length h.resets.now ≡ length g.resets.now)
+    × (length h.spots.now ≡ length g.spots.now)
+    × (length h.rows.now ≡ length g.rows.now)
+
 -- And they hold the same.
 abbrev pub Unchanged : (before after : GraphMut) → Type 0
 Unchanged g h =

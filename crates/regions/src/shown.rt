@@ -6,7 +6,7 @@ ghost use Rattle.regions.specs.Of.{Of};
 ghost use Rattle.regions.specs.Entries.{entry_bytes, max_entries};
 ghost use Rattle.regions.specs.Explore.{listed, regions_of};
 ghost use Rattle.regions.specs.Call.{room_for, whole, from_answer, outcome_of, graph_of, entries_after};
-ghost use Rattle.regions.specs.Shown.{ShownIn, RoomyIn, SameSlices, Unchanged};
+ghost use Rattle.regions.specs.Shown.{ShownIn, RoomyIn, SameSlices, SameLengths, Unchanged};
 ghost use Rattle.regions.specs.Order.{AllRegions};
 ghost use Rattle.clocks.specs.declared.region.Region.{Region};
 
@@ -56,6 +56,7 @@ fn has_entries(n: usize, bytes: usize) -> bool
 fn show_listed(model: &Prepared, found: Listed, graph: &mut GraphMut)
     requires { RoomyIn graph.old }
     ensures same_slices { SameSlices graph.old graph.new }
+    ensures lengths { SameLengths graph.old graph.new }
     ensures shown { (m : Model) → Of model.now m
         → AllRegions m (regions_of found.entry)
         → ShownIn m (regions_of found.entry) graph.new }
@@ -78,6 +79,7 @@ fn show_listed(model: &Prepared, found: Listed, graph: &mut GraphMut)
 // Fills all slices from the first n entries, where there is room; else they stay.
 fn show_found(model: &Prepared, entries: &[u8], n: usize, graph: &mut GraphMut)
     ensures same_slices { SameSlices graph.old graph.new }
+    ensures lengths { SameLengths graph.old graph.new }
     ensures shown { (m : Model) → Of model.now m → AllRegions m (listed entries.now n)
         → n ≤ max_entries → entry_bytes * n ≤ length entries.now → RoomyIn graph.old
         → ShownIn m (listed entries.now n) graph.new }
@@ -97,6 +99,7 @@ fn show_found(model: &Prepared, entries: &[u8], n: usize, graph: &mut GraphMut)
 // Explores the regions of a model into the lent entries, and stores its graph.
 fn show_read(model: &Prepared, entries: &mut [u8], graph: &mut GraphMut) -> Result<usize, Refusal>
     ensures same_slices { SameSlices graph.old graph.new }
+    ensures lengths { SameLengths graph.old graph.new }
     ensures value { (m : Model) → Of model.now m
         → (result ≡ graph_of (from_answer (room_for (length entries.old)) (accepted m)))
         × (entries.new ≡ entries_after entries.old (from_answer (room_for (length entries.old)) (accepted m))) }
@@ -117,6 +120,7 @@ fn show_read(model: &Prepared, entries: &mut [u8], graph: &mut GraphMut) -> Resu
 // long enough; else they stay.
 pub fn show_graph(bytes: &[u8], entries: &mut [u8], graph: &mut GraphMut) -> Result<usize, Refusal>
     ensures same_slices { SameSlices graph.old graph.new }
+    ensures lengths { SameLengths graph.old graph.new }
     ensures value { result ≡ graph_of (outcome_of bytes.now (room_for (length entries.old))) }
     ensures entries_after { entries.new
         ≡ entries_after entries.old (outcome_of bytes.now (room_for (length entries.old))) }

@@ -135,9 +135,13 @@ pub record Turned (F : Finite) (list : List ℕ) (count k : ℕ) : Type 0 where
   pub counted : count ≡ block_count F k
   pub before : k ≤ rounds F
 
--- The keys of stirred items are forgotten, and the others stay.
+-- The keys of the items below n that are stirred are forgotten; all others stay.
 abbrev pub ForgottenAt : (keys keys' : List ℕ) → (stirred : List Bool) → (x : ℕ) → Type 0
 ForgottenAt keys keys' stirred x = get_or keys' x 0 ≡ cond (get_or stirred x false) 0 (get_or keys x 0)
+
+abbrev pub Forgotten : (n : ℕ) → (keys keys' : List ℕ) → (stirred : List Bool) → Type 0
+Forgotten n keys keys' stirred =
+    ((x : ℕ) → x < n → ForgottenAt keys keys' stirred x) × ((x : ℕ) → n ≤ x → get_or keys' x 0 ≡ get_or keys x 0)
 
 -- Beside it: names for its blocks, keys under them that are known or not, and that items which are not stirred need no comparison.
 pub record Prepared (F : Finite) (g : Graph) (list : List ℕ) (c : Carried) : Type 0 where

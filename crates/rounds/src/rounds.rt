@@ -9,7 +9,7 @@ ghost use Rattle.rounds.specs.Names.{Tagged, Named, LeadersKept};
 ghost use Rattle.comparison.specs.declared.held.Graph.{Graph};
 ghost use Rattle.rounds.specs.Changes.{Classed, Settled};
 ghost use Rattle.rounds.specs.Rounds.{Led, Step, Sorted, Chains, Rested, NoRoom};
-ghost use Rattle.rounds.specs.Rounds.{HeldIn, KeyedIn, EquippedIn, KinsBelow, LedByKin, ForgottenAt, Prepared};
+ghost use Rattle.rounds.specs.Rounds.{HeldIn, KeyedIn, EquippedIn, KinsBelow, LedByKin, Forgotten, Prepared};
 
 use crate::changes::{is_classed, list_order, stir};
 use crate::joins::{Before, fill_marks, find_anchors};
@@ -239,10 +239,10 @@ pub(crate) struct Carried {
     keys: [u64; MOST_ITEMS],
 }
 
-// Forgets the keys of the items that are stirred.
+// Forgets the keys of the items that are stirred; the others stay.
 fn forget_keys(n: usize, stirred: &[bool; MOST_ITEMS], keys: &mut [u64; MOST_ITEMS])
     requires { n ≤ most_items }
-    ensures { (x : ℕ) → x < n → ForgottenAt keys.old keys.new stirred.now x }
+    ensures { Forgotten n keys.old keys.new stirred.now }
 {
     for x in 0..n {
         if stirred[x] {
@@ -270,6 +270,16 @@ impl Carried {
         let changed = name_round(old, new, &mut self.tags, &mut self.names);
         stir(graph, classed, &changed, order, &mut self.stirred);
         forget_keys(graph.n, &self.stirred, &mut self.keys);
+    }
+}
+
+// Copies a list element by element: the archive for C then asks for no `memmove`.
+fn copy(from: &[u64], to: &mut [u64])
+    requires { length to.old ≡ length from.now }
+    ensures { to.new ≡ from.now }
+{
+    for (i, element) in from.iter().enumerate() {
+        to[i] = *element;
     }
 }
 
@@ -308,7 +318,7 @@ fn refine(graph: Graph, first: &mut [u64], second: &mut [u64]) -> Counted
             };
         }
         carried.follow_round(graph, classed, &order, second, first);
-        second.copy_from_slice(first);
+        copy(first, second);
         count = more;
         made += 1;
     }

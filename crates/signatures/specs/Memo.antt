@@ -39,7 +39,7 @@ pub record Holds (memo : List ℕ) (c : ℕ) (raw : List ℕ) : Type 0 where
 abbrev pub written : List ℕ → ℕ → List ℕ → ℕ → List ℕ
 written memo c raw id = paste (set (set memo (11 * c) (length raw + 1)) (11 * c + 1) id) (11 * c + 2) raw (length raw)
 
--- What the code answers: the step has an id, or is refused, and the memo stays right.
+-- The step has an id, or is refused, and the memo stays right. (Of the code this is said by `Told`, and by `Ready` of Pass.)
 pub record Notes (meaning : List ℕ → List ℕ) (raw index numbers index' numbers' memo' : List ℕ) (answer : Result ℕ NoRoom) : Type 0 where
   pub interns : Interns (meaning raw) index numbers index' numbers' answer
   pub noted : Noted meaning (entries_of index' numbers') memo'

@@ -1,5 +1,7 @@
 -- Sets of numbers as strictly rising lists.
 use Rattle.std.specs.Prelude.{ℕ, ◌+◌, ◌-◌, ◌≤◌, ◌<◌, ◌≡◌, cond, eqb, ltb, length, get_or, take}
+use Rattle.std.specs.Prelude.{Result, Ok, Err}
+use Rattle.std.specs.List.{insert}
 use mathlib.Core.List.{List, [], ◌∷◌, Memᴰ}
 
 -- A number put into a rising list, once.
@@ -15,6 +17,12 @@ set_of (v ∷ l) = put_in v (set_of l)
 abbrev pub Rising : List ℕ → Type 0
 Rising [] = 0 < 1
 Rising (x ∷ l) = ((u : ℕ) → Memᴰ u l → x < u) × Rising l
+
+-- What a search for a number in a rising list says: it is there; or the place where it is to be put, so that the list is then the set with
+-- it.
+abbrev pub PutAt : (v : ℕ) → (l : List ℕ) → Result ℕ ℕ → Type 0
+PutAt v l (Ok i) = l ≡ put_in v l
+PutAt v l (Err i) = (i ≤ length l) × (insert l i v ≡ put_in v l)
 
 -- ---- A set in the first numbers of a slice
 

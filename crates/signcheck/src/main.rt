@@ -39,7 +39,7 @@ fn run_case<R: Read>(rt: &impl Print, source: &mut Source<R>, regions: usize) ->
 }
 
 fn main(rt: HostRuntime) -> io::Result<()> {
-    let mut source = Source::new(rt.reader());
+    let mut source = Source::new(rt.stdin());
     for _ in 0..CASES {
         let Some(regions) = source.next()? else {
             return Ok(());

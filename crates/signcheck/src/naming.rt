@@ -25,6 +25,7 @@ pub(crate) struct Graph<'a> {
 // Lists the regions that no region represents yet.
 fn list_waiting(lowest: &[Option<u16>]) -> ArrayVec<u16, MOST_REGIONS>
     requires { length lowest.now ≤ MOST_REGIONS }
+    ensures { length result.items ≤ length lowest.now }
 {
     let mut waiting = ArrayVec::new();
     for (region, owner) in lowest.iter().enumerate() {

@@ -4,8 +4,8 @@
 --   Model      the model that a table describes
 --   Records    a record as bytes, and the record at a place of a table
 --   Codes      the bytes of kinds and of comparisons
---   Reasons    the reasons of refusals, and their numbers
---   Refusals   refusals 2 to 13: the rows of each record, in document 01's order
+--   Reasons    the numbers of the reasons of refusals, passed on from Refusals
+--   Refusals   the numbers of the reasons; refusals 2 to 13: the rows of each record, in document 01's order
 --   Reading    reading a table record by record, with refusal 1, and its answer
 --   Written    the table that a model is written as, and what the code keeps of it
 --   Answer     the answer as the code gives it

@@ -1,7 +1,7 @@
 // Text that is put together byte after byte, at the front of a slice, as far as there is room.
 #![tactic(auto, using(crate::specs::Laws::Writer::writing))]
 
-ghost use Rattle.std.specs.Prelude.{◌≡◌, ◌≤◌, [], ◌∷◌, ◌++◌, length, take};
+ghost use Rattle.std.specs.Prelude.{◌≡◌, [], ◌∷◌, ◌++◌, take};
 ghost use Rattle.text.specs.Text.{decimal, field};
 
 const BLANK: u8 = b' ';
@@ -11,7 +11,6 @@ const BLANK: u8 = b' ';
 pub struct Writer<'a> {
     pub text: &'a mut [u8],
     pub at: usize,
-    ghost within: { at ≤ length text.now },
 }
 
 impl<'a> Writer<'a> {
@@ -30,7 +29,7 @@ impl<'a> Writer<'a> {
     pub fn written(&self) -> &[u8]
         ensures { result.now ≡ take self.now.at self.now.text.now }
     {
-        &self.text[..self.at]
+        &self.text[..self.at.min(self.text.len())]
     }
 
     // Puts a byte, if there is room.

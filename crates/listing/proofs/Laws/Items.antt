@@ -1,7 +1,11 @@
--- A text that was put together, the record of an entry, and what is said of an item that is seen: laws that stand for a reader of the
--- definitions; the code needs none of them.
-use Rattle.std.specs.Prelude.{ℕ, ◌+◌, ◌*◌, ◌≤◌, ◌<◌, ◌≡◌, true, get_or, take, Option, Some, Result, Ok}
-use Rattle.std.proofs.Common.{arith, ◌∙◌, sym, ap, subst}
+-- A text that was put together, and one that is copied; whether counts can be those of what is lent; the record of an entry; and what is
+-- said of an item that is seen: laws that stand for a reader of the definitions; the code needs none of them.
+use Rattle.std.specs.Prelude.{ℕ, suc, ◌+◌, ◌*◌, ◌≤◌, ◌<◌, ◌≡◌, refl, true, false, leb, ltb, get_or, set, take, drop}
+use Rattle.std.specs.Prelude.{Option, Some, Result, Ok}
+use Rattle.std.proofs.Common.{arith, add-one, ◌∙◌, sym, ap, subst, length-take-le, take-suc, drop-cons, le-leb, le-ltb, lt-ltb}
+use Rattle.std.proofs.Math.Seq.{length_front, append_snoc}
+use Rattle.std.proofs.lemmas.List.{set_at}
+use Rattle.std.proofs.lemmas.Bool.{lt-leb}
 use mathlib.Core.List.{List, [], ◌++◌}
 use Rattle.std.proofs.Math.ListN.{length}
 use Rattle.partition.specs.Passed.{Model, Region, Finite, accepted, read_table, entry_bytes, max_entries, listed}
@@ -15,7 +19,7 @@ use Rattle.text.specs.Laws.Writing.{adds-all}
 use Rattle.listing.specs.Printed.{RegionRecord, record_of, region_line, region_record, block_line, delay_line_of, other_blocks, lowest_of}
 use Rattle.listing.specs.Printed.{size_below, block_record, block_lines}
 use Rattle.listing.specs.Slices.{step_text_at}
-use Rattle.listing.specs.Parts.{fitted, buffer_after, most_bytes, Gives}
+use Rattle.listing.specs.Parts.{is_borne, fitted, buffer_after, most_bytes, Gives}
 use Rattle.listing.specs.Laws.Lengths.{region-fits}
 use Rattle.listing.specs.Laws.Parts as L
 use Rattle.listing.specs.Laws.Parts.{block-text, reached-front, reached-few, few-rows, gives_same, lowest-text}
@@ -37,6 +41,55 @@ gives-text a room most buffer answer buffer' e f =
       buffer-is = f ∙ ap (λ (l : List ℕ). buffer_after l buffer) is;
       enough = most;
     }
+
+-- The first i bytes of a text at the front of a buffer.
+
+pub copied-length : (text buffer : List ℕ) (i : ℕ) → i ≤ length text → i ≤ length buffer
+    → length (take i text ++ drop i buffer) ≡ length buffer
+copied-length text buffer i p q =
+    length_front buffer (take i text) i (length-take-le i text p ∙ sym (length-take-le i buffer q))
+
+pub copied_on : (text buffer : List ℕ) (i : ℕ) → i < length text → i < length buffer
+    → set (take i text ++ drop i buffer) i (get_or text i 0) ≡ take (i + 1) text ++ drop (i + 1) buffer
+copied_on text buffer i p q =
+    ap (λ (l : List ℕ). set (take i text ++ l) i (get_or text i 0)) (drop-cons buffer i 0 q)
+    ∙ set_at (take i text) (get_or buffer i 0) (drop (suc i) buffer) (get_or text i 0) i (length-take-le i text (omega (arith, p)))
+    ∙ sym (append_snoc (take i text) (get_or text i 0) (drop (suc i) buffer))
+    ∙ ap (λ (l : List ℕ). l ++ drop (suc i) buffer) (sym (take-suc text i 0 p))
+    ∙ ap (λ (k : ℕ). take k text ++ drop k buffer) (sym (add-one i))
+
+-- ---- Whether counts can be those of what is lent, test by test
+
+module _ (regions blocks entries list : ℕ) where
+  pub borne-many : max_entries < regions → false ≡ is_borne regions blocks entries list
+  borne-many h = rw (lt-leb regions max_entries h) refl
+
+  module _ (a : regions ≤ max_entries) where
+    pub borne-entries : entries < entry_bytes * regions → false ≡ is_borne regions blocks entries list
+    borne-entries h = rw (le-leb regions max_entries a, lt-leb (entry_bytes * regions) entries h) refl
+
+    module _ (b : entry_bytes * regions ≤ entries) where
+      pub borne-list : list < regions → false ≡ is_borne regions blocks entries list
+      borne-list h = rw (le-leb regions max_entries a, le-leb (entry_bytes * regions) entries b, lt-leb regions list h) refl
+
+      module _ (c : regions ≤ list) where
+        pub borne-none : blocks ≤ 0 → false ≡ is_borne regions blocks entries list
+        borne-none h =
+            rw (
+              le-leb regions max_entries a,
+              le-leb (entry_bytes * regions) entries b,
+              le-leb regions list c,
+              le-ltb 0 blocks h,
+            ) refl
+
+        pub borne-rest : 0 < blocks → leb blocks regions ≡ is_borne regions blocks entries list
+        borne-rest h =
+            rw (
+              le-leb regions max_entries a,
+              le-leb (entry_bytes * regions) entries b,
+              le-leb regions list c,
+              lt-ltb 0 blocks h,
+            ) refl
 
 -- ---- The line of a region, of an entry. The label is any, since the line does not print it.
 

@@ -1,11 +1,12 @@
 -- What follows from the definitions of the rounds for one more item of a list, for links as plain numbers, for a search, for two tags that
--- are swapped, and for what is stored in the index of first items: laws that stand for a reader of the definitions; the code needs none of
--- them.
-use Rattle.std.specs.Prelude.{ℕ, zero, suc, ◌+◌, ◌-◌, ◌≤◌, ◌<◌, ◌≡◌, refl, Bool, true, false, cond, List, ◌⊎◌, Option, None, Some}
-use Rattle.std.specs.Prelude.{eqb, length, get_or, set, replicate}
+-- are swapped, for keys that are forgotten, and for what is stored in the index of first items: laws that stand for a reader of the
+-- definitions; the code needs few of them.
+use Rattle.std.specs.Prelude.{ℕ, zero, suc, ◌+◌, ◌-◌, ◌≤◌, ◌<◌, ◌≡◌, refl, Bool, true, false, cond, List, [], ◌∷◌, ◌⊎◌, Option, None, Some}
+use Rattle.std.specs.Prelude.{eqb, length, get_or, set, replicate, map}
 use Rattle.std.specs.List.{swap}
 use Rattle.std.proofs.Common.{arith, add-one, sym, ◌∙◌, ap, subst, inl, inr, ext_get_or, length-set}
 use Rattle.std.proofs.Common.{get_or-set_same, get_or-set_other, eq-eqb, ne_eqb}
+use Rattle.std.proofs.lemmas.List.{length-replicate}
 use Rattle.std.proofs.lemmas.List.Edits.{swap_is}
 use Rattle.std.proofs.Math.Decide.{dec_lt}
 use Rattle.std.proofs.Math.Seq.{set_out}
@@ -13,15 +14,16 @@ use Rattle.bisimulation.specs.Finite.{related, lead, leaders}
 use Rattle.bisimulation.specs.Below.{EquivalenceBelow, Reps}
 use Rattle.bisimulation.proofs.Laws.Tests.{same?}
 use Rattle.comparison.specs.Held.{most_items}
+use Rattle.comparison.specs.Keys as K
 use Rattle.comparison.specs.Laws.Steps.{below_one}
 use Rattle.comparison.specs.declared.held.Graph.{Graph}
 use Rattle.rounds.specs.Changes.{Stirred}
 use Rattle.rounds.specs.Names.{Changed, TaggedIn}
-use Rattle.rounds.specs.Rounds.{Numbered, Led, FirstWith, Seen, label_room, Step, LedByKin, Chains, Last}
+use Rattle.rounds.specs.Rounds.{Numbered, Led, FirstWith, Seen, label_room, Step, LedByKin, Chains, Last, Forgotten}
 use Rattle.rounds.specs.Firsts.{bucket_at, Indexed}
 use Rattle.rounds.specs.Laws.Rounds as R
 use Rattle.rounds.specs.Laws.Rounds.{Counts}
-use Rattle.rounds.specs.Laws.Firsts.{indexed-on}
+use Rattle.rounds.specs.Laws.Firsts as F
 use Rattle.rounds.specs.Laws.Names as N
 use Rattle.rounds.specs.declared.links.Buckets.{Buckets}
 
@@ -236,6 +238,27 @@ tagged-swap n these tags x y hx hy sx sy long tagged =
 abbrev pub Followed : Graph → (names names' : List ℕ) → (stirred : List Bool) → Type 0
 Followed g names names' stirred = (changed : List Bool) × (Changed g.n names names' changed × Stirred g changed stirred)
 
+-- ---- Keys that are forgotten
+
+-- Which items are stirred, as numbers: 1 where one is, and else 0.
+abbrev pub numbered : List Bool → List ℕ
+numbered stirred = map (λ b. cond b 1 0) stirred
+
+numbered-at : (stirred : List Bool) (x : ℕ) → get_or (numbered stirred) x 0 ≡ cond (get_or stirred x false) 1 0
+numbered-at [] x = refl
+numbered-at (b ∷ stirred) zero = refl
+numbered-at (b ∷ stirred) (suc x) = numbered-at stirred x
+
+-- What is forgotten by flags is forgotten by these numbers, as comparison's `forget_keys` says it.
+pub forgotten-numbered : (n : ℕ) (keys keys' : List ℕ) (stirred : List Bool) → Forgotten n keys keys' stirred
+    → K.Forgotten n keys keys' (numbered stirred)
+forgotten-numbered n keys keys' stirred (done, rest) =
+    (λ x h. rw (numbered-at stirred x) (done x h ∙ at (get_or stirred x false) (get_or keys x 0)), rest)
+  where
+    at : (b : Bool) (key : ℕ) → cond b 0 key ≡ cond (eqb (cond b 1 0) 0) key 0
+    at true key = refl
+    at false key = refl
+
 -- ---- The index of first items
 
 -- The index, in lists that have room for all items.
@@ -244,16 +267,41 @@ pub record IndexedIn (list : List ℕ) (stored : Buckets) (x : ℕ) : Type 0 whe
   pub room : length stored.links ≡ most_items
   pub index : Indexed list stored x
 
+-- Lists of zeros are the index of no item.
+pub indexed-none : (list : List ℕ) → IndexedIn list (record { heads = replicate most_items 0; links = replicate most_items 0 }) 0
+indexed-none list =
+    record {
+      buckets = length-replicate {A = ℕ} most_items 0;
+      room = length-replicate {A = ℕ} most_items 0;
+      index = F.indexed-none list (record { heads = replicate most_items 0; links = replicate most_items 0 }) (zeros-at most_items);
+    }
+
+module _ (list heads links : List ℕ) (x : ℕ) (index : IndexedIn list (record { heads = heads; links = links }) x) where
+  abbrev stored : Buckets
+  stored = record { heads = heads; links = links }
+
+  -- An item that does not lead is in no bucket.
+  pub indexed-past : ¬ (lead (related list) x ≡ x) → IndexedIn list (record { heads = heads; links = links }) (x + 1)
+  indexed-past other =
+      record { buckets = index.buckets; room = index.room; index = F.indexed-past list stored x index.index other }
+
+  -- One that leads is the new head of its bucket, and links to the old one.
+  pub indexed-on : x < most_items → lead (related list) x ≡ x
+      → IndexedIn list (record {
+        heads = set heads (bucket_at list x) (x + 1);
+        links = set links x (get_or heads (bucket_at list x) 0);
+      }) (x + 1)
+  indexed-on few leads =
+      record {
+        buckets = length-set heads (bucket_at list x) (x + 1) ∙ index.buckets;
+        room = length-set links x (get_or heads (bucket_at list x) 0) ∙ index.room;
+        index = F.indexed-on list stored x index.index (omega (arith, index.buckets)) (omega (arith, few, index.room)) leads;
+      }
+
 -- What is stored for an item that leads.
 pub indexed-put : (list : List ℕ) (stored : Buckets) (x : ℕ) → IndexedIn list stored x → (bucket head : ℕ) (heads' links' : List ℕ)
     → x < most_items → lead (related list) x ≡ x → bucket ≡ bucket_at list x → head ≡ get_or stored.heads bucket 0
     → links' ≡ set stored.links x head → heads' ≡ set stored.heads bucket (x + 1)
     → IndexedIn list (record { heads = heads'; links = links' }) (x + 1)
 indexed-put list stored x indexed bucket head heads' links' few leads own was links-are heads-are =
-    record {
-      buckets = ap length heads-are ∙ length-set stored.heads bucket (x + 1) ∙ indexed.buckets;
-      room = ap length links-are ∙ length-set stored.links x head ∙ indexed.room;
-      index =
-          rw (heads-are, links-are, was, own)
-          (indexed-on list stored x indexed.index (omega (arith, indexed.buckets)) (omega (arith, few, indexed.room)) leads);
-    }
+    rw (heads-are, links-are, was, own) (indexed-on list stored.heads stored.links x indexed few leads)

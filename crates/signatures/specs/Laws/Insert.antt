@@ -9,14 +9,14 @@ use mathlib.Core.List.{List, [], ◌∷◌, ◌++◌, Memᴰ}
 use Rattle.std.proofs.Math.ListN.{length, get_or, drop, length-set, length-drop, get_or-append}
 use Rattle.std.proofs.Math.Seq.{get_or-set_same, get_or-set_other, get_or-take, get_or-drop, length-take-le, ext_get_or, get_or-append-add}
 use Rattle.std.proofs.Math.Seq.{get_or-append_seam}
-use Rattle.std.specs.Prelude.{Ok, Err, ltb, eqb}
+use Rattle.std.specs.Prelude.{Result, Ok, Err, ltb, eqb}
 use Rattle.std.specs.Ordering.{nat_cmp}
 use Rattle.std.specs.List.{insert}
 use Rattle.std.specs.List.Sorted.{IsBinarySearchResult}
 use Rattle.std.proofs.lemmas.List.Sorted.{searched}
 use Rattle.signatures.specs.Laws.Sets.{both}
 use Rattle.signatures.specs.Laws.Order.{cases}
-use Rattle.signatures.specs.Sets.{put_in, Rising, Place, Shifted, Inserted}
+use Rattle.signatures.specs.Sets.{put_in, PutAt, Rising, Place, Shifted, Inserted}
 
 -- ---- Places and members
 
@@ -83,22 +83,42 @@ module _ (v : ℕ) (l : List ℕ) (r : Rising l) (i : ℕ) where
       let at = searched l v (Ok i) s (rising-upto l r) in
       sym (put-again v l r (subst (λ (u : ℕ). Memᴰ u l) at.1 (at_mem l i at.0)))
 
-  -- The number is new.
-  pub searched_new : IsBinarySearchResult (λ y. nat_cmp y v) l (Err i) → insert l i v ≡ put_in v l
-  searched_new s =
-      let at = searched l v (Err i) s (rising-upto l r) in
-      let size : length (take i l) ≡ i = length-take-le i l at.0 in
+  -- The number is new: what is before the place is below it, and what is from there on above it.
+  put-at : i ≤ length l → ((k : ℕ) → k < i → get_or l k 0 < v) → ((k : ℕ) → i ≤ k → k < length l → v < get_or l k 0)
+      → insert l i v ≡ put_in v l
+  put-at within below above =
+      let size : length (take i l) ≡ i = length-take-le i l within in
       sym (ap (put_in v) (sym (take-append-drop i l)) ∙ put-middle v (take i l) (drop i l)
       (λ u m. let k = mem-at u (take i l) m in
       let less : k.0 < i = omega (arith, k.1, size) in
-      omega (arith, k.2, get_or-take i l k.0 0 less, at.1 k.0 less))
+      omega (arith, k.2, get_or-take i l k.0 0 less, below k.0 less))
       (λ u m. let k = mem-at u (drop i l) m in
       omega (
         arith,
         k.2,
         get_or-drop i l k.0 0,
-        at.2 (i + k.0) (omega arith) (omega (arith, k.1, length-drop i l)),
+        above (i + k.0) (omega arith) (omega (arith, k.1, length-drop i l)),
       )))
+
+  pub searched_new : IsBinarySearchResult (λ y. nat_cmp y v) l (Err i) → insert l i v ≡ put_in v l
+  searched_new s =
+      let at = searched l v (Err i) s (rising-upto l r) in
+      put-at at.0 at.1 at.2
+
+  -- The list has no number, or the last one is below it.
+  pub past_last : i ≡ length l → (0 < i → get_or l (i - 1) 0 < v) → insert l i v ≡ put_in v l
+  past_last e below =
+      put-at (omega (arith, e))
+      (λ k h. omega (arith, below (omega (arith, h)), rising-upto l r k (i - 1) (omega (arith, h)) (omega (arith, h, e))))
+      (λ k h m. absurd (omega (arith, h, m, e)))
+
+  -- The last number of the list is it.
+  pub at_last : 0 < length l → i ≡ length l - 1 → get_or l i 0 ≡ v → l ≡ put_in v l
+  at_last some e is = sym (put-again v l r (subst (λ (u : ℕ). Memᴰ u l) is (at_mem l i (omega (arith, some, e)))))
+
+pub searched_put : (v : ℕ) (l : List ℕ) → Rising l → (a : Result ℕ ℕ) → IsBinarySearchResult (λ y. nat_cmp y v) l a → PutAt v l a
+searched_put v l r (Ok i) s = searched-there v l r i s
+searched_put v l r (Err i) s = ((searched l v (Err i) s (rising-upto l r)).0, searched_new v l r i s)
 
 -- ---- A set in the first numbers of a slice
 

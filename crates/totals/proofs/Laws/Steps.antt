@@ -1,7 +1,7 @@
--- The line of one label more, and all lines, as texts that are put one after the other: laws that stand for a reader of the definitions;
--- the code needs none of them.
-use Rattle.std.specs.Prelude.{ℕ, suc, ◌+◌, ◌≤◌, ◌<◌, ◌≡◌, refl, Bool, true, false, cond, ◌||◌, eqb, length, get_or}
-use Rattle.std.proofs.Common.{add-one, arith, sym, ◌∙◌, ap, ap₂}
+-- All labels are counted; the line of one label more, and all lines, as texts that are put one after the other: laws that stand for a
+-- reader of the definitions; the code needs none of them.
+use Rattle.std.specs.Prelude.{ℕ, suc, ◌+◌, ◌≤◌, ◌<◌, ◌≡◌, refl, Bool, true, false, cond, ◌||◌, eqb, length, get_or, take}
+use Rattle.std.proofs.Common.{add-one, arith, sym, ◌∙◌, ap, ap₂, subst, take_all}
 use mathlib.Core.List.{List, [], ◌∷◌, ◌++◌, map}
 use Rattle.text.specs.Text.{rising, each}
 use Rattle.text.specs.Writing.{Adds}
@@ -10,6 +10,10 @@ use Rattle.text.specs.Laws.Writing.{adds_then, adds_same}
 use Rattle.totals.specs.Totals.{count, has_label, TotalRecord, total_of, label_line, all_line, total_lines}
 use Rattle.totals.specs.Counts.{LabelCounts, totals_below}
 use Rattle.totals.specs.Laws.Counts.{below_all, bytes_small}
+
+-- All labels are counted.
+pub counts_all : (labels counts : List ℕ) (i : ℕ) → length labels ≤ i → LabelCounts (take i labels) counts → LabelCounts labels counts
+counts_all labels counts i h c = subst (λ (l : List ℕ). LabelCounts l counts) (take_all i labels h) c
 
 count-some : (l : List ℕ) (label : ℕ) → 0 < count (λ x. eqb x label) l → has_label l label ≡ true
 count-some [] label h = absurd (omega (arith, h))

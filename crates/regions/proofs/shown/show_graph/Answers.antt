@@ -20,6 +20,7 @@ returns-in_err-shape c =
     (refusal-of args.bytes.now _ (sym c.in_err-shape.was ∙ c.read.ensures)) in
     record {
       same_slices = (refl, refl, refl, refl, refl, refl);
+      lengths = (refl, refl, refl, refl, refl, refl);
       value = same ∙ sym (ap graph_of out);
       entries_after = sym (ap (entries_after args.entries.now) out);
       shown = λ m found read is room.
@@ -39,6 +40,7 @@ returns c =
     let done = show-read.ensures.value m of in
     record {
       same_slices = show-read.ensures.same_slices;
+      lengths = show-read.ensures.lengths;
       value = done.0 ∙ sym (ap graph_of out);
       entries_after = done.1 ∙ sym (ap (entries_after args.entries.now) out);
       shown = λ k found read is room.

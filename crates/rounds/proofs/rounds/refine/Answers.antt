@@ -54,7 +54,7 @@ loop-count-preserved c =
           (prepared-settled held closed step prepared) in
           let compared = prepared-compared held closed step prepared more.new.keys keyed in
           let led' = prepared-led held closed step prepared led in
-          let same : c.copy_from_slice.new.self ≡ more.new.new = c.copy_from_slice.ensures.after in
+          let same : c.copy.new.to ≡ more.new.new = c.copy.ensures in
           rw same (
             turned_on F closed loop.second loop.count loop.made turned n held.size more.new.new more.result led' c.if-more-count.false,
             c.follow_round.ensures F held closed (λ t. c.is_classed-classed.ensures t held.opened) step compared led'.reps,

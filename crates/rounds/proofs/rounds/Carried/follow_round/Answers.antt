@@ -11,4 +11,4 @@ returns c =
     λ F held closed classed step prepared reps.
     let kept = leaders-kept (next F args.old.now) n args.old.now args.new.now step reps in
     prepared-on held closed step prepared reps (c.name_round-changed.ensures.named n c.requires.0 kept prepared.named.tagged)
-    (c.name_round-changed.ensures.changed n c.requires.0) (c.stir.ensures held.opened classed) c.forget_keys.ensures
+    (c.name_round-changed.ensures.changed n c.requires.0) (c.stir.ensures held.opened classed) c.forget_keys.ensures.0

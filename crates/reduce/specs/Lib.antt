@@ -1,0 +1,2 @@
+-- What the program's contracts say of printing.
+pub mod Printing
