@@ -16,7 +16,7 @@ use crate::index::{Links, Listing};
 use crate::marks::{MARKS, Marks, mark_place};
 use crate::prepared::Prepared;
 use clocks::{Bounds, Region};
-use table::Branch;
+use table::{Branch, Branches};
 
 // The entries have no room for a region.
 #[derive(Clone, Copy, Debug, PartialEq, Eq)]
@@ -76,8 +76,9 @@ fn meet_branches(
     ensures all_met { (m : Model) (e : ℕ) → OfEdge model.now place m e
         → AllMet (gather (λ b. landing model.now.bounds r b ∷ []) (edge_of m e).branches) found.old found.new result }
 {
-    for i in 0..table::branch_count(model.bytes, place) {
-        let b = table::branch_at(model.bytes, place, i);
+    let branches = Branches::new(model.bytes, place);
+    for i in 0..branches.count() {
+        let b = branches.at(i);
         meet_target(model.bounds, r, b, found, visited)?;
     }
     Ok(())

@@ -10,7 +10,7 @@ ghost use Rattle.regions.specs.Marks.{mark_place, Tested};
 use crate::guards::{landing_of, meets_guards};
 use crate::prepared::Prepared;
 use clocks::Region;
-use table::Branch;
+use table::{Branch, Branches};
 
 // How many marks there are, and how many to a target: a mask that names no clock but the four has a place, any other is past all marks.
 pub(crate) const MARKS: usize = 1024;
@@ -73,9 +73,9 @@ impl<'a> Marks<'a> {
             → OfEdge self.old.model.now place m e
             → result ≡ lands (bounds_of m) m.invariants (edge_of m e) self.old.region }
     {
-        let bytes = self.model.bytes;
-        for i in 0..table::branch_count(bytes, place) {
-            if !self.meets_target(table::branch_at(bytes, place, i)) {
+        let branches = Branches::new(self.model.bytes, place);
+        for i in 0..branches.count() {
+            if !self.meets_target(branches.at(i)) {
                 return false;
             }
         }

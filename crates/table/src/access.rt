@@ -8,9 +8,10 @@ ghost use Rattle.table.specs.Access.{walk_to, passed, item_from, no_body, label_
 ghost use Rattle.table.specs.Access.{guard_at, guard_count, branch_at, branch_count, no_invariant, no_guard, no_branch};
 ghost use Rattle.table.specs.Model.{Model, reset_in};
 ghost use Rattle.table.specs.Reads.{Reads, ReadsEdge, edge_of};
+ghost use Rattle.table.specs.Written.{Bytes};
 
 use crate::bodies::{Body, body_at, is_kind};
-use crate::codes::{Kind, body_length};
+use crate::codes::{BRANCH_BYTES, Kind, body_length};
 use crate::format::{MAX_BRANCHES, MAX_GUARDS};
 use crate::model::{Branch, Guard, Invariant, Shape};
 
@@ -137,6 +138,57 @@ pub fn branch_count(table: &[u8], place: usize) -> usize
         MAX_BRANCHES,
     )
     .passed
+}
+
+// Finds once where the branches of the edge at a place begin and how many there are, and reads each where it stands.
+#[derive(Clone, Copy)]
+pub struct Branches<'a> {
+    table: &'a [u8],
+    place: usize,
+    first: usize,
+    count: usize,
+    ghost first_is: { first ≡ branches_from table.now place },
+    ghost count_is: { count ≡ branch_count table.now place },
+    ghost of_bytes: { Bytes table.now },
+}
+
+impl<'a> Branches<'a> {
+    // Returns the branches of the edge at a place.
+    #[tactic(auto, unfolding(crate::specs::Access::branch_count))]
+    pub fn new(table: &'a [u8], place: usize) -> Branches<'a>
+        ensures { (result.table.now ≡ table.now) × (result.place ≡ place) }
+    {
+        let first = branches_from(table, place);
+        Branches {
+            table,
+            place,
+            first,
+            count: walk(table, first, Kind::Branch, MAX_BRANCHES).passed,
+        }
+    }
+
+    // Returns how many branches there are.
+    #[tactic(auto, using(crate::proofs::Laws::Reads::items))]
+    pub fn count(self) -> usize
+        ensures value { result ≡ branch_count self.entry.table.now self.entry.place }
+        ensures value_2 { (m : Model) (e : ℕ) → ReadsEdge self.entry.table.now self.entry.place m e
+            → result ≡ length (edge_of m e).branches }
+    {
+        self.count
+    }
+
+    // Returns branch i. (One that was not counted is walked to, so that every i gives what `branch_at` gives.)
+    #[tactic(auto, using(crate::proofs::Laws::Reads::items))]
+    pub fn at(self, i: usize) -> Branch
+        ensures value { result ≡ branch_at self.entry.table.now self.entry.place i }
+        ensures value_2 { (m : Model) (e : ℕ) → ReadsEdge self.entry.table.now self.entry.place m e
+            → result ≡ get_or (edge_of m e).branches i no_branch }
+    {
+        if i < self.count {
+            return body_at(self.table, self.first + BRANCH_BYTES * i).branch();
+        }
+        branch_at(self.table, self.place, i)
+    }
 }
 
 // Tells whether a mask resets a clock.

@@ -31,6 +31,9 @@ pub enum Comparison {
 // Gives the length of a record's body, by its kind. There is no kind 0.
 const BODY_LENGTHS: [usize; 8] = [0, 3, 1, 4, 4, 3, 4, 0];
 
+// Gives the length of a branch's record: its kind and its body.
+pub(crate) const BRANCH_BYTES: usize = 1 + BODY_LENGTHS[Kind::Branch as usize];
+
 impl Kind {
     // Returns the byte that stands for the kind.
     pub(crate) fn code(self) -> u8

@@ -11,7 +11,9 @@ mod reading;
 mod records;
 mod refusals;
 
-pub use access::{branch_at, branch_count, guard_at, guard_count, invariant_at, label_at, resets};
+pub use access::{
+    Branches, branch_at, branch_count, guard_at, guard_count, invariant_at, label_at, resets,
+};
 pub use codes::Comparison;
 pub use edges::{edge_of, list_edges, list_places};
 pub use model::{Branch, Edge, Guard, Invariant, Shape};

@@ -1,7 +1,8 @@
 -- Laws for the loop that walks over records of one kind, and for reading the record that it comes to.
-use Rattle.std.specs.Prelude.{ℕ, zero, suc, ◌+◌, ◌-◌, ◌≤◌, ◌<◌, ◌≡◌, refl, Bool, true, false, cond, List, [], ◌∷◌, eqb, length}
+use Rattle.std.specs.Prelude.{ℕ, zero, suc, ◌+◌, ◌*◌, ◌-◌, ◌≤◌, ◌<◌, ◌≡◌, refl, Bool, true, false, cond, List, [], ◌∷◌, eqb, length}
 use Rattle.std.proofs.Common.{arith, zero-add, sym, ◌∙◌, ap, eq-eqb, ne_eqb}
-use Rattle.std.proofs.Math.Nat.{sub-zero}
+use Rattle.std.proofs.Math.Nat.{sub-zero, mul-zero, mul-suc}
+use Rattle.std.proofs.lemmas.Bool.{eqb-true}
 use Rattle.table.specs.Format.{body_length}
 use Rattle.table.specs.Records.{kind_at, body_at}
 use Rattle.table.specs.Access.{walk_to, passed, item_from, no_body, no_invariant, no_guard, no_branch}
@@ -74,6 +75,33 @@ walking_on table first kind most at n w less here =
             ap (λ b. cond b (suc (passed kind k table (at + 1 + body_length kind))) 0) test,
           );
     }
+
+-- Item i of those that a walk passes stands i records after the first.
+abbrev pub StandsAt : List ℕ → ℕ → ℕ → ℕ → Type 0
+StandsAt table first kind i =
+    (walk_to kind i table first ≡ first + (1 + body_length kind) * i) × (kind_at table (first + (1 + body_length kind) * i) ≡ kind)
+
+pub passed-at : (table : List ℕ) (first kind most i : ℕ) → i < passed kind most table first → StandsAt table first kind i
+unfolding walk_to passed
+passed-at table first kind zero i h = absurd (omega arith)
+passed-at table first kind (suc most) i h =
+    of (eqb (kind_at table first) kind) refl i h (passed-at table (first + 1 + body_length kind) kind most)
+  where
+    of : (b : Bool) → eqb (kind_at table first) kind ≡ b → (i : ℕ)
+        → i < cond b (suc (passed kind most table (first + 1 + body_length kind))) 0
+        → ((j : ℕ) → j < passed kind most table (first + 1 + body_length kind) → StandsAt table (first + 1 + body_length kind) kind j)
+        → StandsAt table first kind i
+    of false test i h later = absurd (omega arith)
+    of true test zero h later =
+        let here : first + (1 + body_length kind) * 0 ≡ first = omega (arith, mul-zero (1 + body_length kind)) in
+        (sym here, ap (kind_at table) here ∙ eqb-true (kind_at table first) kind test)
+    of true test (suc i) h later =
+        let next = later i (omega arith) in
+        let on : first + 1 + body_length kind + (1 + body_length kind) * i ≡ first + (1 + body_length kind) * suc i =
+        omega (arith, mul-suc (1 + body_length kind) i) in (
+          ap (λ b. cond b (walk_to kind i table (first + 1 + body_length kind)) first) test ∙ next.0 ∙ on,
+          ap (kind_at table) (sym on) ∙ next.1,
+        )
 
 -- A part of the record that is read is that part of what is read of it.
 pub item-part : {A : Type 0} (f : Body → A) (table : List ℕ) (first kind i : ℕ)
