@@ -50,9 +50,9 @@
  * proved. bench/stack.c runs each call on a painted stack, on tables up to the longest and with up to 4,096 regions, and prints how deep
  * it went:
  *
- *   terkwabu_graph, terkwabu_place                     29,584 bytes
+ *   terkwabu_graph, terkwabu_place                     28,512 bytes
  *   terkwabu_reduce, terkwabu_pair, terkwabu_judge     1,498,072 bytes
- *   terkwabu_part                                      101,536 bytes
+ *   terkwabu_part                                      101,520 bytes
  *   terkwabu_refusal_line, terkwabu_version            312 bytes
  *
  * Where a process uses memcpy, memset or a call of the shared library for the first time, the loader takes about 3 KB more. The constants

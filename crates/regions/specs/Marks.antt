@@ -1,7 +1,7 @@
 -- Marks on where the branches of one region lead, while its edges are gone through. Branches that have mask and target in common lead
 -- from a region to the same region, so what was found of one holds of the others: a mark for each such pair keeps it.
-use Rattle.std.specs.Prelude.{Option, Some, None, ℕ, ◌+◌, ◌*◌, ◌≤◌, ◌<◌, ◌≡◌, refl, Bool, true, false, cond}
-use Rattle.std.specs.Prelude.{List, [], ◌∷◌, eqb, ltb, length, get_or, set, replicate}
+use Rattle.std.specs.Prelude.{Option, Some, None, ℕ, zero, suc, ◌+◌, ◌*◌, ◌≤◌, ◌<◌, ◌≡◌, refl, Bool, true, false, cond}
+use Rattle.std.specs.Prelude.{List, [], ◌∷◌, eqb, ltb, length, get_or, set, replicate, map}
 use Rattle.std.proofs.Common.{arith, sym, ◌∙◌, ap, subst, length-set, get_or-set_same, get_or-set_other, eqb-true, ltb-true, ltb-false}
 use Rattle.std.proofs.lemmas.List.{length-replicate}
 use Rattle.std.proofs.Math.ListN.{get_or-eq_default}
@@ -11,6 +11,8 @@ use Rattle.table.specs.declared.model.Branch.{Branch}
 use Rattle.regions.specs.Lists.{same-at}
 use Rattle.regions.specs.Graph.{bounds_of, meets, landing}
 use Rattle.regions.specs.Of.{Of}
+use Rattle.regions.specs.declared.marks.Mark.{Mark}
+use Rattle.regions.specs.declared.marks.Mark.TheVariants.{Untested, Met, Broken}
 use Rattle.regions.specs.declared.prepared.Prepared.{Prepared}
 use Rattle.regions.specs.Worklist.{Found, complete, known, meet}
 use Rattle.regions.specs.Explore.{same_region, same_refl, listed, no_next}
@@ -22,6 +24,12 @@ use Rattle.clocks.specs.declared.region.Region.{Region}
 -- past all marks.)
 abbrev pub mark_place : Branch → ℕ
 mark_place b = cond (ltb 15 b.mask) 4096 (16 * b.target + b.mask)
+
+-- What a mark on a test says: whether it was met, and nothing before the test.
+abbrev pub answer_of : Mark → Option Bool
+answer_of Untested = None
+answer_of Met = Some true
+answer_of Broken = Some false
 
 -- A branch has mark v only where a fact holds of the region that it leads to. Past the marks there is none.
 abbrev pub Marked : {A : Type 0} → (none : A) → Bounds → Region → List A → A → (Region → Type 0) → Type 0
@@ -89,6 +97,11 @@ module _ {A : Type 0} (none : A) (bounds : Bounds) (r : Region) (v : A) (some : 
           (sym (get_or-set_other marks (mark_place b) (mark_place d) w none (eqb-false (mark_place d) (mark_place b) s)) ∙ e)
 
 -- ---- Invariants
+
+-- Marks before any test say nothing.
+pub nothing-said : (n : ℕ) → map answer_of (replicate n Untested) ≡ replicate n None
+nothing-said zero = refl
+nothing-said (suc n) = ap (λ l. None ∷ l) (nothing-said n)
 
 module _ (p : Prepared) (r : Region) where
   untested : (v : Bool) → ◌≡◌ {A = Option Bool} None (Some v) → ⊥

@@ -1,11 +1,11 @@
 // Marks on where the branches of one region lead: one for each mask and target. Branches that have both in common lead to the same
 // region, and what was found of one is not worked out again.
-ghost use Rattle.std.specs.Prelude.{ℕ, ◌≡◌};
+ghost use Rattle.std.specs.Prelude.{ℕ, ◌≡◌, Some, map};
 ghost use Rattle.table.specs.Model.{Model};
 ghost use Rattle.table.specs.Reads.{edge_of};
 ghost use Rattle.regions.specs.Of.{Of, OfEdge};
 ghost use Rattle.regions.specs.Graph.{meets, landing, lands, available, bounds_of};
-ghost use Rattle.regions.specs.Marks.{mark_place, Tested};
+ghost use Rattle.regions.specs.Marks.{mark_place, answer_of, Tested};
 
 use crate::guards::{landing_of, meets_guards};
 use crate::prepared::Prepared;
@@ -19,13 +19,22 @@ const MASKS: usize = 16;
 
 const PAST_MARKS: usize = 4096;
 
+// Says of where a branch leads whether it meets its invariant, if that was tested. (An Option would take two bytes, and all marks are
+// cleared for each region.)
+#[derive(Clone, Copy)]
+enum Mark {
+    Untested,
+    Met,
+    Broken,
+}
+
 // A region whose edges are gone through, and whether where a branch leads meets its invariant, as far as that was tested.
 #[derive(Drop)]
 pub(crate) struct Marks<'a> {
     pub model: &'a Prepared<'a>,
     pub region: Region,
-    tested: [Option<bool>; 1024],
-    ghost told: { Tested model.now region tested },
+    tested: [Mark; 1024],
+    ghost told: { Tested model.now region (map answer_of tested) },
 }
 
 // Returns where the mark of a branch stands.
@@ -38,6 +47,26 @@ pub(crate) fn mark_place(b: Branch) -> usize
     MASKS * usize::from(b.target) + usize::from(b.mask)
 }
 
+impl Mark {
+    // Returns the mark of what was found.
+    fn of(meets: bool) -> Mark
+        ensures { answer_of result ≡ Some meets }
+    {
+        if meets { Mark::Met } else { Mark::Broken }
+    }
+
+    // Returns what was found, if it was tested.
+    fn answer(self) -> Option<bool>
+        ensures { result ≡ answer_of self }
+    {
+        match self {
+            Mark::Untested => None,
+            Mark::Met => Some(true),
+            Mark::Broken => Some(false),
+        }
+    }
+}
+
 impl<'a> Marks<'a> {
     // Returns the marks of a region of which nothing was tested.
     pub(crate) fn new(model: &'a Prepared<'a>, region: Region) -> Marks<'a>
@@ -46,7 +75,7 @@ impl<'a> Marks<'a> {
         Marks {
             model,
             region,
-            tested: [None; MARKS],
+            tested: [Mark::Untested; MARKS],
         }
     }
 
@@ -57,12 +86,12 @@ impl<'a> Marks<'a> {
             → result ≡ meets (bounds_of m) m.invariants (landing (bounds_of m) self.old.region b) }
     {
         let at = mark_place(b);
-        if let Some(meets) = slices::at(&self.tested, at, None) {
+        if let Some(meets) = slices::at(&self.tested, at, Mark::Untested).answer() {
             return meets;
         }
         let q = landing_of(self.model.bounds, self.region, b);
         let meets = self.model.meets_invariant(q);
-        slices::put(&mut self.tested, at, Some(meets));
+        slices::put(&mut self.tested, at, Mark::of(meets));
         meets
     }
 

@@ -155,6 +155,7 @@ pub struct Branches<'a> {
 impl<'a> Branches<'a> {
     // Returns the branches of the edge at a place.
     #[tactic(auto, unfolding(crate::specs::Access::branch_count))]
+    #[inline(always)]
     pub fn new(table: &'a [u8], place: usize) -> Branches<'a>
         ensures { (result.table.now ≡ table.now) × (result.place ≡ place) }
     {
