@@ -81,7 +81,7 @@ impl Landing<'_> {
             0 => 0,
             weight => mix_of(
                 (v % 4096) as usize,
-                share_of(weight, self.graph.whole(self.e)),
+                share_of(weight, self.graph.whole_at(self.e)),
             ),
         }
     }
@@ -106,7 +106,7 @@ impl Landing<'_> {
         ensures { let l = self.now in result ≡ landed l.graph l.list.now l.x l.e }
     {
         let mut total = 0;
-        for i in 0..self.graph.count(self.e) {
+        for i in 0..self.graph.count_at(self.e) {
             total += self.branch_code(i);
         }
         total
@@ -116,7 +116,7 @@ impl Landing<'_> {
     fn code(&self) -> u64
         ensures { let l = self.now in (result ≡ code_of l.graph l.list.now l.x l.e) × (result < 1099511627689) }
     {
-        joined_of(self.graph.action(self.e), self.landed())
+        joined_of(self.graph.action_at(self.e), self.landed())
     }
 }
 

@@ -49,7 +49,7 @@ impl Graph<'_> {
         requires { (x < most_items) × (e < most_edges) × (y < most_items) × (f < most_edges) }
         ensures { result ≡ edges_alike self.entry list.now x e y f }
     {
-        if self.action(e) != self.action(f) {
+        if self.action_at(e) != self.action_at(f) {
             return false;
         }
         let one = Landing::new(self, list, x, e);

@@ -133,7 +133,7 @@ impl<'a> Graph<'a> {
         usize::from(at(self.flags, 128 * x + e, 0)) == e + 1
     }
 
-    pub(crate) fn action(self, e: usize) -> usize
+    pub(crate) fn action_at(self, e: usize) -> usize
         requires { e < most_edges }
         ensures { (result ≡ action self.entry e) × (result < 65536) }
     {
@@ -141,7 +141,7 @@ impl<'a> Graph<'a> {
     }
 
     // The denominator of the shares of edge e.
-    pub(crate) fn whole(self, e: usize) -> usize
+    pub(crate) fn whole_at(self, e: usize) -> usize
         requires { e < most_edges }
         ensures { (result ≡ whole self.entry e) × (result < 65536) }
     {
@@ -149,18 +149,56 @@ impl<'a> Graph<'a> {
     }
 
     // How many branches edge e has.
-    pub(crate) fn count(self, e: usize) -> usize
+    pub(crate) fn count_at(self, e: usize) -> usize
         requires { e < most_edges }
         ensures { (result ≡ count self.entry e) × (result < 65536) }
     {
         usize::from(at(self.rows, 32 * e + 2, 0))
     }
 
-    pub(crate) fn weight(self, e: usize, i: usize) -> usize
+    pub(crate) fn weight_at(self, e: usize, i: usize) -> usize
         requires { (e < most_edges) × (i < 65536) }
         ensures { (result ≡ weight self.entry e i) × (result < 65536) }
     {
         usize::from(at(self.rows, 32 * e + 3 + 3 * i, 0))
+    }
+
+    // Tells the action of edge e, for all numbers: 0 past the edges that there may be.
+    pub fn action(self, e: usize) -> usize
+        ensures value { e < most_edges → (result ≡ action self.entry e) × (result < 65536) }
+        ensures past { most_edges ≤ e → result ≡ 0 }
+    {
+        if e < 128 { self.action_at(e) } else { 0 }
+    }
+
+    // Tells the denominator of the shares of edge e, for all numbers.
+    pub fn whole(self, e: usize) -> usize
+        ensures value { e < most_edges → (result ≡ whole self.entry e) × (result < 65536) }
+        ensures past { most_edges ≤ e → result ≡ 0 }
+    {
+        if e < 128 { self.whole_at(e) } else { 0 }
+    }
+
+    // Tells how many branches edge e has, for all numbers.
+    pub fn count(self, e: usize) -> usize
+        ensures value { e < most_edges → (result ≡ count self.entry e) × (result < 65536) }
+        ensures past { most_edges ≤ e → result ≡ 0 }
+    {
+        if e < 128 { self.count_at(e) } else { 0 }
+    }
+
+    // Tells the weight of branch i of edge e, for all numbers: 0 past the edges and branches that there may be. Past the branches that the
+    // edge has, it is the number that stands there.
+    pub fn weight(self, e: usize, i: usize) -> usize
+        ensures value { e < most_edges → i < 65536 → (result ≡ weight self.entry e i) × (result < 65536) }
+        ensures past_edges { most_edges ≤ e → result ≡ 0 }
+        ensures past_branches { 65536 ≤ i → result ≡ 0 }
+    {
+        if e < 128 && i < 65536 {
+            self.weight_at(e, i)
+        } else {
+            0
+        }
     }
 }
 

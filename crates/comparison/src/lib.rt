@@ -10,6 +10,8 @@ mod keys;
 mod next;
 mod numbers;
 mod shares;
+#[cfg(test)]
+mod tests;
 mod twins;
 
 pub use held::Graph;

@@ -27,7 +27,7 @@ impl<'a> Landing<'a> {
         ensures { (result.graph ≡ graph.entry) × (result.list ≡ list.entry) × (result.x ≡ x) × (result.e ≡ e) }
     {
         let mut numbers = [0; 8];
-        for i in 0..graph.count(e).min(8) {
+        for i in 0..graph.count_at(e).min(8) {
             numbers[i] = at(list, graph.target_at(x, e, i), 0);
         }
         Landing {
@@ -58,9 +58,9 @@ impl<'a> Landing<'a> {
             → result ≡ weighed l.graph l.list.now c l.x l.e }
     {
         let mut total = 0;
-        for i in 0..self.graph.count(self.e) {
+        for i in 0..self.graph.count_at(self.e) {
             if self.number(i) == v {
-                total += self.graph.weight(self.e, i) as u64;
+                total += self.graph.weight_at(self.e, i) as u64;
             }
         }
         total
@@ -72,8 +72,8 @@ impl<'a> Landing<'a> {
             → result ≡ balanced_by self.now.graph self.now.list.now self.now.x self.now.e
             other.now.graph other.now.list.now other.now.x other.now.e c }
     {
-        self.weigh(v) * other.graph.whole(other.e) as u64
-            == other.weigh(v) * self.graph.whole(self.e) as u64
+        self.weigh(v) * other.graph.whole_at(other.e) as u64
+            == other.weigh(v) * self.graph.whole_at(self.e) as u64
     }
 
     // Does it do so at each target of this edge?
@@ -83,7 +83,7 @@ impl<'a> Landing<'a> {
             (λ i. balanced_by self.now.graph self.now.list.now self.now.x self.now.e
             other.now.graph other.now.list.now other.now.x other.now.e (target_at self.now.graph self.now.x self.now.e i)) }
     {
-        (0..self.graph.count(self.e)).all(|i| self.is_balanced(other, self.number(i)))
+        (0..self.graph.count_at(self.e)).all(|i| self.is_balanced(other, self.number(i)))
     }
 
     // Does a branch lead to the block with number v?
@@ -91,7 +91,7 @@ impl<'a> Landing<'a> {
         ensures { result ≡ some_below (count self.now.graph self.now.e)
             (λ i. eqb (number_of self.now.graph self.now.list.now self.now.x self.now.e i) v) }
     {
-        (0..self.graph.count(self.e)).any(|i| self.number(i) == v)
+        (0..self.graph.count_at(self.e)).any(|i| self.number(i) == v)
     }
 
     // Where both land the same share at each target of this edge, do they at each target of the other? Shares are weighed only at blocks
@@ -105,7 +105,7 @@ impl<'a> Landing<'a> {
             (λ i. balanced_by self.now.graph self.now.list.now self.now.x self.now.e
             other.now.graph other.now.list.now other.now.x other.now.e (target_at other.now.graph other.now.x other.now.e i)) }
     {
-        (0..other.graph.count(other.e)).all(|i| {
+        (0..other.graph.count_at(other.e)).all(|i| {
             let v = other.number(i);
             self.is_into(v) || self.is_balanced(other, v)
         })

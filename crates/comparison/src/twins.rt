@@ -61,13 +61,13 @@ impl Graph<'_> {
         if e == f {
             return true;
         }
-        if self.action(e) != self.action(f)
-            || self.whole(e) != self.whole(f)
-            || self.count(e) != self.count(f)
+        if self.action_at(e) != self.action_at(f)
+            || self.whole_at(e) != self.whole_at(f)
+            || self.count_at(e) != self.count_at(f)
         {
             return false;
         }
-        (0..self.count(e)).all(|i| self.weight(e, i) == self.weight(f, i))
+        (0..self.count_at(e)).all(|i| self.weight_at(e, i) == self.weight_at(f, i))
     }
 
     // Has edge e the action, denominator and weights of edge f, and lead their branches at x and at y, one by one, to related items?
@@ -76,7 +76,7 @@ impl Graph<'_> {
         ensures { IsTrue result → BothAlike self.entry list.now x e y f }
     {
         self.has_same_row(e, f)
-            && (0..self.count(e)).all(|i| is_related(
+            && (0..self.count_at(e)).all(|i| is_related(
                 self.target_at(x, e, i),
                 self.target_at(y, f, i),
                 list,

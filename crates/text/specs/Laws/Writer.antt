@@ -1,10 +1,10 @@
 -- Bytes that a writer puts one after the other, and what its text holds in the end.
 use Rattle.std.specs.Prelude.{ℕ, ◌+◌, ◌<◌, ◌≤◌, get_or, ◌≡◌, refl, List, [], ◌∷◌, ◌++◌, length, take}
-use Rattle.std.proofs.Common.{sym, ◌∙◌, subst, append_assoc}
+use Rattle.std.proofs.Common.{arith, sym, ◌∙◌, subst, append_assoc}
 use Rattle.std.proofs.lemmas.List.{take_more}
 use Rattle.text.specs.declared.writing.Writer.{Writer}
 use Rattle.text.specs.Writing.{Adds, Added, Puts}
-use Rattle.text.specs.Laws.Writing.{adds_none, adds_then, adds-all}
+use Rattle.text.specs.Laws.Writing.{adds_none, adds_then, adds-all, adds-is}
 
 -- Some bytes are put, and then others.
 pub added_then : (a b c : Writer) (one two : List ℕ) → Added a b one → Added b c two → Added a c (one ++ two)
@@ -35,6 +35,11 @@ puts_none a = record { same_reference = refl; added = added_none a }
 -- The same bytes, otherwise said.
 pub puts_same : {a b : Writer} {one two : List ℕ} → one ≡ two → Puts a b one → Puts a b two
 puts_same {a} {b} e p = subst (Puts a b) e p
+
+-- What is put keeps a writer's place within its text, where it was so, as `new` makes it.
+pub puts_within : {a b : Writer} {bytes : List ℕ} → Puts a b bytes → a.at ≤ length a.text.now → b.at ≤ length b.text.now
+unfolding Added
+puts_within p within = omega (arith, (adds-is p.added within).0, p.added.as_long)
 
 -- What was put from the front of a text on, where there is room for it.
 pub puts-all : {a b : Writer} {bytes : List ℕ} → Puts a b bytes → a.at ≡ 0 → length bytes ≤ length a.text.now

@@ -27,12 +27,12 @@ module _ {g one other : Graph} {list ones others : Bor (List ℕ)} {x e y f x' e
       (λ j. balanced_by (first.0 i) (first.1 i).now (first.2 i) (first.3 i) (second.0 i) (second.1 i).now (second.2 i) (second.3 i)
       (target_at (second.0 i) (second.2 i) (second.3 i) j))
 
-pub returns-then-action : goal.returns-then-action
-returns-then-action c =
+pub returns-then-action_at : goal.returns-then-action_at
+returns-then-action_at c =
     let args = c.args in
     let g = args.self in
     sym (alike-action args.list.now g.resets.now g.spots.now g.rows.now args.x args.e args.y args.f
-    (λ h. c.if-action.true (c.action.ensures.0 ∙ h ∙ sym c.action-2.ensures.0)))
+    (λ h. c.if-action_at.true (c.action_at.ensures.0 ∙ h ∙ sym c.action_at-2.ensures.0)))
 
 pub returns-then-is_balanced_there : goal.returns-then-is_balanced_there
 returns-then-is_balanced_there c =
@@ -44,7 +44,7 @@ returns-then-is_balanced_there c =
     c.is_balanced_back.ensures told
     ∙ back one other
     ∙ sym (alike-on args.list.now g.resets.now g.spots.now g.rows.now args.x args.e args.y args.f
-    (sym c.action.ensures.0 ∙ c.if-action.false ∙ c.action-2.ensures.0) (sym (there one other) ∙ told))
+    (sym c.action_at.ensures.0 ∙ c.if-action_at.false ∙ c.action_at-2.ensures.0) (sym (there one other) ∙ told))
 
 pub returns-else-is_balanced_there : goal.returns-else-is_balanced_there
 returns-else-is_balanced_there c =
@@ -53,4 +53,4 @@ returns-else-is_balanced_there c =
     let told = sym c.is_balanced_there.ensures ∙ c.if-is_balanced_there.false in
     c.if-is_balanced_there.false
     ∙ sym (alike-fails args.list.now g.resets.now g.spots.now g.rows.now args.x args.e args.y args.f
-    (sym c.action.ensures.0 ∙ c.if-action.false ∙ c.action-2.ensures.0) (sym (there c.new-one.ensures c.new-other.ensures) ∙ told))
+    (sym c.action_at.ensures.0 ∙ c.if-action_at.false ∙ c.action_at-2.ensures.0) (sym (there c.new-one.ensures c.new-other.ensures) ∙ told))

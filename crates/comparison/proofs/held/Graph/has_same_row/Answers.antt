@@ -17,5 +17,5 @@ returns c =
       action = omega arith;
       whole = omega arith;
       count = omega arith;
-      weight = λ i h. eqb-true (weight g e i) (weight g f i) ((all-below (count g e) test).0 (sym (told ∙ ap (λ (n : ℕ). all_below n test) c.count-2.ensures.0) ∙ t) i h);
+      weight = λ i h. eqb-true (weight g e i) (weight g f i) ((all-below (count g e) test).0 (sym (told ∙ ap (λ (n : ℕ). all_below n test) c.count_at-2.ensures.0) ∙ t) i h);
     }

@@ -15,4 +15,4 @@ returns-then-has_same_row c =
     let told = all-range test _ _ _ _ (λ x b q h k. search rules) c.all.ensures.ran in
     λ t. both-alike args.list.now g.resets.now g.spots.now g.rows.now args.x args.e args.y args.f
     (c.has_same_row.ensures c.if-has_same_row.true)
-    ((all-below (count g args.e) test).0 (sym (told ∙ ap (λ (n : ℕ). all_below n test) c.count.ensures.0) ∙ t))
+    ((all-below (count g args.e) test).0 (sym (told ∙ ap (λ (n : ℕ). all_below n test) c.count_at.ensures.0) ∙ t))

@@ -19,4 +19,4 @@ returns-in_default-clause-value c =
     rw (ne_eqb (weighed s.graph s.list.now b s.x s.e) 0 (λ z. omega (arith, c.weigh.ensures.value b h)))
     (c.mix_of.ensures.0
     ∙ ap₂ (λ (m t : ℕ). mixed m t) (ap (λ (u : ℕ). u % most_items) h)
-    (c.share_of.ensures.0 ∙ ap₂ (λ (w t : ℕ). share_of w t) (c.weigh.ensures.value b h) c.whole.ensures.0))
+    (c.share_of.ensures.0 ∙ ap₂ (λ (w t : ℕ). share_of w t) (c.weigh.ensures.value b h) c.whole_at.ensures.0))

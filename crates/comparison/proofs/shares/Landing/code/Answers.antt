@@ -7,4 +7,4 @@ pub returns : goal.returns
 unfolding code_of
 returns c =
     let joined-of = c.joined_of.ensures in
-    (joined-of.0 ∙ ap₂ (λ (a m : ℕ). joined a m) c.action.ensures.0 c.landed.ensures, joined-of.1)
+    (joined-of.0 ∙ ap₂ (λ (a m : ℕ). joined a m) c.action_at.ensures.0 c.landed.ensures, joined-of.1)

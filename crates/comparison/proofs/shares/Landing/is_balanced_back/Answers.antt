@@ -15,4 +15,4 @@ returns c =
     let test = λ (i : ℕ). balanced_by s.graph s.list.now s.x s.e o.graph o.list.now o.x o.e (target_at o.graph o.x o.e i) in
     λ there.
     let into = λ (d : ℕ). balanced-into s.graph o.graph s.list.now o.list.now same s.x s.e o.x o.e d there in
-    all-range test _ _ _ _ (λ x b q h k. let m = k.met in search (rules, into)) c.all.ensures.ran ∙ ap (λ (n : ℕ). all_below n test) c.count.ensures.0
+    all-range test _ _ _ _ (λ x b q h k. let m = k.met in search (rules, into)) c.all.ensures.ran ∙ ap (λ (n : ℕ). all_below n test) c.count_at.ensures.0

@@ -12,4 +12,4 @@ returns c =
     let o = c.args.other.now in
     let same = c.requires in
     let test = λ (i : ℕ). balanced_by s.graph s.list.now s.x s.e o.graph o.list.now o.x o.e (target_at s.graph s.x s.e i) in
-    all-range test _ _ _ _ (λ x b q h k. search rules) c.all.ensures.ran ∙ ap (λ (n : ℕ). all_below n test) c.count.ensures.0
+    all-range test _ _ _ _ (λ x b q h k. search rules) c.all.ensures.ran ∙ ap (λ (n : ℕ). all_below n test) c.count_at.ensures.0

@@ -9,4 +9,4 @@ pub returns : goal.returns
 returns c =
     let s = c.args.self.now in
     let test = λ (i : ℕ). eqb (number_of s.graph s.list.now s.x s.e i) c.args.v in
-    any-range test _ _ _ _ (λ x b q h k. search rules) c.any.ensures.ran ∙ ap (λ (n : ℕ). some_below n test) c.count.ensures.0
+    any-range test _ _ _ _ (λ x b q h k. search rules) c.any.ensures.ran ∙ ap (λ (n : ℕ). some_below n test) c.count_at.ensures.0
